@@ -1,0 +1,15 @@
+pub mod Names
+pub mod Values
+pub mod Kernels
+pub mod Store
+pub mod Configurations
+pub mod Statements
+pub mod Spaces
+pub mod Schedule
+pub mod Texts
+pub mod Runs
+pub mod Search
+pub mod Tokens
+pub mod Grammar
+pub mod Translation
+pub mod Replies

@@ -1,0 +1,52 @@
+-- The opening configuration of a program, and runs of the machine below a space with a bound on their cost.
+use Rattle.std.specs.Prelude.{ℕ, zero, suc, ◌-◌, nat_le, if◌then◌else◌, List, [], ◌∷◌, None}
+use Rattle.oz_semantics.specs.Names.{named}
+use Rattle.oz_semantics.specs.Configurations.{spawning, new_layer, frames_of}
+use Rattle.oz_semantics.specs.Spaces.{goes_on}
+use Rattle.oz_semantics.specs.Schedule.{Turned, turn, settled}
+use Rattle.oz_semantics.specs.declared.kernel.Statement.{Statement}
+use Rattle.oz_semantics.specs.declared.kernel.Kernel.{Kernel}
+use Rattle.oz_semantics.specs.declared.configuration.Binding.{Binding}
+use Rattle.oz_semantics.specs.declared.configuration.Configuration.{Configuration}
+use Rattle.oz_semantics.specs.declared.outcome.Raise.{Raise}
+use Rattle.oz_semantics.specs.declared.outcome.Stepped.TheVariants.{Moved, Quiescent, TopEnded}
+
+-- Word 0, `Script`, stands for variable 0 of the top.
+abbrev pub opening_environment : List Binding
+opening_environment = record { name = 0; variable = named [] 0 } ∷ []
+
+abbrev pub left_by : Turned → Configuration
+left_by t = t.1
+
+-- the top alone, with one thread that has the program's statements
+abbrev pub opening : Kernel → Configuration
+opening k =
+    left_by (settled k.statements None 0 (record {
+      layers = spawning (frames_of opening_environment k.body) (new_layer []) ∷ [];
+      queue = [];
+    }))
+
+-- how a run ends: with what is left of the fuel, by an exception of the top, or before a turn that would pass the fuel
+pub data Ran : Type 0 where
+  Ended : Configuration → ℕ → Ran
+  TopRaised : Configuration → ℕ → Raise → Ran
+  Over : Configuration → Ran
+
+abbrev pub paying : ℕ → ℕ → (ℕ → Ran) → Configuration → Ran
+paying cost fuel next c = if nat_le cost fuel then next (fuel - cost) else Over c
+
+-- c is the configuration before the turn
+abbrev pub after_turn : (Configuration → ℕ → Ran) → ℕ → Configuration → Turned → Ran
+after_turn more fuel c (Moved cost, d) = paying cost fuel (more d) c
+after_turn more fuel c (TopEnded raise cost, d) = paying cost fuel (λ left. TopRaised d left raise) c
+after_turn more fuel c (Quiescent, d) = Ended c fuel
+
+-- at most so many turns; each costs 1 at least, so one more than the fuel never stops a run
+unfoldable pub run_for : List Statement → List ℕ → ℕ → Configuration → ℕ → Ran
+run_for statements space zero c fuel = Over c
+run_for statements space (suc n) c fuel =
+    if goes_on statements c.layers space then after_turn (run_for statements space n) fuel c (turn statements c) else Ended c fuel
+
+-- turns while something below the space can step and the sum of costs stays at most the fuel
+abbrev pub run : List Statement → List ℕ → Configuration → ℕ → Ran
+run statements space c fuel = run_for statements space (suc fuel) c fuel

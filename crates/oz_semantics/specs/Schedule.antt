@@ -1,0 +1,135 @@
+-- One turn of the machine (the computation step of CTM 2.4 and 4.1 under a fixed schedule): the head of the queue makes one
+-- step, and five parts follow. Of these the second goes through the triggers of by-need computations, of which there are none.
+use Rattle.std.specs.Prelude.{ℕ, Bool, true, false, not, ◌&&◌, if◌then◌else◌, List, [], ◌∷◌, ◌++◌, Option, Some, None, map, filter}
+use Rattle.std.specs.List.{list_any, flat_map, fold}
+use Rattle.oz_base.specs.declared.names.Ident.{Ident}
+use Rattle.oz_semantics.specs.Names.{ident_eq, is_top, named}
+use Rattle.oz_semantics.specs.Store.{is_consistent}
+use Rattle.oz_semantics.specs.Configurations.{layer_at, thread_at, is_open, view, in_layer, with_frames, without_gone, ending}
+use Rattle.oz_semantics.specs.Statements.{steps, Effect, Becomes, Raises, Place, code_effect}
+use Rattle.oz_semantics.specs.Spaces.{thread_ready}
+use Rattle.oz_semantics.specs.declared.kernel.Statement.{Statement}
+use Rattle.oz_semantics.specs.declared.configuration.Frame.{Frame}
+use Rattle.oz_semantics.specs.declared.configuration.Thread.{Thread}
+use Rattle.oz_semantics.specs.declared.configuration.Status.{Status}
+use Rattle.oz_semantics.specs.declared.configuration.Status.TheVariants as status
+use Rattle.oz_semantics.specs.declared.configuration.Layer.{Layer}
+use Rattle.oz_semantics.specs.declared.configuration.Configuration.{Configuration}
+use Rattle.oz_semantics.specs.declared.outcome.Raise.{Raise}
+use Rattle.oz_semantics.specs.declared.outcome.Raise.TheVariants.{FailureTell, FailureFail, FailureTop, Apply, Arity}
+use Rattle.oz_semantics.specs.declared.outcome.Stepped.{Stepped}
+use Rattle.oz_semantics.specs.declared.outcome.Stepped.TheVariants.{Moved, Quiescent, TopEnded}
+
+-- what a turn was, and what it left
+abbrev pub Turned : Type 0
+Turned = Stepped × Configuration
+
+-- First part: every space whose view is inconsistent fails
+
+abbrev pub may_fail : Status → Bool
+may_fail status.Open = true
+may_fail status.Failed = false
+may_fail (status.Raised r) = true
+
+abbrev pub is_broken : List Layer → Layer → Bool
+is_broken layers l = may_fail l.status && not (is_consistent (view layers l.space))
+
+abbrev pub broken_spaces : List Layer → List (List ℕ)
+broken_spaces layers = map (λ (l : Layer). l.space) (filter (is_broken layers) layers)
+
+abbrev pub failing : List Layer → List ℕ → List Layer
+failing layers space = ending space status.Failed layers
+
+abbrev pub without_broken : List Layer → List Layer
+without_broken layers = fold failing layers (broken_spaces layers)
+
+abbrev pub top_is_broken : List Layer → Bool
+top_is_broken layers = list_any (λ (l : Layer). is_top l.space && is_broken layers l) layers
+
+-- Third, fourth and fifth part: the queue
+
+-- the threads of a layer that can step, by number
+abbrev pub able_in : List Statement → List Layer → Layer → List Ident
+able_in statements layers l =
+    if is_open l.status
+    then map (λ (t : Thread). named l.space t.number) (filter (λ t. steps (thread_ready statements (view layers l.space) t)) l.threads)
+    else []
+
+-- all threads that can step, by name
+abbrev pub able : List Statement → List Layer → List Ident
+able statements layers = flat_map (able_in statements layers) layers
+
+abbrev pub is_among : List Ident → Ident → Bool
+is_among ids id = list_any (ident_eq id) ids
+
+abbrev pub mover_in : Option Ident → List Ident → List Ident
+mover_in None ids = []
+mover_in (Some mover) ids = if is_among ids mover then mover ∷ [] else []
+
+-- those that cannot step leave the queue, the thread that stepped joins the end, and then all others that can step
+abbrev pub queue_after : List Ident → Option Ident → List Ident → List Ident
+queue_after ids mover queue =
+    let stay = filter (is_among ids) queue ++ mover_in mover ids in
+    stay ++ filter (λ id. not (is_among stay id)) ids
+
+-- The five parts
+
+abbrev pub requeued : List Statement → Option Ident → List Ident → List Layer → Configuration
+requeued statements mover queue layers = record { layers = layers; queue = queue_after (able statements layers) mover queue }
+
+-- what follows a step of this thread, if one stepped
+abbrev pub settled : List Statement → Option Ident → ℕ → Configuration → Turned
+settled statements mover cost c =
+    if top_is_broken c.layers then (TopEnded FailureTop cost, c)
+    else (Moved cost, requeued statements mover c.queue (without_broken c.layers))
+
+-- A step of a thread
+
+-- an exception that is a failure fails a space, and any other ends it as raised
+abbrev pub status_by : Raise → Status
+status_by FailureTell = status.Failed
+status_by FailureFail = status.Failed
+status_by FailureTop = status.Failed
+status_by Apply = status.Raised Apply
+status_by Arity = status.Raised Arity
+
+-- an exception ends the run of the top, or the child space
+abbrev pub raised : List Statement → Ident → Raise → Configuration → Turned
+raised statements id raise c =
+    if is_top id.space then (TopEnded raise 1, record c { layers = in_layer id.space (λ l. without_gone (with_frames id.number (λ frames. []) l)) c.layers })
+    else settled statements (Some id) 1 (record c { layers = ending id.space (status_by raise) c.layers })
+
+abbrev pub after_effect : List Statement → Ident → Configuration → Effect → Turned
+after_effect statements id c (Becomes l) = settled statements (Some id) 1 (record c { layers = in_layer id.space (λ m. without_gone l) c.layers })
+after_effect statements id c (Raises raise) = raised statements id raise c
+
+-- where a thread of the layer steps, with its statement taken off the stack
+abbrev pub place_of : List Layer → Ident → Layer → List Frame → Place
+place_of layers id l rest = record { view = view layers id.space; layer = with_frames id.number (λ frames. rest) l; thread = id.number }
+
+abbrev pub stepped_frame : List Statement → Ident → Layer → Frame → List Frame → Configuration → Turned
+stepped_frame statements id l frame rest c = after_effect statements id c (code_effect statements (place_of c.layers id l rest) frame frame.code)
+
+abbrev pub stepped_thread : List Statement → Ident → Layer → List Frame → Configuration → Turned
+stepped_thread statements id l [] c = settled statements (Some id) 1 c
+stepped_thread statements id l (frame ∷ rest) c = stepped_frame statements id l frame rest c
+
+abbrev pub frames_in : Option Thread → List Frame
+frames_in None = []
+frames_in (Some t) = t.frames
+
+abbrev pub stepped_layer : List Statement → Ident → Option Layer → Configuration → Turned
+stepped_layer statements id None c = settled statements (Some id) 1 c
+stepped_layer statements id (Some l) c = stepped_thread statements id l (frames_in (thread_at l.threads id.number)) c
+
+abbrev pub stepped : List Statement → Ident → Configuration → Turned
+stepped statements id c = stepped_layer statements id (layer_at c.layers id.space) c
+
+-- A turn
+
+abbrev pub turn_of : List Statement → List Layer → List Ident → Turned
+turn_of statements layers [] = (Quiescent, record { layers = layers; queue = [] })
+turn_of statements layers (id ∷ queue) = stepped statements id (record { layers = layers; queue = queue })
+
+abbrev pub turn : List Statement → Configuration → Turned
+turn statements c = turn_of statements c.layers c.queue

@@ -1,0 +1,186 @@
+//! Configurations of the abstract machine (CTM 2.4, 12.5): a layer for each computation space, and the queue.
+use crate::Raise;
+use oz_base::{Copies, Ident, Sequence, Stack};
+use std::alloc::{AllocError, Global};
+
+/// What stands on a thread's stack: a statement of the kernel, or one that the machine itself put there.
+#[derive(Drop)]
+pub enum Code {
+    /// The statement with this number.
+    Statement(u32),
+    /// `{P X}` of two variables.
+    Apply { procedure: Ident, argument: Ident },
+}
+
+impl Copies for Code {
+    fn copied(&self, alloc: Global) -> Result<Self, AllocError> {
+        match self {
+            Code::Statement(number) => Ok(Code::Statement(*number)),
+            Code::Apply {
+                procedure,
+                argument,
+            } => Ok(Code::Apply {
+                procedure: procedure.copied(alloc)?,
+                argument: argument.copied(alloc)?,
+            }),
+        }
+    }
+}
+
+/// An identifier, by its number among the kernel's words, and the variable that it stands for.
+#[derive(Drop)]
+pub struct Binding {
+    pub name: u32,
+    pub variable: Ident,
+}
+
+impl Copies for Binding {
+    fn copied(&self, alloc: Global) -> Result<Self, AllocError> {
+        Ok(Binding {
+            name: self.name,
+            variable: self.variable.copied(alloc)?,
+        })
+    }
+}
+
+/// A statement with its environment, the innermost binding first.
+#[derive(Drop)]
+pub struct Frame {
+    pub code: Code,
+    pub environment: Stack<Binding>,
+}
+
+impl Copies for Frame {
+    fn copied(&self, alloc: Global) -> Result<Self, AllocError> {
+        Ok(Frame {
+            code: self.code.copied(alloc)?,
+            environment: self.environment.copied(alloc)?,
+        })
+    }
+}
+
+/// A procedure value: a name of its own, its parameters and body, and the environment in which it was made.
+#[derive(Drop)]
+pub struct Procedure {
+    pub name: Ident,
+    pub parameters: Sequence<u32>,
+    pub body: Sequence<u32>,
+    pub environment: Stack<Binding>,
+}
+
+impl Copies for Procedure {
+    fn copied(&self, alloc: Global) -> Result<Self, AllocError> {
+        Ok(Procedure {
+            name: self.name.copied(alloc)?,
+            parameters: self.parameters.copied(alloc)?,
+            body: self.body.copied(alloc)?,
+            environment: self.environment.copied(alloc)?,
+        })
+    }
+}
+
+/// A value of the language.
+#[derive(Drop)]
+pub enum Value {
+    /// An atom, by its number among the kernel's words.
+    Atom(u32),
+    Procedure(Procedure),
+}
+
+impl Copies for Value {
+    fn copied(&self, alloc: Global) -> Result<Self, AllocError> {
+        match self {
+            Value::Atom(atom) => Ok(Value::Atom(*atom)),
+            Value::Procedure(procedure) => Ok(Value::Procedure(procedure.copied(alloc)?)),
+        }
+    }
+}
+
+/// What a space was told.
+#[derive(Drop)]
+pub enum Tell {
+    /// `x=v`
+    Is { variable: Ident, value: Value },
+}
+
+impl Copies for Tell {
+    fn copied(&self, alloc: Global) -> Result<Self, AllocError> {
+        match self {
+            Tell::Is { variable, value } => Ok(Tell::Is {
+                variable: variable.copied(alloc)?,
+                value: value.copied(alloc)?,
+            }),
+        }
+    }
+}
+
+/// A thread: a stack of statements. One without any is gone, and leaves its layer.
+#[derive(Drop)]
+pub struct Thread {
+    pub number: u32,
+    pub frames: Stack<Frame>,
+}
+
+impl Copies for Thread {
+    fn copied(&self, alloc: Global) -> Result<Self, AllocError> {
+        Ok(Thread {
+            number: self.number,
+            frames: self.frames.copied(alloc)?,
+        })
+    }
+}
+
+/// Whether a space goes on: a space that has failed, or was ended by another exception, does not.
+#[derive(Clone, Copy, Debug, PartialEq, Eq)]
+pub enum Status {
+    Open,
+    Failed,
+    Raised(Raise),
+}
+
+/// The next number that a space gives out, by kind.
+#[derive(Clone, Copy, Debug, PartialEq, Eq)]
+pub struct Next {
+    pub variable: u32,
+    pub thread: u32,
+    pub procedure: u32,
+    pub child: u32,
+}
+
+/// What belongs to one space: what it was told itself, and its threads in the order of their numbers.
+#[derive(Drop)]
+pub struct Layer {
+    pub space: Sequence<u32>,
+    pub status: Status,
+    pub tells: Sequence<Tell>,
+    pub threads: Sequence<Thread>,
+    pub next: Next,
+}
+
+impl Copies for Layer {
+    fn copied(&self, alloc: Global) -> Result<Self, AllocError> {
+        Ok(Layer {
+            space: self.space.copied(alloc)?,
+            status: self.status,
+            tells: self.tells.copied(alloc)?,
+            threads: self.threads.copied(alloc)?,
+            next: self.next,
+        })
+    }
+}
+
+/// A layer for each space, in the order of their names, and the queue of the threads that can step.
+#[derive(Drop)]
+pub struct Configuration {
+    pub layers: Sequence<Layer>,
+    pub queue: Sequence<Ident>,
+}
+
+impl Copies for Configuration {
+    fn copied(&self, alloc: Global) -> Result<Self, AllocError> {
+        Ok(Configuration {
+            layers: self.layers.copied(alloc)?,
+            queue: self.queue.copied(alloc)?,
+        })
+    }
+}
