@@ -1,17 +1,16 @@
 -- The tree of computation spaces, by their names (CTM 12.5; Schulte 4). The top's name is empty, and a child's is its
 -- parent's with the child's number at the end.
-use Rattle.std.specs.Prelude.{ℕ, Bool, true, false, not, ◌&&◌, ◌||◌, ◌==◌, nat_lt, nat_eq, List, [], ◌∷◌, ◌++◌}
+use Rattle.std.specs.Prelude.{ℕ, Bool, true, false, not, ◌&&◌, nat_eq, List, [], ◌∷◌, ◌++◌}
 use Rattle.std.specs.List.{starts_with}
+use Rattle.std.specs.Cmp.Lexicographic.{slice_cmp}
+use Rattle.std.specs.Ordering.{is_lt, nat_cmp}
 use Rattle.oz_base.specs.Lists.{list_eq}
 use Rattle.oz_base.specs.declared.names.Ident.{Ident}
 pub use Rattle.oz_base.specs.Names.{ident_eq}
 
 -- the order of names: lexicographic, and a front part is less than the whole
 abbrev pub space_lt : List ℕ → List ℕ → Bool
-space_lt [] [] = false
-space_lt [] (y ∷ ys) = true
-space_lt (x ∷ xs) [] = false
-space_lt (x ∷ xs) (y ∷ ys) = nat_lt x y || ((x == y) && space_lt xs ys)
+space_lt s t = is_lt (slice_cmp nat_cmp s t)
 
 -- t is below s: s itself, a child of it, a child's child, ..
 abbrev pub is_below : List ℕ → List ℕ → Bool

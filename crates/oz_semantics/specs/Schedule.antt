@@ -6,8 +6,7 @@ use Rattle.oz_base.specs.declared.names.Ident.{Ident}
 use Rattle.oz_semantics.specs.Names.{ident_eq, is_top, named}
 use Rattle.oz_semantics.specs.Store.{is_consistent}
 use Rattle.oz_semantics.specs.Configurations.{layer_at, thread_at, is_open, view, in_layer, with_frames, without_gone, ending}
-use Rattle.oz_semantics.specs.Statements.{steps, Effect, Becomes, Raises, Place, code_effect}
-use Rattle.oz_semantics.specs.Spaces.{thread_ready}
+use Rattle.oz_semantics.specs.Statements.{thread_ready, steps, Effect, Becomes, Raises, Place, code_effect}
 use Rattle.oz_semantics.specs.declared.kernel.Statement.{Statement}
 use Rattle.oz_semantics.specs.declared.configuration.Frame.{Frame}
 use Rattle.oz_semantics.specs.declared.configuration.Thread.{Thread}
@@ -105,7 +104,7 @@ after_effect statements id c (Raises raise) = raised statements id raise c
 
 -- where a thread of the layer steps, with its statement taken off the stack
 abbrev pub place_of : List Layer → Ident → Layer → List Frame → Place
-place_of layers id l rest = record { view = view layers id.space; layer = with_frames id.number (λ frames. rest) l; thread = id.number }
+place_of layers id l rest = record { view = view layers l.space; layer = with_frames id.number (λ frames. rest) l; thread = id.number }
 
 abbrev pub stepped_frame : List Statement → Ident → Layer → Frame → List Frame → Configuration → Turned
 stepped_frame statements id l frame rest c = after_effect statements id c (code_effect statements (place_of c.layers id l rest) frame frame.code)

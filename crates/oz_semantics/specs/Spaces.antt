@@ -1,7 +1,7 @@
 -- Computation spaces (CTM 12.5; Schulte 4 and 10): when a space is stable, its state, its creation, and the commitment of a
 -- choice.
 use Rattle.std.specs.Prelude.{ℕ, ◌+◌, ◌-◌, Bool, true, false, not, ◌&&◌, ◌||◌, if◌then◌else◌, is_some, List, [], ◌∷◌, ◌++◌, Option, Some, None, map, filter, slice_get, unwrap_or}
-use Rattle.std.specs.List.{list_any, list_all, flat_map, filter_map}
+use Rattle.std.specs.List.{list_any, list_all, filter_map}
 use Rattle.oz_base.specs.Lists.{first, is_empty, iff, edit_first}
 use Rattle.oz_base.specs.declared.names.Ident.{Ident}
 use Rattle.oz_semantics.specs.Names.{is_below, parent_of, root_of}
@@ -9,7 +9,7 @@ use Rattle.oz_semantics.specs.Values.{is_like}
 use Rattle.oz_semantics.specs.Kernels.{alternatives_of}
 use Rattle.oz_semantics.specs.Store.{same, value_of, is_determined}
 use Rattle.oz_semantics.specs.Configurations.{layer_at, is_open, view, ancestor_variables, in_layer, spawning, new_layer, placed, next_child, frames_of}
-use Rattle.oz_semantics.specs.Statements.{Readiness, frames_ready, steps, waits_of, offer_of}
+use Rattle.oz_semantics.specs.Statements.{thread_ready, steps, waits_of, offer_of}
 use Rattle.oz_semantics.specs.declared.kernel.Statement.{Statement}
 use Rattle.oz_semantics.specs.declared.configuration.Value.{Value}
 use Rattle.oz_semantics.specs.declared.configuration.Tell.{Tell}
@@ -22,11 +22,6 @@ use Rattle.oz_semantics.specs.declared.configuration.Status.TheVariants as statu
 use Rattle.oz_semantics.specs.declared.configuration.Layer.{Layer}
 use Rattle.oz_semantics.specs.declared.outcome.State.{State}
 use Rattle.oz_semantics.specs.declared.outcome.State.TheVariants.{Running, Suspended, Failed, Raised, Alternatives, Solved, Stuck}
-
--- What a space's threads do
-
-abbrev pub thread_ready : List Statement → List Tell → Thread → Readiness
-thread_ready statements view t = frames_ready statements view t.frames
 
 -- an open space of which a thread can step
 abbrev pub layer_goes_on : List Statement → List Layer → Layer → Bool
@@ -45,7 +40,7 @@ is_held view held x = not (is_determined view x) && list_any (same view x) held
 -- an open space of which a thread waits for one of these variables
 abbrev pub layer_waits : List Statement → List Layer → List Ident → Layer → Bool
 layer_waits statements layers held l =
-    is_open l.status && list_any (is_held (view layers l.space) held) (flat_map (λ t. waits_of (thread_ready statements (view layers l.space) t)) l.threads)
+    is_open l.status && list_any (λ t. list_any (is_held (view layers l.space) held) (waits_of (thread_ready statements (view layers l.space) t))) l.threads
 
 -- something of the subtree waits for variables of the space's proper ancestors
 abbrev pub waits_outside : List Statement → List Layer → List ℕ → Bool
@@ -109,13 +104,13 @@ applying procedure argument = record { code = code.Apply procedure argument; env
 abbrev pub rooted : List ℕ → Ident → Layer
 rooted space procedure = spawning (applying procedure (root_of space) ∷ []) (new_layer space)
 
-abbrev pub created_in : Ident → List Layer → Option Layer → List Layer
-created_in procedure layers None = layers
-created_in procedure layers (Some l) = placed (rooted (next_child l) procedure) (in_layer l.space counting_child layers)
+abbrev pub created_in : List ℕ → Ident → List Layer → Option Layer → List Layer
+created_in parent procedure layers None = layers
+created_in parent procedure layers (Some l) = placed (rooted (next_child l) procedure) (in_layer parent counting_child layers)
 
 -- a new child of a space
 abbrev pub created : List ℕ → Ident → List Layer → List Layer
-created parent procedure layers = created_in procedure layers (layer_at layers parent)
+created parent procedure layers = created_in parent procedure layers (layer_at layers parent)
 
 -- Commitment
 
@@ -132,12 +127,12 @@ abbrev pub chosen : List Statement → ℕ → List Frame → List Frame
 chosen statements i [] = []
 chosen statements i (frame ∷ frames) = chosen_code statements i frame frame.code ++ frames
 
-abbrev pub offers : List Statement → Thread → Bool
-offers statements t = is_some (offer_of (frames_ready statements [] t.frames))
+abbrev pub offers : List Statement → List Tell → Thread → Bool
+offers statements view t = is_some (offer_of (thread_ready statements view t))
 
 -- the offer of least number goes on with its i-th alternative
-abbrev pub committing : List Statement → ℕ → Layer → Layer
-committing statements i l = record l { threads = edit_first (offers statements) (λ t. record t { frames = chosen statements i t.frames }) l.threads }
+abbrev pub committing : List Statement → List Tell → ℕ → Layer → Layer
+committing statements view i l = record l { threads = edit_first (offers statements view) (λ t. record t { frames = chosen statements i t.frames }) l.threads }
 
 abbrev pub committed : List Statement → List ℕ → ℕ → List Layer → List Layer
-committed statements space i = in_layer space (committing statements i)
+committed statements space i layers = in_layer space (committing statements (view layers space) i) layers

@@ -1,6 +1,7 @@
 -- Kernel statements (CTM 2.4, 4.1): when each can step, what it waits for, what it offers, and what its step does. A step
 -- changes the layer of the thread's own space and no other.
 use Rattle.std.specs.Prelude.{ℕ, ◌+◌, ◌==◌, Bool, true, false, if◌then◌else◌, List, [], ◌∷◌, ◌++◌, Option, Some, None, length, slice_get}
+use Rattle.oz_base.specs.Lists.{first}
 use Rattle.oz_base.specs.declared.names.Ident.{Ident}
 use Rattle.oz_semantics.specs.Names.{named}
 use Rattle.oz_semantics.specs.Store.{value_of, is_determined, is_consistent}
@@ -16,6 +17,7 @@ use Rattle.oz_semantics.specs.declared.configuration.Value.{Value}
 use Rattle.oz_semantics.specs.declared.configuration.Value.TheVariants as value
 use Rattle.oz_semantics.specs.declared.configuration.Tell.{Tell}
 use Rattle.oz_semantics.specs.declared.configuration.Tell.TheVariants.{Is}
+use Rattle.oz_semantics.specs.declared.configuration.Thread.{Thread}
 use Rattle.oz_semantics.specs.declared.configuration.Layer.{Layer}
 use Rattle.oz_semantics.specs.declared.outcome.Raise.{Raise}
 use Rattle.oz_semantics.specs.declared.outcome.Raise.TheVariants.{FailureTell, FailureFail, Apply, Arity}
@@ -41,9 +43,13 @@ abbrev pub code_ready : List Statement → List Tell → Code → Readiness
 code_ready statements view (code.Statement n) = statement_ready (slice_get statements n)
 code_ready statements view (code.Apply procedure argument) = if is_determined view procedure then Steps else Waits (procedure ∷ [])
 
-abbrev pub frames_ready : List Statement → List Tell → List Frame → Readiness
-frames_ready statements view [] = Waits []
-frames_ready statements view (frame ∷ frames) = code_ready statements view frame.code
+-- by the statement on top of a stack, if there is one
+abbrev pub top_ready : List Statement → List Tell → Option Frame → Readiness
+top_ready statements view (Some frame) = code_ready statements view frame.code
+top_ready statements view None = Waits []
+
+abbrev pub thread_ready : List Statement → List Tell → Thread → Readiness
+thread_ready statements view t = top_ready statements view (first t.frames)
 
 abbrev pub steps : Readiness → Bool
 steps Steps = true

@@ -25,13 +25,13 @@ pub record IsConsistent (ts : List Tell) : Type 0 where
 abbrev pub same : List Tell → Ident → Ident → Bool
 same ts x y = ident_eq x y
 
--- the value that a tell gives x
-abbrev pub value_given : List Tell → Ident → Tell → Option Value
-value_given ts x (Is y v) = if same ts y x then Some v else None
+-- the value that a tell gives a variable which passes the test
+abbrev pub value_given : (Ident → Bool) → Tell → Option Value
+value_given test (Is y v) = if test y then Some v else None
 
 -- the value of x: the first that was told; all others are like it where the tells are consistent
 abbrev pub value_of : List Tell → Ident → Option Value
-value_of ts x = first_given (value_given ts x) ts
+value_of ts x = first_given (value_given (λ y. same ts y x)) ts
 
 abbrev pub is_determined : List Tell → Ident → Bool
 is_determined ts x = is_some (value_of ts x)

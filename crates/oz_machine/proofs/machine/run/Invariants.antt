@@ -1,0 +1,12 @@
+use Rattle.std.proofs.Common.{◌≡◌, ◌≤◌, suc}
+use Rattle.oz_semantics.specs.Runs.{run_for}
+use Rattle.oz_machine.proofs.machine.run.Given as goal
+
+abbrev pub invariant-turns : goal.invariant-turns
+invariant-turns l = record {
+  within : l.left ≤ l.fuel;
+  same : run_for l.kernel.statements l.space (suc l.left) l.configuration l.left ≡ run_for l.kernel.statements l.space (suc l.fuel) l.fn.configuration l.fuel;
+}
+
+abbrev pub decreases-turns : goal.decreases-turns
+decreases-turns l = l.left

@@ -1,0 +1,277 @@
+//! The machine: a loaded program, shared by all copies, and a configuration.
+ghost use Rattle.std.specs.Prelude.{◌≡◌, ◌≤◌, ◌&&◌, not, IfOk, OnOk, option_copied};
+ghost use Rattle.std.specs.Arc.{arc_value};
+ghost use Rattle.oz_base.specs.Lists.{is_empty, holds_of};
+ghost use Rattle.oz_semantics.specs.Spaces.{goes_on};
+ghost use Rattle.oz_semantics.specs.Schedule.{turn};
+ghost use Rattle.oz_semantics.specs.Texts.{Printed, raise_text};
+ghost use Rattle.oz_semantics.specs.Runs.{opening, run};
+ghost use Rattle.oz_semantics.specs.Search.{is_script, with_root, search_space, chosen_in, state_text};
+ghost use Rattle.oz_machine.specs.Settling.{CostsOne};
+ghost use Rattle.oz_machine.specs.Texts.{IsPrinted};
+ghost use Rattle.oz_machine.specs.Answers.{IsRun, IsScript, PrintsWithin};
+
+use crate::creation::{commit, create, opening_layer};
+use crate::settling::settle;
+use crate::states::{goes_on, state};
+use crate::store::value_of;
+pub use crate::texts::Text;
+use crate::texts::{self, state_text};
+use crate::turn::step;
+use oz_base::{Copies, Ident, Sequence};
+use oz_semantics::{Configuration, Kernel, Raise, State, Statement, Stepped, Value};
+use std::alloc::{AllocError, Global};
+use std::marker::Model;
+use std::sync::Arc;
+
+/// How a run ends. The steps are those that it took.
+#[derive(Clone, Copy, Debug, PartialEq, Eq)]
+pub enum Ran {
+    /// Nothing of the space's subtree can step; its state.
+    Ended { state: State, steps: u64 },
+    /// The top ended with an exception.
+    TopEnded { raise: Raise, steps: u64 },
+    /// The next step would pass the fuel. It is not made.
+    OutOfFuel,
+}
+
+/// A loaded program and a configuration of it. Contracts see the two.
+#[derive(Drop)]
+pub struct Machine {
+    kernel: Arc<Kernel, Global>,
+    configuration: Configuration,
+}
+
+impl Model for Machine {
+    ghost use Rattle.std.specs.Arc.{arc_value};
+    ghost use Rattle.oz_machine.specs.Machines.{Loaded};
+
+    ghost Value = { Loaded };
+
+    ghost view = { λ m. record { kernel = arc_value m.kernel; config = m.configuration } };
+}
+
+impl Machine {
+    /// The machine in its opening configuration.
+    pub fn load(alloc: Global, kernel: Kernel) -> Result<Machine, AllocError>
+        ensures kernel { IfOk result (λ machine. machine.kernel ≡ kernel) }
+        ensures opening { IfOk result (λ machine. machine.config ≡ opening kernel) }
+    {
+        let configuration = opening_of(alloc, &kernel)?;
+        Ok(Machine {
+            kernel: share(alloc, kernel)?,
+            configuration,
+        })
+    }
+
+    /// An equal machine. The program is shared.
+    pub fn copy(&self, alloc: Global) -> Result<Machine, AllocError>
+        ensures { IfOk result (λ machine. machine ≡ self.now) }
+    {
+        Ok(Machine {
+            kernel: Arc::try_clone(&self.kernel)?,
+            configuration: self.configuration.copied(alloc)?,
+        })
+    }
+
+    /// One turn.
+    pub fn step(&mut self, alloc: Global) -> Result<Stepped, AllocError>
+        ensures turn { IfOk result (λ stepped. turn self.old.kernel.statements self.old.config ≡ (stepped, self.new.config)) }
+        ensures cost { IfOk result CostsOne }
+        ensures kernel { OnOk result (self.new.kernel ≡ self.old.kernel) }
+    {
+        let Machine {
+            kernel,
+            configuration,
+        } = self;
+        step(alloc, kernel.statements.as_slice(), configuration)
+    }
+
+    /// Turns while something of the space's subtree can step, for no more than the fuel.
+    pub fn run(
+        &mut self,
+        alloc: Global,
+        space: &Sequence<u32>,
+        fuel: u64,
+    ) -> Result<Ran, AllocError>
+        ensures run { IfOk result (IsRun self.new space.now fuel (run self.old.kernel.statements space.now self.old.config fuel)) }
+        ensures kernel { OnOk result (self.new.kernel ≡ self.old.kernel) }
+    {
+        let Machine {
+            kernel,
+            configuration,
+        } = self;
+        run(alloc, kernel, configuration, space, fuel)
+    }
+
+    /// The variable of `Script`. None exactly where that is no procedure of one parameter.
+    pub fn script(&self, alloc: Global) -> Option<Ident>
+        ensures { IsScript self.now result }
+    {
+        let top = Sequence::new(alloc);
+        let script = Ident {
+            space: Sequence::new(alloc),
+            number: 0,
+        };
+        let layers = self.configuration.layers.as_slice();
+        if is_script(value_of(layers, &top, &script)) {
+            Some(script)
+        } else {
+            None
+        }
+    }
+
+    /// Makes the search root, a child of the top that applies the procedure to its root variable, and gives its name.
+    pub fn root(&mut self, alloc: Global, procedure: &Ident) -> Result<Sequence<u32>, AllocError>
+        ensures root { OnOk result (self.new.config ≡ with_root self.old.kernel.statements procedure.now self.old.config) }
+        ensures name { IfOk result (λ space. space ≡ search_space self.old.config) }
+        ensures kernel { OnOk result (self.new.kernel ≡ self.old.kernel) }
+    {
+        let Machine {
+            kernel,
+            configuration,
+        } = self;
+        let top = Sequence::new(alloc);
+        let space = create(alloc, &mut configuration.layers, &top, procedure)?;
+        settle(alloc, kernel.statements.as_slice(), None, configuration)?;
+        Ok(space)
+    }
+
+    /// Commits a space that offers alternatives to one of them, from 1.
+    pub fn commit(
+        &mut self,
+        alloc: Global,
+        space: &Sequence<u32>,
+        index: u64,
+    ) -> Result<(), AllocError>
+        requires { 1 ≤ index }
+        ensures commit { OnOk result (self.new.config ≡ chosen_in self.old.kernel.statements space.now index self.old.config) }
+        ensures kernel { OnOk result (self.new.kernel ≡ self.old.kernel) }
+    {
+        let Machine {
+            kernel,
+            configuration,
+        } = self;
+        let statements = kernel.statements.as_slice();
+        commit(alloc, statements, space, index, &mut configuration.layers)?;
+        settle(alloc, statements, None, configuration)?;
+        Ok(())
+    }
+
+    /// What is shown of a space in this state. None exactly where that costs more than the fuel.
+    pub fn leaf_text(
+        &self,
+        alloc: Global,
+        space: &Sequence<u32>,
+        state: State,
+        fuel: u64,
+    ) -> Result<Option<Text>, AllocError>
+        ensures { IfOk result (PrintsWithin (state_text self.now.kernel.words self.now.config space.now state) fuel) }
+    {
+        text_within(alloc, &self.kernel, &self.configuration, space, state, fuel)
+    }
+}
+
+fn text_within(
+    alloc: Global,
+    kernel: &Kernel,
+    configuration: &Configuration,
+    space: &Sequence<u32>,
+    state: State,
+    fuel: u64,
+) -> Result<Option<Text>, AllocError>
+    ensures { IfOk result (PrintsWithin (state_text kernel.now.words configuration.now space.now state) fuel) }
+{
+    let words = kernel.words.as_slice();
+    let text = state_text(alloc, words, configuration, space, state)?;
+    Ok(within(text, fuel))
+}
+
+/// The text of an exception of the top. None exactly where that costs more than the fuel.
+pub fn exception_text(alloc: Global, raise: Raise, fuel: u64) -> Result<Option<Text>, AllocError>
+    ensures { IfOk result (PrintsWithin (raise_text raise) fuel) }
+{
+    Ok(within(texts::raise_text(alloc, raise)?, fuel))
+}
+
+fn within(text: Text, fuel: u64) -> Option<Text>
+    ensures { (printed : Printed) → IsPrinted printed text → PrintsWithin printed fuel result }
+{
+    if text.steps <= fuel { Some(text) } else { None }
+}
+
+fn share(alloc: Global, kernel: Kernel) -> Result<Arc<Kernel, Global>, AllocError>
+    ensures { IfOk result (λ shared. arc_value shared ≡ kernel) }
+{
+    match Arc::new(alloc, kernel) {
+        Ok(shared) => Ok(shared),
+        Err(_) => Err(AllocError),
+    }
+}
+
+fn opening_of(alloc: Global, kernel: &Kernel) -> Result<Configuration, AllocError>
+    ensures { IfOk result (λ configuration. configuration ≡ opening kernel.now) }
+{
+    let mut layers = Sequence::new(alloc);
+    layers.push(opening_layer(alloc, kernel)?)?;
+    let mut configuration = Configuration {
+        layers,
+        queue: Sequence::new(alloc),
+    };
+    settle(
+        alloc,
+        kernel.statements.as_slice(),
+        None,
+        &mut configuration,
+    )?;
+    Ok(configuration)
+}
+
+fn is_script(value: Option<&Value>) -> bool
+    ensures { result ≡ holds_of is_script (option_copied value.entry) }
+{
+    match value {
+        Some(Value::Procedure(procedure)) => procedure.parameters.len() == 1,
+        _ => false,
+    }
+}
+
+/// Whether something of the space's subtree can step, and a thread stands in the queue.
+fn may_turn(statements: &[Statement], configuration: &Configuration, space: &Sequence<u32>) -> bool
+    ensures { result ≡ (goes_on statements.now configuration.now.layers space.now && not (is_empty configuration.now.queue)) }
+{
+    goes_on(statements, configuration.layers.as_slice(), space) && !is_empty(&configuration.queue)
+}
+
+fn is_empty(queue: &Sequence<Ident>) -> bool
+    ensures { result ≡ is_empty queue.now }
+{
+    queue.as_slice().is_empty()
+}
+
+/// Turns while something of the space's subtree can step, for no more than the fuel.
+fn run(
+    alloc: Global,
+    kernel: &Kernel,
+    configuration: &mut Configuration,
+    space: &Sequence<u32>,
+    fuel: u64,
+) -> Result<Ran, AllocError>
+    ensures { IfOk result (IsRun (record { kernel = kernel.now; config = configuration.new }) space.now fuel (run kernel.now.statements space.now configuration.old fuel)) }
+{
+    let statements = kernel.statements.as_slice();
+    let mut left = fuel;
+    'turns: while may_turn(statements, configuration, space) {
+        if left == 0 {
+            return Ok(Ran::OutOfFuel);
+        }
+        if let Stepped::TopEnded { raise, .. } = step(alloc, statements, configuration)? {
+            let steps = fuel - left + 1;
+            return Ok(Ran::TopEnded { raise, steps });
+        }
+        left -= 1;
+    }
+    let state = state(alloc, statements, &configuration.layers, space)?;
+    let steps = fuel - left;
+    Ok(Ran::Ended { state, steps })
+}
