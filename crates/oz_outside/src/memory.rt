@@ -1,5 +1,5 @@
 //! A source and a sink in memory for tests, which fail at stated calls.
-ghost use Rattle.std.specs.Prelude.{◌≡◌, ◌<◌, ◌≤◌, ◌-◌, ◌⊎◌, ◌↔◌, min, Some, [], length, IfOk, OnErr, IsErr, MatchResult, Contains};
+ghost use Rattle.std.specs.Prelude.{◌≡◌, ◌<◌, ◌≤◌, ◌-◌, ◌⊎◌, ◌↔◌, min, Some, [], length, IfOk, OnErr, IsErr, IsTrue, MatchResult, Contains};
 ghost use Rattle.std.specs.Io.KnownBytes.{ReadConsumes, WriteAppends};
 ghost use Rattle.oz_outside.specs.Counts.{next_count, Rose};
 
@@ -16,9 +16,7 @@ pub struct MemSource {
     bytes: Vec<u8>,
     at: usize,
     chunk: usize,
-    fails: Vec<u64>,
-    calls: u64,
-    faults: u64,
+    schedule: Schedule,
 }
 
 impl Model for MemSource {
@@ -30,9 +28,9 @@ impl Model for MemSource {
     ghost view = { λ s. record {
       left = drop s.at s.bytes.items;
       chunk = s.chunk;
-      fails = s.fails.items;
-      calls = s.calls;
-      faults = s.faults;
+      fails = s.schedule.fails.items;
+      calls = s.schedule.calls;
+      faults = s.schedule.faults;
     } };
 
     ghost invariant = { λ s. (s.at ≤ vec_len s.bytes) × (0 < s.chunk) };
@@ -50,9 +48,7 @@ impl MemSource {
             bytes: Vec::from_slice(alloc, bytes)?,
             at: 0,
             chunk,
-            fails: Vec::from_slice(alloc, fails)?,
-            calls: 0,
-            faults: 0,
+            schedule: Schedule::new(alloc, fails)?,
         })
     }
 }
@@ -73,10 +69,8 @@ impl Source for MemSource {
         ensures faults { MatchResult result (λ _. self.new.faults ≡ self.old.faults) (λ _. self.new.faults ≡ next_count self.old.faults) }
         ensures plan { (self.new.chunk ≡ self.old.chunk) × (self.new.fails ≡ self.old.fails) }
     {
-        self.calls = self.calls.saturating_add(1);
-        if self.fails.contains(&self.calls) {
-            self.faults = self.faults.saturating_add(1);
-            return Err(Failed);
+        if self.schedule.fails_next() {
+            return Err(self.schedule.fault());
         }
         let rest = &self.bytes[self.at..];
         let n = rest.len().min(self.chunk).min(buf.len());
@@ -96,9 +90,7 @@ pub struct MemSink {
     bytes: Vec<u8>,
     room: usize,
     chunk: usize,
-    fails: Vec<u64>,
-    calls: u64,
-    faults: u64,
+    schedule: Schedule,
 }
 
 impl Model for MemSink {
@@ -111,9 +103,9 @@ impl Model for MemSink {
       written = s.bytes.items;
       room = s.room;
       chunk = s.chunk;
-      fails = s.fails.items;
-      calls = s.calls;
-      faults = s.faults;
+      fails = s.schedule.fails.items;
+      calls = s.schedule.calls;
+      faults = s.schedule.faults;
     } };
 
     ghost invariant = { λ s. (vec_len s.bytes ≤ s.room) × (s.room ≤ vec_capacity s.bytes) × (0 < s.chunk) };
@@ -131,9 +123,7 @@ impl MemSink {
             bytes: Vec::with_capacity(alloc, room)?,
             room,
             chunk,
-            fails: Vec::from_slice(alloc, fails)?,
-            calls: 0,
-            faults: 0,
+            schedule: Schedule::new(alloc, fails)?,
         })
     }
 
@@ -165,20 +155,56 @@ impl Sink for MemSink {
         ensures plan { (self.new.room ≡ self.old.room) × (self.new.chunk ≡ self.old.chunk) × (self.new.fails ≡ self.old.fails) }
         ensures within { length self.new.written ≤ self.new.room }
     {
-        self.calls = self.calls.saturating_add(1);
-        if self.fails.contains(&self.calls) {
-            self.faults = self.faults.saturating_add(1);
-            return Err(Failed);
+        if self.schedule.fails_next() {
+            return Err(self.schedule.fault());
         }
         let free = self.room - self.bytes.len();
         if free == 0 && !piece.is_empty() {
-            self.faults = self.faults.saturating_add(1);
-            return Err(Failed);
+            return Err(self.schedule.fault());
         }
         let n = piece.len().min(self.chunk).min(free);
         match self.bytes.extend_from_slice(&piece[..n]) {
             Ok(()) => Ok(n),
             Err(_) => unreachable!(),
         }
+    }
+}
+
+/// Which calls fail, and how many were made and failed so far.
+#[derive(Drop)]
+struct Schedule {
+    fails: Vec<u64>,
+    calls: u64,
+    faults: u64,
+}
+
+impl Schedule {
+    fn new(alloc: Global, fails: &[u64]) -> Result<Self, AllocError>
+        ensures starts { IfOk result (λ s. (s.fails.items ≡ fails.now) × (s.calls ≡ 0) × (s.faults ≡ 0)) }
+    {
+        Ok(Schedule {
+            fails: Vec::from_slice(alloc, fails)?,
+            calls: 0,
+            faults: 0,
+        })
+    }
+
+    /// Counts one more call. Whether it is one that fails.
+    fn fails_next(&mut self) -> bool
+        ensures fails { IsTrue result ↔ Contains self.old.fails.items self.new.calls }
+        ensures calls { self.new.calls ≡ next_count self.old.calls }
+        ensures kept { (self.new.fails ≡ self.old.fails) × (self.new.faults ≡ self.old.faults) }
+    {
+        self.calls = self.calls.saturating_add(1);
+        self.fails.contains(&self.calls)
+    }
+
+    /// Counts one more fault.
+    fn fault(&mut self) -> Failed
+        ensures faults { self.new.faults ≡ next_count self.old.faults }
+        ensures kept { (self.new.fails ≡ self.old.fails) × (self.new.calls ≡ self.old.calls) }
+    {
+        self.faults = self.faults.saturating_add(1);
+        Failed
     }
 }

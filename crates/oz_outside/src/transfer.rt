@@ -23,8 +23,8 @@ pub enum ReadError {
 
 /// Reads all bytes that are left, and consumes at most one more than `READ_LIMIT`.
 ///
-/// At `Ok` and `TooLarge` nothing failed: the first comes where at most `READ_LIMIT` bytes were left,
-/// the second where there were more.
+/// Where neither a read nor an allocation fails, the answer is `Ok` where at most `READ_LIMIT` bytes
+/// were left, and `TooLarge` where there were more. Its frame holds a buffer of 16 KiB.
 pub fn read_all<S: Source>(alloc: Global, source: &mut S) -> Result<Vec<u8>, ReadError>
     ensures all { IfOk result (λ bytes. Consumes (S.left source.old) (S.left source.new) bytes.items × IsAtEnd (S.left source.new)) }
     ensures fits { IfOk result (λ bytes. vec_len bytes ≤ READ_LIMIT) }
@@ -32,6 +32,7 @@ pub fn read_all<S: Source>(alloc: Global, source: &mut S) -> Result<Vec<u8>, Rea
     ensures too_large { result ≡ Err ReadError.TooLarge
         → (bytes : List ℕ) × (length bytes ≡ READ_LIMIT + 1) × Consumes (S.left source.old) (S.left source.new) bytes }
     ensures large { result ≡ Err ReadError.TooLarge → IfSome (S.left source.old) (λ left. READ_LIMIT < length left) }
+    ensures memory { result ≡ Err ReadError.Memory → IfSome (S.left source.old) (λ left. 0 < length left) }
     ensures fault { result ≡ Err ReadError.Fault → Rose (S.faults source.old) (S.faults source.new) }
     ensures most { (bytes : List ℕ) × (length bytes ≤ READ_LIMIT + 1) × Consumes (S.left source.old) (S.left source.new) bytes }
     ensures count { S.faults source.old ≤ S.faults source.new }
