@@ -1,4 +1,4 @@
--- Reads and writes of a piece.
+-- What one read or write of a piece does to the bytes.
 use Rattle.std.proofs.Common.{◌≡◌, ◌∙◌, ◌+◌, ◌-◌, ◌<◌, ◌≤◌, ◌++◌, ℕ, List, [], length, take, drop, min, Option, sym, subst, ap, arith, length-append, length-drop, take-append-drop}
 use Rattle.std.proofs.Math.Seq.{take-add, take-append_seam}
 use Rattle.std.proofs.lemmas.List.{drop_all, length-take-le, take_rest}

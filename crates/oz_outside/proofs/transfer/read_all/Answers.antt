@@ -5,6 +5,7 @@ use Rattle.std.proofs.lemmas.Grind.{common_steps}
 use Rattle.std.proofs.KnownBytes.{Consumes-trans}
 use Rattle.oz_outside.proofs.transfer.read_all.Goals as goal
 
+-- where memory is wanting, what was kept and the last piece were consumed
 pub returns-then-is_err-clause-most : goal.returns-then-is_err-clause-most
 returns-then-is_err-clause-most g c =
     let old = c.reads.bytes.items in
