@@ -1,0 +1,5 @@
+//! Reads the program of a text, and translates it into the kernel.
+#![tactic(auto)]
+
+mod bytes;
+mod lexer;
