@@ -1,2 +1,5 @@
 pub mod Spellings
 pub mod Streaming
+pub mod Parts
+pub mod Alternatives
+pub mod Programs

@@ -5,6 +5,7 @@ use Rattle.std.proofs.lemmas.Bool.Decides.{nat_tests}
 use Rattle.std.proofs.lemmas.Grind.{common_steps}
 use Rattle.std.proofs.lemmas.List.Sums.{prefix_len-le-length}
 use Rattle.oz_base.specs.Lists.{list_eq}
+use Rattle.oz_base.specs.ListLaws.{list_eq-decides, list_eq-equivalence}
 use Rattle.oz_semantics.specs.Tokens.{is_blank, is_upper, is_lower, goes_on_word, is_var, is_small_word, is_reserved, reserved, token_of}
 use Rattle.oz_semantics.specs.declared.syntax.Token.{Token}
 use Rattle.oz_semantics.specs.declared.syntax.Token.TheVariants.{OpenBrace, CloseBrace, Equals, Box, Var, Atom, Reserved}
@@ -17,15 +18,10 @@ and_true false b h = cc
 
 -- two lists that compare alike are one
 pub list_eq_same : (xs ys : List ℕ) → list_eq xs ys ≡ true → xs ≡ ys
-list_eq_same [] [] h = refl
-list_eq_same (x ∷ xs) (y ∷ ys) h =
-    let p = and_true (x == y) (list_eq xs ys) h in
-    let q : (x == y) ≡ true = p.0 in
-    let e : x ≡ y = grind (arith, nat_tests) in
-    let es = list_eq_same xs ys p.1 in
-    cc
-list_eq_same [] (y ∷ ys) h = cc
-list_eq_same (x ∷ xs) [] h = cc
+list_eq_same xs ys h = (list_eq-decides xs ys).0 h
+
+pub list_eq_refl : (xs : List ℕ) → list_eq xs xs ≡ true
+list_eq_refl xs = list_eq-equivalence.refl xs
 
 among_at : (p : List ℕ → Bool) (w v : List ℕ) (r b : Bool) → list_eq w v ≡ b → (b || r) ≡ true → p v ≡ true → (r ≡ true → p w ≡ true) → p w ≡ true
 among_at p w v r true e g k f = ap p (list_eq_same w v e) ∙ k
@@ -211,7 +207,3 @@ box_by b (c ∷ cs) h k =
     let e : b ≡ 91 = grind (arith, nat_tests) in
     let d : c ≡ 93 = grind (arith, nat_tests) in
     subst (λ (x : ℕ). IsTokenLength (x ∷ c ∷ cs) 2) (sym e) (subst (λ (y : ℕ). IsTokenLength (91 ∷ y ∷ cs) 2) (sym d) (box_length cs))
-
-pub list_eq_refl : (xs : List ℕ) → list_eq xs xs ≡ true
-list_eq_refl [] = refl
-list_eq_refl (x ∷ xs) = let h = list_eq_refl xs in let e : (x == x) ≡ true = grind (arith, nat_tests) in rw (e, h) refl

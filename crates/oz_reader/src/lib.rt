@@ -3,3 +3,4 @@
 
 mod bytes;
 mod lexer;
+mod parser;
