@@ -7,8 +7,8 @@ ghost use Rattle.oz_base.specs.Lists.{list_eq};
 ghost use Rattle.oz_base.specs.Words.{with_text, number_in};
 ghost use Rattle.oz_base.specs.ListLaws.{list_eq-equivalence, list_eq-alike};
 
-use crate::Copies;
 use crate::copies::copies_of;
+use crate::{Copies, Sequence};
 use indexmap::{Equivalent, IndexSet};
 use std::alloc::{AllocError, Global};
 use std::hash::{Hash, Hasher};
@@ -157,6 +157,17 @@ impl Words {
         ensures small { result < 2 ^ 32 }
     {
         self.texts.len()
+    }
+
+    /// A copy of the texts, in the order of their numbers.
+    pub fn texts(&self, alloc: Global) -> Result<Sequence<Sequence<u8>>, AllocError>
+        ensures { IfOk result (λ texts. texts ≡ self.now) }
+    {
+        let mut copies = Sequence::new(alloc);
+        for text in self.texts.as_slice() {
+            copies.push(Sequence::from_vec(copies_of(alloc, text.as_slice())?))?;
+        }
+        Ok(copies)
     }
 
     // A new text takes the next number.

@@ -3,3 +3,4 @@ pub mod Streaming
 pub mod Parts
 pub mod Alternatives
 pub mod Programs
+pub mod ReaderLaws

@@ -4,3 +4,6 @@
 mod bytes;
 mod lexer;
 mod parser;
+mod reader;
+
+pub use reader::read_program;
