@@ -127,7 +127,7 @@ all_by v ts a r None x k h e = cc
 all_by v ts a r (Some (zs, q)) x k h e =
     let y : (a ∷ zs, q) ≡ x = cc in (
       k ∙ ap (λ (us : List Token). grammar.alternative v a ++ us) (h (zs, q) refl) ∙ sym (append_assoc (grammar.alternative v a) (grammar.more_alternatives v zs) q)
-      ∙ ap (λ (z : List Alternative × List Token). grammar.alternatives v z.0 ++ z.1) y,
+          ∙ ap (λ (z : List Alternative × List Token). grammar.alternatives v z.0 ++ z.1) y,
       subst (λ (z : List Alternative × List Token). 0 < length z.0) y (omega arith),
     )
 

@@ -4,3 +4,4 @@ pub mod Parts
 pub mod Alternatives
 pub mod Programs
 pub mod ReaderLaws
+pub mod Translations

@@ -29,9 +29,9 @@ ends_found ts e = ends_by ts (word_at (codes "end") ts) refl e
 with_head : List ℕ × List Token → List Token
 with_head x = Reserved (codes "proc") ∷ OpenBrace ∷ Var (codes "Script") ∷ Var x.0 ∷ CloseBrace ∷ Reserved (codes "choice") ∷ x.1
 
-head_by : {ts a b c e f : List Token} (d : List ℕ × List Token) → ts ≡ Reserved (codes "proc") ∷ a → a ≡ OpenBrace ∷ b → b ≡ Var (codes "Script") ∷ c → c ≡ Var d.0 ∷ d.1 → d.1 ≡ CloseBrace ∷ e → e ≡ Reserved (codes "choice") ∷ f → ts ≡ with_head (d.0, f)
+head_by : {ts a b c e f : List Token} (d x : List ℕ × List Token) → ts ≡ Reserved (codes "proc") ∷ a → a ≡ OpenBrace ∷ b → b ≡ Var (codes "Script") ∷ c → c ≡ Var d.0 ∷ d.1 → d.1 ≡ CloseBrace ∷ e → e ≡ Reserved (codes "choice") ∷ f → (d.0, f) ≡ x → ts ≡ with_head x
 unfolding with_head
-head_by d k1 k2 k3 k4 k5 k6 = cc
+head_by d x k1 k2 k3 k4 k5 k6 y = k1 ∙ cc
 
 head_found : (ts : List Token) (x : List ℕ × List Token) → head_at ts ≡ Some x → ts ≡ with_head x
 unfolding with_head
@@ -42,8 +42,7 @@ head_found ts x e =
     let d = bind_some (var_at c.0) (λ d. symbol_at CloseBrace d.1 >>= λ e. word_at (codes "choice") e >>= λ f. Some (d.0, f)) x c.2 in
     let g = bind_some (symbol_at CloseBrace d.0.1) (λ e. word_at (codes "choice") e >>= λ f. Some (d.0.0, f)) x d.2 in
     let h = bind_some (word_at (codes "choice") g.0) (λ f. Some (d.0.0, f)) x g.2 in
-    let y : (d.0.0, h.0) ≡ x = cc in
-    head_by d.0 (word_found (codes "proc") ts a.0 a.1) (open_found a.0 b.0 b.1) (named_found (codes "Script") b.0 c.0 c.1) (var_found c.0 d.0 d.1) (close_found d.0.1 g.0 g.1) (word_found (codes "choice") g.0 h.0 h.1) ∙ ap with_head y
+    head_by {a = a.0} {b = b.0} {c = c.0} {e = g.0} {f = h.0} d.0 x (word_found (codes "proc") ts a.0 a.1) (open_found a.0 b.0 b.1) (named_found (codes "Script") b.0 c.0 c.1) (var_found c.0 d.0 d.1) (close_found d.0.1 g.0 g.1) (word_found (codes "choice") g.0 h.0 h.1) (cc)
 
 -- ---- programs
 

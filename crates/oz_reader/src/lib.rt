@@ -5,5 +5,7 @@ mod bytes;
 mod lexer;
 mod parser;
 mod reader;
+mod translation;
 
 pub use reader::read_program;
+pub use translation::translate;
