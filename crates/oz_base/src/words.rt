@@ -126,8 +126,8 @@ impl Words {
 
     /// The number of a text, which is the next one where the text is new.
     ///
-    /// Looking it up takes constant time, and only a new text is copied. It refuses only a new text: for want of memory, or
-    /// where there are 2^32 - 1 texts already, so that no number of a `u32` is left for it.
+    /// Looking it up takes the time of reading the text, however many there are, and only a new text is copied. It refuses only a
+    /// new text: for want of memory, or where there are 2^32 - 1 texts already, since `u32::MAX` is never a number.
     #[tactic(auto, using(crate::proofs::WordsLaws::number_new))]
     pub fn number(&mut self, text: &[u8]) -> Result<u32, AllocError>
         ensures joined { OnOk result (self.new ≡ with_text self.old text.now) }
