@@ -1,8 +1,7 @@
 -- Reading alternatives: what is read was spelled so, and what is spelled so is read again.
-use Rattle.std.proofs.Common.{◌≡◌, ℕ, zero, suc, ◌+◌, ◌<◌, ◌≤◌, List, [], ◌∷◌, ◌++◌, Option, Some, None, length, refl, sym, ap, arith, ◌∙◌, subst, append_assoc, append-nil, length-append, codes}
-use Rattle.oz_base.specs.Lists.{list_eq}
+use Rattle.std.proofs.Common.{◌≡◌, ℕ, zero, suc, ◌<◌, ◌≤◌, List, [], ◌∷◌, ◌++◌, Option, Some, None, length, refl, sym, ap, arith, ◌∙◌, subst, append_assoc, append-nil, length-append, codes}
 use Rattle.oz_semantics.specs.declared.syntax.Token.{Token}
-use Rattle.oz_semantics.specs.declared.syntax.Token.TheVariants.{Equals, Box, Var, Atom, Reserved}
+use Rattle.oz_semantics.specs.declared.syntax.Token.TheVariants.{Equals, Box, Var, Atom}
 use Rattle.oz_semantics.specs.declared.syntax.Alternative.{Alternative}
 use Rattle.oz_semantics.specs.declared.syntax.Alternative.TheVariants.{Equal, Fail}
 use Rattle.oz_semantics.specs.Grammar as grammar

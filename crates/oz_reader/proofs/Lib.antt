@@ -1,5 +1,5 @@
 pub mod Spellings
-pub mod Streaming
+pub mod LexingLaws
 pub mod Parts
 pub mod Alternatives
 pub mod Programs

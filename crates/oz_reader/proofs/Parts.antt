@@ -1,10 +1,10 @@
 -- What each part that is read was spelled as, and that what is spelled so is read again.
-use Rattle.std.proofs.Common.{◌≡◌, ℕ, List, [], ◌∷◌, ◌++◌, Bool, true, false, ◌&&◌, not, cond, Option, Some, None, refl, sym, ap, ◌∙◌, codes, option_and_then}
+use Rattle.std.proofs.Common.{◌≡◌, ℕ, List, [], ◌∷◌, Bool, true, false, cond, Option, Some, None, refl, ap, option_and_then}
 use Rattle.oz_base.specs.Lists.{list_eq, is_empty}
 use Rattle.oz_semantics.specs.declared.syntax.Token.{Token}
 use Rattle.oz_semantics.specs.declared.syntax.Token.TheVariants.{OpenBrace, CloseBrace, Equals, Box, Var, Atom, Reserved}
-use Rattle.oz_reader.specs.Parsing.{◌>>=◌, word_at, symbol_at, var_at, atom_at, named_at}
-use Rattle.oz_reader.proofs.Spellings.{list_eq_same, list_eq_refl}
+use Rattle.oz_reader.specs.Parsing.{word_at, symbol_at, var_at, atom_at, named_at}
+use Rattle.oz_reader.proofs.Spellings.{list_eq_same}
 
 pub bind_some : {A B : Type 0} (o : Option A) (f : A → Option B) (y : B) → option_and_then f o ≡ Some y → (x : A) × (o ≡ Some x) × (f x ≡ Some y)
 bind_some None f y e = cc

@@ -1,5 +1,5 @@
 -- Reading programs: what is read was spelled so, and what is spelled so is read again.
-use Rattle.std.proofs.Common.{◌≡◌, ◌≢◌, ℕ, ◌<◌, List, [], ◌∷◌, ◌++◌, Bool, true, false, not, ◌&&◌, cond, Option, Some, None, length, refl, sym, ap, arith, ◌∙◌, append_assoc, codes}
+use Rattle.std.proofs.Common.{◌≡◌, ◌≢◌, ℕ, ◌<◌, List, [], ◌∷◌, ◌++◌, Bool, true, false, not, ◌&&◌, cond, Option, Some, None, length, refl, ap, arith, ◌∙◌, codes}
 use Rattle.oz_base.specs.Lists.{list_eq}
 use Rattle.oz_semantics.specs.declared.syntax.Token.{Token}
 use Rattle.oz_semantics.specs.declared.syntax.Token.TheVariants.{OpenBrace, CloseBrace, Var, Reserved}

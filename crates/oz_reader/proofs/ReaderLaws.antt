@@ -1,5 +1,5 @@
 -- From tokens to programs.
-use Rattle.std.proofs.Common.{◌≡◌, ℕ, ◌+◌, ◌<◌, ◌≤◌, IfSome, IfNone, List, [], ◌∷◌, ◌++◌, Option, Some, None, length, length-append, sym, ap, arith, ◌∙◌}
+use Rattle.std.proofs.Common.{◌≡◌, ℕ, ◌<◌, ◌≤◌, IfSome, IfNone, List, [], ◌∷◌, ◌++◌, Option, Some, None, length, length-append, sym, ap, arith, ◌∙◌}
 use Rattle.oz_semantics.specs.Tokens.{HasTokens, token_of}
 use Rattle.oz_semantics.specs.Grammar as grammar
 use Rattle.oz_semantics.specs.Grammar.{Accepts, IsRefused}
@@ -22,9 +22,6 @@ accepts_found text ts p h e =
 reads_again : (text : List ℕ) (ts : List Token) (q : Program) → Only text ts → Accepts text q → program_at ts ≡ Some q
 reads_again text ts q only a =
     ap program_at (sym (only a.tokens a.lexed) ∙ a.derived) ∙ program_again q a.other a.some
-
-pub no_tokens_refused : (text : List ℕ) → ((us : List Token) → HasTokens text us → ⊥) → IsRefused text
-no_tokens_refused text h q a = h a.tokens a.lexed
 
 pub some_accepts : (text : List ℕ) (ts : List Token) (o : Option Program) → HasTokens text ts → o ≡ program_at ts → IfSome o (Accepts text)
 some_accepts text ts None h e = tt

@@ -1,12 +1,11 @@
 -- Laws of spellings.
-use Rattle.std.proofs.Common.{◌≡◌, ◌≢◌, codes, ℕ, zero, suc, ◌+◌, ◌-◌, ◌<◌, ◌≤◌, List, [], ◌∷◌, ◌++◌, Bool, true, false, not, ◌&&◌, ◌||◌, ◌==◌, cond, Option, Some, None, length, take, drop, refl, sym, ap, arith, ◌∙◌, subst, nat_le}
+use Rattle.std.proofs.Common.{◌≡◌, codes, ℕ, zero, suc, ◌+◌, ◌<◌, ◌≤◌, List, [], ◌∷◌, Bool, true, false, ◌&&◌, ◌||◌, ◌==◌, cond, Option, Some, None, length, take, refl, sym, ap, arith, ◌∙◌, subst}
 use Rattle.std.specs.List.{list_all, list_any, prefix_len}
 use Rattle.std.proofs.lemmas.Bool.Decides.{nat_tests}
-use Rattle.std.proofs.lemmas.Grind.{common_steps}
 use Rattle.std.proofs.lemmas.List.Sums.{prefix_len-le-length}
 use Rattle.oz_base.specs.Lists.{list_eq}
 use Rattle.oz_base.specs.ListLaws.{list_eq-decides, list_eq-equivalence}
-use Rattle.oz_semantics.specs.Tokens.{is_blank, is_upper, is_lower, goes_on_word, is_var, is_small_word, is_reserved, reserved, token_of}
+use Rattle.oz_semantics.specs.Tokens.{is_upper, is_lower, goes_on_word, is_var, is_small_word, is_reserved, reserved, token_of}
 use Rattle.oz_semantics.specs.declared.syntax.Token.{Token}
 use Rattle.oz_semantics.specs.declared.syntax.Token.TheVariants.{OpenBrace, CloseBrace, Equals, Box, Var, Atom, Reserved}
 use Rattle.oz_reader.specs.Lexing.{IsTokenLength, begins_box}
@@ -122,9 +121,6 @@ word_some b bs l h n =
     (later_none (is_reserved (b ∷ bs)) (Reserved (b ∷ bs)) _ (later_none (list_eq (b ∷ bs) (codes "[]")) Box _ (later_none (list_eq (b ∷ bs) (codes "=")) Equals _ (later_none (list_eq (b ∷ bs) (codes "}")) CloseBrace _ (later_none (list_eq (b ∷ bs) (codes "{")) OpenBrace _ n))))) in
     let f = word_false b bs e.0 e.1 h in
     cc
-
-letter_goes_on : (b : ℕ) → is_letter b ≡ true → goes_on_word b ≡ true
-letter_goes_on b h = or_left _ _ (or_left _ _ h)
 
 letter_byte : (b c : ℕ) → is_letter b ≡ true → is_letter c ≡ false → (b == c) ≡ false
 letter_byte b c h k = not_true (b == c) (λ e. let q : b ≡ c = grind (arith, nat_tests) in let f : is_letter b ≡ false = ap is_letter q ∙ k in cc)

@@ -14,16 +14,16 @@ use Rattle.oz_semantics.specs.declared.kernel.Statement.{Statement}
 use Rattle.oz_semantics.specs.declared.kernel.Statement.TheVariants as kernel
 
 -- a number is kept while the words of an alternative join
-pub number_joined : (words : List (List ℕ)) (a : Alternative) (text : List ℕ) (n : ℕ) → number_in words text ≡ Some n → number_in (with_words words a) text ≡ Some n
+number_joined : (words : List (List ℕ)) (a : Alternative) (text : List ℕ) (n : ℕ) → number_in words text ≡ Some n → number_in (with_words words a) text ≡ Some n
 number_joined words (Equal atom) text n h = number_kept words text atom n h
 number_joined words Fail text n h = h
 
 -- and while those of alternatives do
-pub number_final : (alternatives : List Alternative) (words : List (List ℕ)) (text : List ℕ) (n : ℕ) → number_in words text ≡ Some n → number_in (fold with_words words alternatives) text ≡ Some n
+number_final : (alternatives : List Alternative) (words : List (List ℕ)) (text : List ℕ) (n : ℕ) → number_in words text ≡ Some n → number_in (fold with_words words alternatives) text ≡ Some n
 number_final [] words text n h = h
 number_final (a ∷ more) words text n h = number_final more (with_words words a) text n (number_joined words a text n h)
 
-pub number_is : (words : List (List ℕ)) (text : List ℕ) (n : ℕ) → number_in words text ≡ Some n → number_of words text ≡ n
+number_is : (words : List (List ℕ)) (text : List ℕ) (n : ℕ) → number_in words text ≡ Some n → number_of words text ≡ n
 number_is words text n h = ap (λ (o : Option ℕ). unwrap_or o 0) h
 
 -- so the statement of an alternative is the one by the words at the end
@@ -39,7 +39,7 @@ statement_kept v k (Equal atom) words more h =
 statement_kept v k Fail words more h = refl
 
 -- the words of a program before those of its alternatives
-abbrev pub first_words : Program → List (List ℕ)
+abbrev first_words : Program → List (List ℕ)
 first_words p = with_text (codes "Script" ∷ []) p.parameter
 
 -- Between the alternatives that were translated and those that are left.
@@ -47,9 +47,6 @@ pub record Translates (p : Program) (parameter : ℕ) (done : List Alternative) 
   pub joined : words ≡ fold with_words (first_words p) done
   pub numbered : number_in words p.parameter ≡ Some parameter
   pub made : statements ≡ first ++ map (alternative_statement (words_of p) p.parameter) done
-
-pub begins : (p : Program) (k : ℕ) (words : List (List ℕ)) (first : List Statement) → words ≡ first_words p → number_in words p.parameter ≡ Some k → Translates p k [] words first first
-begins p k words first e h = record { joined = e; numbered = h; made = sym (append-nil first) }
 
 words_at_end : (p : Program) (done more : List Alternative) (words : List (List ℕ)) → done ++ more ≡ p.alternatives → words ≡ fold with_words (first_words p) done → words_of p ≡ fold with_words words more
 unfolding words_of

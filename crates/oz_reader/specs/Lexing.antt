@@ -1,6 +1,6 @@
 -- The first token of a text.
-use Rattle.std.specs.Prelude.{ℕ, ◌≡◌, ◌<◌, ◌≤◌, ◌==◌, Bool, false, List, [], ◌∷◌, ◌++◌, length, take, Option, Some, None}
-use Rattle.oz_semantics.specs.Tokens.{token_of, HasTokens}
+use Rattle.std.specs.Prelude.{ℕ, ◌≡◌, ◌<◌, ◌≤◌, ◌==◌, Bool, false, List, [], ◌∷◌, length, take, Option, Some, None}
+use Rattle.oz_semantics.specs.Tokens.{token_of}
 use Rattle.oz_semantics.specs.declared.syntax.Token.{Token}
 
 -- no front of more bytes is a token, and where the front of n bytes is none, no shorter one is
@@ -13,11 +13,6 @@ pub record IsTokenLength (text : List ℕ) (n : ℕ) : Type 0 where
 abbrev pub begins_box : List ℕ → Bool
 begins_box [] = false
 begins_box (c ∷ cs) = c == 93
-
--- Between the tokens that were read and the text that is left: any tokens of the rest complete those of the text, and only such.
-pub record Reading (text rest : List ℕ) (done : List Token) : Type 0 where
-  pub more : (ts : List Token) → HasTokens rest ts → HasTokens text (done ++ ts)
-  pub less : (ts : List Token) → HasTokens text ts → (us : List Token) × (ts ≡ done ++ us) × HasTokens rest us
 
 -- a token was found at the front, or none is there
 abbrev pub FindsToken : List ℕ → Option (Token × ℕ) → Type 0

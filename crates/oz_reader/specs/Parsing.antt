@@ -1,5 +1,5 @@
 -- Reading the grammar from the left: each part gives what follows it.
-use Rattle.std.specs.Prelude.{ℕ, ◌&&◌, Bool, true, false, not, if◌then◌else◌, List, [], ◌∷◌, ◌++◌, Option, Some, None, suc, zero, length, codes, option_and_then}
+use Rattle.std.specs.Prelude.{ℕ, ◌&&◌, Bool, false, not, if◌then◌else◌, List, [], ◌∷◌, ◌++◌, Option, Some, None, suc, zero, length, codes, option_and_then}
 use Rattle.oz_base.specs.Lists.{list_eq, is_empty}
 use Rattle.oz_semantics.specs.declared.syntax.Token.{Token}
 use Rattle.oz_semantics.specs.declared.syntax.Token.TheVariants.{OpenBrace, CloseBrace, Equals, Box, Var, Atom, Reserved}

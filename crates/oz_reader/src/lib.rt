@@ -9,3 +9,6 @@ mod translation;
 
 pub use reader::read_program;
 pub use translation::translate;
+
+#[cfg(test)]
+mod tests;

@@ -1,5 +1,5 @@
-use Rattle.std.proofs.Common.{sym, ◌∙◌, ◌==◌, ◌+◌, subst, ℕ, ◌∷◌}
-use Rattle.oz_reader.specs.Lexing.{IsTokenLength, begins_box}
+use Rattle.std.proofs.Common.{sym, ◌==◌}
+use Rattle.oz_reader.specs.Lexing.{begins_box}
 use Rattle.oz_reader.proofs.Spellings.{word_length, box_by, other_length, and_true}
 use Rattle.oz_reader.proofs.lexer.token_len.Goals as goal
 

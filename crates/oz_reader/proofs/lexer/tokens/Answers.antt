@@ -1,7 +1,5 @@
-use Rattle.std.proofs.Common.{ℕ, arith, length-drop, sym, ◌∙◌, ◌≡◌, List, ◌++◌, ◌∷◌, [], ap, subst}
-use Rattle.oz_semantics.specs.declared.syntax.Token.{Token}
-use Rattle.oz_reader.specs.Lexing.{Reading}
-use Rattle.oz_reader.proofs.Streaming.{reading_blank, reading_token, reading_none, reading_ends, reading_only, empty_by_length, token_takes}
+use Rattle.std.proofs.Common.{ℕ, arith, length-drop, sym, List, subst}
+use Rattle.oz_reader.proofs.LexingLaws.{Reading, reading_blank, reading_token, reading_none, reading_ends, reading_only, empty_by_length, token_takes}
 use Rattle.oz_reader.proofs.lexer.tokens.Goals as goal
 
 pub tokens-preserved-then-is_blank : goal.tokens-preserved-then-is_blank

@@ -1,5 +1,5 @@
 use Rattle.std.proofs.Common.{length}
-use Rattle.oz_reader.specs.Lexing.{Reading}
+use Rattle.oz_reader.proofs.LexingLaws.{Reading}
 use Rattle.oz_reader.proofs.lexer.tokens.Given as goal
 
 abbrev pub invariant-tokens : goal.invariant-tokens

@@ -1,7 +1,4 @@
-use Rattle.std.proofs.Common.{◌≡◌, List, ◌++◌, ◌∷◌, [], sym, subst, ap}
-use Rattle.oz_semantics.specs.declared.syntax.Alternative.{Alternative}
-use Rattle.oz_reader.specs.Parsing.{alternatives_at}
-use Rattle.oz_reader.proofs.Alternatives.{Goes, begins, no_first, stops, fails, shorter, goes}
+use Rattle.oz_reader.proofs.Alternatives.{begins, no_first, stops, fails, shorter, goes}
 use Rattle.oz_reader.proofs.parser.alternatives_at.Goals as goal
 
 pub returns-in_default : goal.returns-in_default

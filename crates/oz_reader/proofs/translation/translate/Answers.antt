@@ -1,4 +1,3 @@
-use Rattle.std.proofs.Common.{◌≡◌, ℕ, ◌+◌, ◌++◌, ◌∷◌, [], List, take, arith}
 use Rattle.std.proofs.lemmas.List.{take_all}
 use Rattle.oz_reader.proofs.Translations.{translates_more, item_taken, first_is, script_is, kernel_is}
 use Rattle.oz_reader.proofs.translation.translate.Goals as goal

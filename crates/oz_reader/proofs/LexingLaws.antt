@@ -1,16 +1,15 @@
--- One step of reading tokens.
-use Rattle.std.proofs.Common.{◌≡◌, ◌≢◌, ℕ, zero, suc, ◌+◌, ◌-◌, ◌<◌, ◌≤◌, List, [], ◌∷◌, ◌++◌, Bool, true, false, ◌&&◌, ◌||◌, ◌==◌, ◌⊎◌, inl, inr, length-append, length-drop, cond, Option, Some, None, length, take, drop, refl, sym, ap, arith, ◌∙◌, subst, append_assoc, append-nil}
+-- Reading tokens, a blank or a token at a time.
+use Rattle.std.proofs.Common.{◌≡◌, ℕ, zero, suc, ◌+◌, ◌-◌, ◌<◌, ◌≤◌, List, [], ◌∷◌, ◌++◌, Bool, true, false, ◌||◌, ◌==◌, ◌⊎◌, inl, inr, length-append, length-drop, Option, Some, None, length, take, drop, refl, sym, ap, arith, ◌∙◌, subst, append_assoc, append-nil}
 use Rattle.std.specs.List.{list_all}
 use Rattle.std.proofs.lemmas.Bool.Decides.{nat_tests}
-use Rattle.std.proofs.lemmas.Grind.{common_steps}
 use Rattle.std.proofs.Math.Seq.{take-add, take-append_seam, drop-append_seam, take-append-add, take-nil}
 use Rattle.std.proofs.lemmas.List.{take-append-drop}
-use Rattle.oz_semantics.specs.Tokens.{is_blank, is_upper, is_lower, token_of, IsLongest, HasTokens}
+use Rattle.oz_semantics.specs.Tokens.{is_blank, token_of, IsLongest, HasTokens}
 use Rattle.oz_semantics.specs.declared.syntax.Token.{Token}
-use Rattle.oz_reader.specs.Lexing.{IsTokenLength, Reading}
-use Rattle.oz_reader.proofs.Spellings.{and_true, no_word}
+use Rattle.oz_reader.specs.Lexing.{IsTokenLength}
+use Rattle.oz_reader.proofs.Spellings.{and_true}
 
--- Blanks
+-- ---- blanks
 
 pub blank_more : (b : ℕ) (rest : List ℕ) (ts : List Token) → is_blank b ≡ true → HasTokens rest ts → HasTokens (b ∷ rest) ts
 blank_more b rest [] e h = rw e h
@@ -51,7 +50,7 @@ pub blank_less : (b : ℕ) (rest : List ℕ) (ts : List Token) → is_blank b �
 blank_less b rest [] e h = (and_true (is_blank b) (list_all is_blank rest) h).1
 blank_less b rest (t ∷ ts) e h = blank_gap b rest t ts h.0 h.1 h.2 e h.3 h.4 h.5 h.6 h.7
 
--- Tokens
+-- ---- tokens
 
 longest : (text : List ℕ) (n : ℕ) → IsTokenLength text n → IsLongest (take n text) (drop n text)
 longest text n l = λ k p q.
@@ -118,10 +117,12 @@ pub token_none : (b : ℕ) (bs : List ℕ) (n : ℕ) (ts : List Token) → IsTok
 token_none b bs n [] l e d h = let p = and_true (is_blank b) (list_all is_blank bs) h in let q = p.0 in cc
 token_none b bs n (t ∷ ts) l e d h = none_gap b bs n t h.0 h.1 h.2 l e d h.3 h.4 h.5
 
--- Reading
+-- ---- the loop over the text
 
-pub reading_begins : (text : List ℕ) → Reading text text []
-reading_begins text = record { more = λ ts h. h; less = λ ts h. (ts, refl, h) }
+-- Between the tokens that were read and the text that is left: any tokens of the rest complete those of the text, and only such.
+pub record Reading (text rest : List ℕ) (done : List Token) : Type 0 where
+  pub more : (ts : List Token) → HasTokens rest ts → HasTokens text (done ++ ts)
+  pub less : (ts : List Token) → HasTokens text ts → (us : List Token) × (ts ≡ done ++ us) × HasTokens rest us
 
 pub reading_blank : (text rest others : List ℕ) (b : ℕ) (done : List Token) → Reading text rest done → rest ≡ b ∷ others → is_blank b ≡ true → Reading text others done
 reading_blank text rest others b done r q e = record {
