@@ -4,7 +4,7 @@ ghost use Rattle.std.specs.List.{prefix_len, list_all, list_any};
 ghost use Rattle.oz_base.specs.Lists.{list_eq};
 ghost use Rattle.oz_semantics.specs.Tokens.{is_blank, is_upper, is_lower, goes_on_word, is_var, is_small_word, is_reserved};
 
-/// The words that are neither variables nor atoms.
+/// The reserved words.
 static RESERVED: [&[u8]; 48] = [
     b"andthen",
     b"case",
@@ -129,7 +129,7 @@ pub fn is_small_word(word: &[u8]) -> bool
 }
 
 /// Whether two texts have the same bytes.
-pub fn same(left: &[u8], right: &[u8]) -> bool
+pub fn same_bytes(left: &[u8], right: &[u8]) -> bool
     ensures { result ≡ list_eq left.now right.now }
 {
     left == right
@@ -145,5 +145,5 @@ pub fn is_reserved(word: &[u8]) -> bool
 fn is_among(word: &[u8], words: &[&[u8]]) -> bool
     ensures { result ≡ list_any (λ other. list_eq word.now other.now) words.now }
 {
-    words.iter().any(|other| same(word, other))
+    words.iter().any(|other| same_bytes(word, other))
 }

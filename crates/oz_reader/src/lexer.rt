@@ -4,12 +4,12 @@ ghost use Rattle.oz_semantics.specs.Tokens.{token_of, HasTokens};
 ghost use Rattle.oz_semantics.specs.declared.syntax.Token.{Token};
 ghost use Rattle.oz_reader.specs.Lexing.{IsTokenLength, begins_box, FindsToken};
 
-use crate::bytes::{is_blank, is_letter, is_reserved, is_small_word, is_var, same, word_len};
+use crate::bytes::{is_blank, is_letter, is_reserved, is_small_word, is_var, same_bytes, word_len};
 use oz_base::Sequence;
 use oz_semantics::Token;
 use std::alloc::{AllocError, Global};
 
-/// The tokens of a text, if it has any.
+/// The tokens of a text, each the longest that fits, or `None` where it has none.
 pub fn tokens(alloc: Global, text: &[u8]) -> Result<Option<Vec<Token>>, AllocError>
     ensures found { IfOk result (λ found. IfSome found (λ tokens. HasTokens text.now tokens.items)) }
     ensures only { IfOk result (λ found. IfSome found (λ tokens. (ts : List Token) → HasTokens text.now ts → ts ≡ tokens.items)) }
@@ -31,7 +31,7 @@ pub fn tokens(alloc: Global, text: &[u8]) -> Result<Option<Vec<Token>>, AllocErr
     Ok(Some(tokens))
 }
 
-/// The token at the front of a text, and how many bytes it takes.
+/// The token at the front of a text that begins with `first`, and how many bytes it takes.
 fn first_token(alloc: Global, first: u8, text: &[u8]) -> Result<Option<(Token, usize)>, AllocError>
     requires { (rest : List ℕ) × (text.now ≡ first ∷ rest) }
     ensures { IfOk result (FindsToken text.now) }
@@ -76,16 +76,16 @@ fn begins_box(rest: &[u8]) -> bool
 fn token_of(alloc: Global, bytes: &[u8]) -> Result<Option<Token>, AllocError>
     ensures { IfOk result (λ token. token ≡ token_of bytes.now) }
 {
-    if same(bytes, b"{") {
+    if same_bytes(bytes, b"{") {
         return Ok(Some(Token::OpenBrace));
     }
-    if same(bytes, b"}") {
+    if same_bytes(bytes, b"}") {
         return Ok(Some(Token::CloseBrace));
     }
-    if same(bytes, b"=") {
+    if same_bytes(bytes, b"=") {
         return Ok(Some(Token::Equals));
     }
-    if same(bytes, b"[]") {
+    if same_bytes(bytes, b"[]") {
         return Ok(Some(Token::Box));
     }
     if is_reserved(bytes) {

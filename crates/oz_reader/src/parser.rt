@@ -3,12 +3,12 @@ ghost use Rattle.std.specs.Prelude.{◌≡◌, IfOk, option_copied};
 ghost use Rattle.std.specs.Option.{option_map};
 ghost use Rattle.oz_reader.specs.Parsing.{word_at, var_at, atom_at, named_at, symbol_at, equal_at, alternative_at, alternatives_at, head_at, ends, program_at};
 
-use crate::bytes::same;
+use crate::bytes::same_bytes;
 use oz_base::{Copies, Sequence};
 use oz_semantics::{Alternative, Program, Token};
 use std::alloc::{AllocError, Global};
 
-/// The program of the tokens, if they are one's.
+/// The program that these tokens spell, if there is one.
 #[tactic(auto, unfolding(crate::specs::Parsing::program_at))]
 pub fn program_at(alloc: Global, tokens: &[Token]) -> Result<Option<Program>, AllocError>
     ensures { IfOk result (λ found. found ≡ program_at tokens.now) }
@@ -19,7 +19,7 @@ pub fn program_at(alloc: Global, tokens: &[Token]) -> Result<Option<Program>, Al
     let Some((alternatives, rest)) = alternatives_at(alloc, rest, parameter.as_slice())? else {
         return Ok(None);
     };
-    if !ends(rest) || same(parameter.as_slice(), b"Script") {
+    if !ends(rest) || same_bytes(parameter.as_slice(), b"Script") {
         return Ok(None);
     }
     Ok(Some(Program {
@@ -111,7 +111,7 @@ fn word_at<'a>(tokens: &'a [Token], word: &[u8]) -> Option<&'a [Token]>
 {
     let (first, rest) = tokens.split_first()?;
     match first {
-        Token::Reserved(text) if same(text.as_slice(), word) => Some(rest),
+        Token::Reserved(text) if same_bytes(text.as_slice(), word) => Some(rest),
         _ => None,
     }
 }
@@ -122,7 +122,7 @@ fn named_at<'a>(tokens: &'a [Token], name: &[u8]) -> Option<&'a [Token]>
 {
     let (first, rest) = tokens.split_first()?;
     match first {
-        Token::Var(text) if same(text.as_slice(), name) => Some(rest),
+        Token::Var(text) if same_bytes(text.as_slice(), name) => Some(rest),
         _ => None,
     }
 }

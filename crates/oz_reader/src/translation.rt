@@ -9,7 +9,8 @@ use oz_base::{Sequence, Words};
 use oz_semantics::{Alternative, Kernel, Program, Statement};
 use std::alloc::{AllocError, Global};
 
-/// The kernel of a program, whose words are numbered in the order in which they are first met.
+/// The kernel of a program. Its words are `Script`, the parameter and the atoms, numbered in the order in which they are
+/// first met, and its statements are those of the procedure, of the choice, and of each alternative.
 ///
 /// An error is want of memory.
 pub fn translate(alloc: Global, program: &Program) -> Result<Kernel, AllocError>
