@@ -1,1 +1,3 @@
 pub mod Trees
+mod Tops
+mod LeafLaws
