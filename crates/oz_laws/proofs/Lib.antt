@@ -1,3 +1,4 @@
 pub mod Trees
 mod Tops
 mod LeafLaws
+pub mod Budget
