@@ -2,3 +2,4 @@ pub mod Trees
 mod Tops
 mod LeafLaws
 pub mod Budget
+pub mod StoreLaws
