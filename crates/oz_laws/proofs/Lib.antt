@@ -1,5 +1,6 @@
-pub mod Trees
-mod Tops
-mod LeafLaws
+mod BoundLaws
 pub mod Budget
-pub mod StoreLaws
+mod LeafLaws
+mod StoreLaws
+mod Tops
+pub mod Trees

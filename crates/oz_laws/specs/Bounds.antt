@@ -1,0 +1,13 @@
+-- The bounds of runs and of trees do not matter where they are above the fuel.
+use Rattle.std.specs.Prelude.{ℕ, ◌≡◌, ◌<◌, List}
+use Rattle.oz_semantics.specs.Runs.{run_for}
+use Rattle.oz_semantics.specs.Search.{explored}
+use Rattle.oz_semantics.specs.declared.kernel.Statement.{Statement}
+use Rattle.oz_semantics.specs.declared.kernel.Kernel.{Kernel}
+use Rattle.oz_semantics.specs.declared.configuration.Configuration.{Configuration}
+
+abbrev pub BoundOfRun : Type 0
+BoundOfRun = (statements : List Statement) (space : List ℕ) (n m : ℕ) (c : Configuration) (fuel : ℕ) → fuel < n → fuel < m → run_for statements space n c fuel ≡ run_for statements space m c fuel
+
+abbrev pub BoundOfExplored : Type 0
+BoundOfExplored = (k : Kernel) (space : List ℕ) (n m : ℕ) (c : Configuration) (fuel : ℕ) → fuel < n → fuel < m → explored k space n c fuel ≡ explored k space m c fuel
