@@ -117,9 +117,11 @@ fits_itself ts h (Is x v) c =
 
 pub tests_consistent : TestsConsistent
 tests_consistent ts = (
-  λ e. record { agree = λ x y v w s c d.
-    let f : holds_of (is_like v) (value_of ts x) ≡ true = all_pass (fits ts) ts (Is x v) e c in
-    let g : holds_of (is_like w) (value_of ts y) ≡ true = all_pass (fits ts) ts (Is y w) e d in
-    both_like (value_of ts x) v w f (subst (λ z. holds_of (is_like w) (value_of ts z) ≡ true) (sym (same_equal ts x y s)) g) },
+  λ e. record {
+    agree = λ x y v w s c d.
+        let f : holds_of (is_like v) (value_of ts x) ≡ true = all_pass (fits ts) ts (Is x v) e c in
+        let g : holds_of (is_like w) (value_of ts y) ≡ true = all_pass (fits ts) ts (Is y w) e d in
+        both_like (value_of ts x) v w f (subst (λ z. holds_of (is_like w) (value_of ts z) ≡ true) (sym (same_equal ts x y s)) g);
+  },
   λ h. passes_all (fits ts) ts (fits_itself ts h),
 )

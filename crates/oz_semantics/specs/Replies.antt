@@ -5,6 +5,9 @@ use Rattle.oz_base.specs.Lists.{list_eq}
 use Rattle.oz_semantics.specs.Texts.{Printed, raise_text}
 use Rattle.oz_semantics.specs.Runs.{Ran, Ended, TopRaised, Over, run, opening}
 use Rattle.oz_semantics.specs.Search.{Found, depth_first, has_script, script_variable, search_space, with_root}
+use Rattle.oz_semantics.specs.Grammar.{Accepts, IsRefused}
+use Rattle.oz_semantics.specs.Translation.{kernel_of}
+use Rattle.oz_semantics.specs.declared.syntax.Program.{Program}
 use Rattle.oz_semantics.specs.declared.kernel.Kernel.{Kernel}
 use Rattle.oz_semantics.specs.declared.outcome.State.{State}
 use Rattle.oz_semantics.specs.declared.outcome.State.TheVariants as states
@@ -57,7 +60,7 @@ total test leaves = decimal (count_by (λ (leaf : Leaf). test leaf.state) leaves
 abbrev pub total_line : List Leaf → List ℕ
 total_line leaves =
     line (codes "total solved=" ++ total is_solved leaves ++ codes " stuck=" ++ total is_stuck leaves
-      ++ codes " raised=" ++ total is_raised leaves ++ codes " suspended=" ++ total is_suspended leaves)
+    ++ codes " raised=" ++ total is_raised leaves ++ codes " suspended=" ++ total is_suspended leaves)
 
 -- what a search that found these leaves writes
 unfoldable pub leaves_reply : List Leaf → List ℕ
@@ -118,6 +121,13 @@ kind_text Syntax = codes "syntax"
 
 abbrev pub refused_reply : RefusalKind → ℕ → List ℕ
 refused_reply kind at = line (codes "refused " ++ kind_text kind ++ codes " " ++ decimal at)
+
+-- What the program answers to its words, where the source has these bytes: a cause, and what is written.
+pub record IsReply (words : List (List ℕ)) (bytes : List ℕ) (answer : Answer) : Type 0 where
+  pub other_words : is_all words ≡ false → answer ≡ (causes.Usage, usage_reply)
+  pub too_large : is_all words ≡ true → text_limit < length bytes → answer ≡ (causes.TooLarge (text_limit + 1), too_large_reply)
+  pub refused : is_all words ≡ true → length bytes ≤ text_limit → IsRefused bytes → answer ≡ (causes.Refused Syntax 0, refused_reply Syntax 0)
+  pub accepted : is_all words ≡ true → length bytes ≤ text_limit → (p : Program) → Accepts bytes p → answer ≡ answer_to (kernel_of p) default_budget
 
 -- The status of a cause
 abbrev pub status_of : Cause → ℕ

@@ -1,0 +1,296 @@
+-- Which answer a text has, and what a call that ends with it has read and written.
+use Rattle.std.proofs.Common.{◌≡◌, ◌≢◌, ◌⊎◌, inl, inr, ℕ, ◌+◌, ◌-◌, ◌<◌, ◌≤◌, Bool, true, false, cond, List, [], ◌∷◌, ◌++◌, Option, Some, None, length, take, drop, nat_le, codes, refl, sym, subst, ap, arith, ◌∙◌, append-nil, length-append}
+use Rattle.std.proofs.lemmas.List.{drop_all}
+use Rattle.std.proofs.Math.Seq.{drop-append_seam}
+use Rattle.std.specs.Io.KnownBytes.{Appends, Consumes, IsAtEnd}
+use Rattle.oz_outside.specs.Counts.{Rose}
+use Rattle.oz_semantics.specs.Texts.{Printed, raise_text}
+use Rattle.oz_semantics.specs.Runs.{Ran, Ended, TopRaised, Over, run, opening}
+use Rattle.oz_semantics.specs.Search.{Found, depth_first, has_script, script_variable, search_space, with_root}
+use Rattle.oz_semantics.specs.Grammar.{Accepts, IsRefused}
+use Rattle.oz_semantics.specs.Translation.{kernel_of}
+use Rattle.oz_semantics.specs.Replies.{Answer, IsReply, line, spent, is_all, default_budget, text_limit, usage_reply, too_large_reply, refused_reply, answer_of_tree, answer_of_raise, answer_of_top, answer_to}
+use Rattle.oz_semantics.specs.declared.syntax.Program.{Program}
+use Rattle.oz_semantics.specs.declared.kernel.Kernel.{Kernel}
+use Rattle.oz_semantics.specs.declared.outcome.RefusalKind.TheVariants.{Syntax}
+use Rattle.oz_semantics.specs.declared.configuration.Configuration.{Configuration}
+use Rattle.oz_semantics.specs.declared.outcome.State.{State}
+use Rattle.oz_semantics.specs.declared.outcome.Cause.{Cause}
+use Rattle.oz_semantics.specs.declared.outcome.Cause.TheVariants as causes
+use Rattle.oz_laws.specs.Leaves.{found_text}
+use Rattle.oz_laws.proofs.Budget.{always_done}
+use Rattle.oz_machine.specs.Machines.{Loaded}
+use Rattle.oz_machine.specs.Answers.{IsRun}
+use Rattle.oz_machine.specs.declared.machine.Ran.TheVariants as ran
+use Rattle.oz_top.specs.Call.{Reading, Writing, HasRead, TextGives, AsText, Plans, IsDue, IsRead, Ends, Answers, IsExcused}
+
+-- a text gives the plan of the call
+pub plans_text : (words : List (List ℕ)) (old new : Reading) (text : List ℕ) (cause : Cause) (reply : List ℕ) → is_all words ≡ true → HasRead old new text → TextGives text cause reply → Plans words old new cause reply
+plans_text words old new text causes.Done reply w r g = (w, (text, r, g))
+plans_text words old new text (causes.Raised shown) reply w r g = (w, (text, r, g))
+plans_text words old new text (causes.Refused kind at) reply w r g = (w, (text, r, g))
+plans_text words old new text (causes.Spent total) reply w r g = (w, (text, r, g))
+plans_text words old new text causes.NoScript reply w r g = (w, (text, r, g))
+plans_text words old new text causes.NoMemory reply w r g = (w, g)
+plans_text words old new text causes.Usage reply w r g = absurd g
+plans_text words old new text causes.ReadFault reply w r g = absurd g
+plans_text words old new text causes.WriteFault reply w r g = absurd g
+plans_text words old new text (causes.TooLarge count) reply w r g = absurd g
+
+-- The answer to a kernel has one of four causes
+
+abbrev IsOwn : Answer → Type 0
+IsOwn (causes.Done, reply) = Unit {0}
+IsOwn (causes.Raised shown, reply) = Unit {0}
+IsOwn (causes.Spent total, reply) = Unit {0}
+IsOwn (causes.NoScript, reply) = Unit {0}
+IsOwn (causes.Refused kind at, reply) = ⊥
+IsOwn (causes.NoMemory, reply) = ⊥
+IsOwn (causes.Usage, reply) = ⊥
+IsOwn (causes.ReadFault, reply) = ⊥
+IsOwn (causes.WriteFault, reply) = ⊥
+IsOwn (causes.TooLarge count, reply) = ⊥
+
+own_if : (b : Bool) (x y : Answer) → IsOwn x → IsOwn y → IsOwn (cond b x y)
+own_if true x y h k = h
+own_if false x y h k = k
+
+own_tree : (budget : ℕ) (f : Found) → IsOwn (answer_of_tree budget f)
+own_tree budget None = tt
+own_tree budget (Some (leaves, left)) = tt
+
+own_raise : (budget left : ℕ) (printed : Printed) → IsOwn (answer_of_raise budget left printed)
+own_raise budget left printed = own_if (nat_le printed.nodes left) (causes.Raised printed.bytes, line (codes "raised " ++ printed.bytes)) (spent budget) tt tt
+
+own_top : (k : Kernel) (budget : ℕ) (r : Ran) → IsOwn (answer_of_top k budget r)
+own_top k budget (Over c) = tt
+own_top k budget (TopRaised c left raise) = own_raise budget left (raise_text raise)
+own_top k budget (Ended c left) = own_if (has_script c) _ _ (own_tree budget (depth_first k (search_space c) (with_root k.statements script_variable c) left)) tt
+
+own_answer : (k : Kernel) (budget : ℕ) → IsOwn (answer_to k budget)
+unfolding answer_to
+own_answer k budget = own_top k budget (run k.statements [] (opening k) budget)
+
+gives_own : (text : List ℕ) (p : Program) (cause : Cause) (reply : List ℕ) → Accepts text p → IsOwn (cause, reply) → ◌≡◌ {A = Answer} (cause, reply) (answer_to (kernel_of p) default_budget) → TextGives text cause reply
+gives_own text p causes.Done reply a o e = (p, a, sym e)
+gives_own text p (causes.Raised shown) reply a o e = (p, a, sym e)
+gives_own text p (causes.Spent total) reply a o e = (p, a, sym e)
+gives_own text p causes.NoScript reply a o e = (p, a, sym e)
+gives_own text p (causes.Refused kind at) reply a o e = absurd o
+gives_own text p causes.NoMemory reply a o e = absurd o
+gives_own text p causes.Usage reply a o e = absurd o
+gives_own text p causes.ReadFault reply a o e = absurd o
+gives_own text p causes.WriteFault reply a o e = absurd o
+gives_own text p (causes.TooLarge count) reply a o e = absurd o
+
+-- an accepted text
+pub accepted_gives : (text : List ℕ) (p : Program) (k : Kernel) (cause : Cause) (reply : List ℕ) → Accepts text p → k ≡ kernel_of p → ◌≡◌ {A = Answer} (cause, reply) (answer_to k default_budget) → TextGives text cause reply
+accepted_gives text p k cause reply a e h =
+    let whole : ◌≡◌ {A = Answer} (cause, reply) (answer_to (kernel_of p) default_budget) = h ∙ ap (λ (q : Kernel). answer_to q default_budget) e in
+    gives_own text p cause reply a (subst (λ (x : Answer). IsOwn x) (sym whole) (own_answer (kernel_of p) default_budget)) whole
+
+pub accepted_due : (text : List ℕ) (p : Program) (k : Kernel) (answer : Answer) → Accepts text p → ((q : Program) → Accepts text q → q ≡ p) → k ≡ kernel_of p → answer ≡ answer_to k default_budget → AsText text answer
+accepted_due text p k answer a only e h = record {
+  refused = λ n r. absurd (r p a);
+  accepted = λ n q b. h ∙ ap (λ (x : Kernel). answer_to x default_budget) e ∙ ap (λ (x : Program). answer_to (kernel_of x) default_budget) (sym (only q b));
+}
+
+-- a refused text
+pub refused_gives : (text : List ℕ) (cause : Cause) (reply : List ℕ) → IsRefused text → cause ≡ causes.Refused Syntax 0 → reply ≡ refused_reply Syntax 0 → TextGives text cause reply
+refused_gives text cause reply r c e = subst (λ (x : Cause). TextGives text x reply) (sym c) (r, refl, refl, e)
+
+pub refused_due : (text : List ℕ) (cause : Cause) (reply : List ℕ) → IsRefused text → cause ≡ causes.Refused Syntax 0 → reply ≡ refused_reply Syntax 0 → AsText text (cause, reply)
+refused_due text cause reply r c e = record {
+  refused = λ n q. ap (λ (x : Cause). (x, reply)) c ∙ ap (λ (x : List ℕ). (causes.Refused Syntax 0, x)) e;
+  accepted = λ n p a. absurd (r p a);
+}
+
+-- no memory for a text
+pub memory_gives : (text : List ℕ) (cause : Cause) (reply : List ℕ) → cause ≡ causes.NoMemory → reply ≡ [] → TextGives text cause reply
+memory_gives text cause reply c e = subst (λ (x : Cause). TextGives text x reply) (sym c) e
+
+pub memory_due : (text : List ℕ) (cause : Cause) (reply : List ℕ) → cause ≡ causes.NoMemory → AsText text (cause, reply)
+memory_due text cause reply c = record { refused = λ n r. absurd (n c); accepted = λ n p a. absurd (n c) }
+
+-- Reading
+
+-- what was read to the end is all that there was
+whole_read : (before after : Option (List ℕ)) (bytes text : List ℕ) → before ≡ Some bytes → Consumes before after text → IsAtEnd after → (text ≡ bytes) × (after ≡ Some [])
+whole_read None after bytes text b c e = cc
+whole_read (Some xs) None bytes text b c e = absurd c
+whole_read (Some xs) (Some ys) bytes text b c e =
+    let same : xs ≡ bytes = cc in
+    let all : xs ≡ text = c ∙ ap (λ zs. text ++ zs) e ∙ append-nil text in
+    (sym all ∙ same, ap Some e)
+
+part_read : (before after : Option (List ℕ)) (bytes text : List ℕ) → before ≡ Some bytes → length text ≡ text_limit + 1 → Consumes before after text → (text_limit < length bytes) × (after ≡ Some (drop (text_limit + 1) bytes))
+part_read None after bytes text b l c = cc
+part_read (Some xs) None bytes text b l c = absurd c
+part_read (Some xs) (Some ys) bytes text b l c =
+    let same : xs ≡ bytes = cc in
+    let long = ap length c ∙ length-append text ys in
+    let size = ap length same in (
+      omega arith,
+      ap Some (sym (drop-append_seam text ys) ∙ ap (λ n. drop n (text ++ ys)) l ∙ ap (drop (text_limit + 1)) (sym c ∙ same)),
+    )
+
+-- a text that was read to its end
+pub due_text : (words : List (List ℕ)) (bytes text : List ℕ) (before after : Option (List ℕ)) (answer : Answer) → is_all words ≡ true → before ≡ Some bytes → Consumes before after text → IsAtEnd after → length text ≤ text_limit
+    → AsText text answer → IsDue words bytes answer.0 answer.1
+due_text words bytes text before after answer w b c e l a =
+    let same = (whole_read before after bytes text b c e).0 in
+    λ read memory. record {
+      other_words = λ o. absurd (let k : true ≡ false = sym w ∙ o in cc);
+      too_large = λ h long. absurd (let k = ap length same in omega arith);
+      refused = λ h short r. a.refused memory (subst (λ (xs : List ℕ). IsRefused xs) (sym same) r);
+      accepted = λ h short p q. a.accepted memory p (subst (λ (xs : List ℕ). Accepts xs p) (sym same) q);
+    }
+
+pub read_text : (bytes text : List ℕ) (before after : Option (List ℕ)) (cause : Cause) → before ≡ Some bytes → Consumes before after text → IsAtEnd after → length text ≤ text_limit → IsRead bytes after cause
+read_text bytes text before after cause b c e l =
+    let all = whole_read before after bytes text b c e in
+    let k = ap length all.0 in
+    λ read memory. all.1 ∙ ap Some (sym (drop_all (text_limit + 1) bytes (omega arith)))
+
+-- a text that is too large
+pub plans_large : (words : List (List ℕ)) (old new : Reading) (cause : Cause) (reply : List ℕ) → is_all words ≡ true → ((bytes : List ℕ) × (length bytes ≡ text_limit + 1) × Consumes old.left new.left bytes)
+    → ((cause ≡ causes.TooLarge (text_limit + 1)) × (reply ≡ too_large_reply)) ⊎ ((cause ≡ causes.NoMemory) × (reply ≡ [])) → Plans words old new cause reply
+plans_large words old new cause reply w r (inl h) = subst (λ (x : Cause). Plans words old new x reply) (sym h.0) (w, refl, r, h.1)
+plans_large words old new cause reply w r (inr h) = subst (λ (x : Cause). Plans words old new x reply) (sym h.0) (w, h.1)
+
+pub due_large : (words : List (List ℕ)) (bytes text : List ℕ) (before after : Option (List ℕ)) (cause : Cause) (reply : List ℕ) → is_all words ≡ true → before ≡ Some bytes → length text ≡ text_limit + 1 → Consumes before after text
+    → ((cause ≡ causes.TooLarge (text_limit + 1)) × (reply ≡ too_large_reply)) ⊎ ((cause ≡ causes.NoMemory) × (reply ≡ [])) → IsDue words bytes cause reply
+due_large words bytes text before after cause reply w b l c (inr h) = λ read memory. absurd (memory h.0)
+due_large words bytes text before after cause reply w b l c (inl h) =
+    let long = (part_read before after bytes text b l c).0 in
+    λ read memory. record {
+      other_words = λ o. absurd (let k : true ≡ false = sym w ∙ o in cc);
+      too_large = λ a q. ap (λ (x : Cause). (x, reply)) h.0 ∙ ap (λ (x : List ℕ). (causes.TooLarge (text_limit + 1), x)) h.1;
+      refused = λ a short r. absurd (omega arith);
+      accepted = λ a short p q. absurd (omega arith);
+    }
+
+pub read_large : (bytes text : List ℕ) (before after : Option (List ℕ)) (cause : Cause) → before ≡ Some bytes → length text ≡ text_limit + 1 → Consumes before after text → IsRead bytes after cause
+read_large bytes text before after cause b l c = λ read memory. (part_read before after bytes text b l c).1
+
+-- Writing
+
+nothing_less : (n : ℕ) (reply : List ℕ) → reply ≡ [] → n < length reply → ⊥
+nothing_less n reply e h = let k = ap length e in omega arith
+
+-- what writes nothing ends as planned
+pub ends_silent : (planned : Cause) (reply : List ℕ) (before after : Writing) (cause : Cause) → reply ≡ [] → Ends planned reply before after cause → cause ≡ planned
+ends_silent planned reply before after cause e (inl h) = h.0
+ends_silent planned reply before after cause e (inr h) = absurd (nothing_less h.2.0 reply e h.2.1)
+
+whole_written : (old new : Option (List ℕ)) (before reply : List ℕ) → old ≡ Some before → Appends old new reply → new ≡ Some (before ++ reply)
+whole_written None new before reply o h = cc
+whole_written (Some xs) None before reply o h = absurd h
+whole_written (Some xs) (Some ys) before reply o h = let k : xs ≡ before = cc in ap Some (h ∙ ap (λ zs. zs ++ reply) k)
+
+-- The top
+
+pub top_ended : (kernel : Kernel) (budget steps : ℕ) (m d : Loaded) (top : List ℕ) (s : State) → top ≡ [] → m.kernel ≡ kernel → m.config ≡ opening kernel → d.kernel ≡ m.kernel
+    → IsRun d top budget (run m.kernel.statements top m.config budget) (ran.Ended s steps) → answer_of_top d.kernel budget (Ended d.config (budget - steps)) ≡ answer_to kernel budget
+unfolding answer_to
+top_ended kernel budget steps m d top s t k c e r =
+    let ran : run kernel.statements [] (opening kernel) budget ≡ Ended d.config (budget - steps) =
+    ap (λ (x : List ℕ). run kernel.statements x (opening kernel) budget) (sym t)
+    ∙ ap (λ (x : Configuration). run kernel.statements top x budget) (sym c)
+    ∙ ap (λ (x : Kernel). run x.statements top m.config budget) (sym k)
+    ∙ r.1 in
+    ap (λ (x : Kernel). answer_of_top x budget (Ended d.config (budget - steps))) (e ∙ k) ∙ ap (answer_of_top kernel budget) (sym ran)
+
+-- The whole call
+
+-- a planned cause that is no fault and no want of memory
+sound : (words : List (List ℕ)) (old new : Reading) (before after : Writing) (planned cause : Cause) (reply : List ℕ) → Plans words old new planned reply → Ends planned reply before after cause
+    → cause ≢ causes.ReadFault → cause ≢ causes.NoMemory → (planned ≢ causes.ReadFault) × (planned ≢ causes.NoMemory)
+sound words old new before after planned cause reply p e f m = (
+  λ k. f (ends_silent planned reply before after cause (subst (λ (x : Cause). Plans words old new x reply) k p).2 e ∙ k),
+  λ k. m (ends_silent planned reply before after cause (subst (λ (x : Cause). Plans words old new x reply) k p).1 e ∙ k),
+)
+
+-- The answer to words and bytes
+pub replied : (words : List (List ℕ)) (old new : Reading) (before after : Writing) (planned cause : Cause) (reply bytes : List ℕ) → Plans words old new planned reply → Ends planned reply before after cause
+    → IsDue words bytes planned reply → cause ≢ causes.ReadFault → cause ≢ causes.NoMemory
+    → (c : Cause) × (r : List ℕ) × IsReply words bytes (c, r) × Ends c r before after cause
+replied words old new before after planned cause reply bytes p e d f m =
+    let s = sound words old new before after planned cause reply p e f m in
+    (planned, reply, d s.0 s.1, e)
+
+pub replied_usage : (words : List (List ℕ)) (before after : Writing) (cause : Cause) (bytes : List ℕ) → is_all words ≡ false → Ends causes.Usage usage_reply before after cause
+    → (c : Cause) × (r : List ℕ) × IsReply words bytes (c, r) × Ends c r before after cause
+replied_usage words before after cause bytes w e = (
+  causes.Usage,
+  usage_reply,
+  record {
+    other_words = λ h. refl;
+    too_large = λ h. absurd (let k : true ≡ false = sym h ∙ w in cc);
+    refused = λ h. absurd (let k : true ≡ false = sym h ∙ w in cc);
+    accepted = λ h. absurd (let k : true ≡ false = sym h ∙ w in cc);
+  },
+  e,
+)
+
+pub read_by : (words : List (List ℕ)) (old new : Reading) (before after : Writing) (planned cause : Cause) (reply bytes : List ℕ) (left : Option (List ℕ)) → Plans words old new planned reply → Ends planned reply before after cause
+    → IsRead bytes left planned → IsRead bytes left cause
+read_by words old new before after planned cause reply bytes left p e r = λ f m.
+    let s = sound words old new before after planned cause reply p e f m in
+    r s.0 s.1
+
+-- a cause is excused, or it is no fault and no want of memory
+abbrev IsNoExcuse : Cause → Type 0
+IsNoExcuse cause = (cause ≢ causes.ReadFault) × (cause ≢ causes.WriteFault) × (cause ≢ causes.NoMemory)
+
+excused_or : (cause : Cause) → IsNoExcuse cause ⊎ IsExcused cause
+excused_or causes.ReadFault = inr (inl refl)
+excused_or causes.WriteFault = inr (inr (inl refl))
+excused_or causes.NoMemory = inr (inr (inr refl))
+excused_or causes.Done = inl (λ k. cc, λ k. cc, λ k. cc)
+excused_or causes.Usage = inl (λ k. cc, λ k. cc, λ k. cc)
+excused_or causes.NoScript = inl (λ k. cc, λ k. cc, λ k. cc)
+excused_or (causes.Raised shown) = inl (λ k. cc, λ k. cc, λ k. cc)
+excused_or (causes.Refused kind at) = inl (λ k. cc, λ k. cc, λ k. cc)
+excused_or (causes.Spent total) = inl (λ k. cc, λ k. cc, λ k. cc)
+excused_or (causes.TooLarge count) = inl (λ k. cc, λ k. cc, λ k. cc)
+
+abbrev pub Replied : List (List ℕ) → List ℕ → Writing → Writing → Cause → Type 0
+Replied words bytes before after cause = cause ≢ causes.ReadFault → cause ≢ causes.NoMemory → (c : Cause) × (r : List ℕ) × IsReply words bytes (c, r) × Ends c r before after cause
+
+-- where words and bytes ask for one answer
+answered : (words : List (List ℕ)) (bytes : List ℕ) (before after : Writing) (cause : Cause) (answer : Answer) → ((x : Answer) → IsReply words bytes x → x ≡ answer) → Replied words bytes before after cause
+    → cause ≢ causes.ReadFault → cause ≢ causes.WriteFault → cause ≢ causes.NoMemory → (cause ≡ answer.0) × Appends before.written after.written answer.1
+answered words bytes before after cause answer only h f w m = go (h f m)
+  where
+  go : ((c : Cause) × (r : List ℕ) × IsReply words bytes (c, r) × Ends c r before after cause) → (cause ≡ answer.0) × Appends before.written after.written answer.1
+  go (c, r, reply, inl e) =
+      let same : ◌≡◌ {A = Answer} (c, r) answer = only (c, r) reply in
+      (e.0 ∙ ap (λ (x : Answer). x.0) same, subst (λ (x : Answer). Appends before.written after.written x.1) same e.1)
+  go (c, r, reply, inr e) = absurd (w e.0)
+
+asked : (words : List (List ℕ)) (bytes : List ℕ) (before after : Writing) (cause : Cause) (answer : Answer) → ((x : Answer) → IsReply words bytes x → x ≡ answer) → Replied words bytes before after cause
+    → (cause ≡ answer.0) ⊎ IsExcused cause
+asked words bytes before after cause answer only h = go (excused_or cause)
+  where
+  go : IsNoExcuse cause ⊎ IsExcused cause → (cause ≡ answer.0) ⊎ IsExcused cause
+  go (inr e) = inr e
+  go (inl n) = inl (answered words bytes before after cause answer only h n.0 n.1 n.2).0
+
+pub asked_large : (words : List (List ℕ)) (bytes : List ℕ) (before after : Writing) (cause : Cause) → is_all words ≡ true → text_limit < length bytes → Replied words bytes before after cause
+    → (cause ≡ causes.TooLarge (text_limit + 1)) ⊎ IsExcused cause
+asked_large words bytes before after cause w l h = asked words bytes before after cause (causes.TooLarge (text_limit + 1), too_large_reply) (λ x r. r.too_large w l) h
+
+pub asked_refused : (words : List (List ℕ)) (bytes : List ℕ) (before after : Writing) (cause : Cause) → is_all words ≡ true → length bytes ≤ text_limit → IsRefused bytes → Replied words bytes before after cause
+    → (cause ≡ causes.Refused Syntax 0) ⊎ IsExcused cause
+asked_refused words bytes before after cause w l q h = asked words bytes before after cause (causes.Refused Syntax 0, refused_reply Syntax 0) (λ x r. r.refused w l q) h
+
+pub asked_done : (words : List (List ℕ)) (bytes : List ℕ) (p : Program) (before after : Writing) (cause : Cause) → is_all words ≡ true → length bytes ≤ text_limit → Accepts bytes p → Replied words bytes before after cause
+    → (cause ≡ causes.Done) ⊎ IsExcused cause
+asked_done words bytes p before after cause w l a h = asked words bytes before after cause (causes.Done, found_text p) (λ x r. r.accepted w l p a ∙ always_done bytes p l a) h
+
+pub leaves_written : (words : List (List ℕ)) (bytes front : List ℕ) (p : Program) (before after : Writing) (cause : Cause) → is_all words ≡ true → before.written ≡ Some front → length bytes ≤ text_limit → Accepts bytes p
+    → Replied words bytes before after cause → cause ≢ causes.ReadFault → cause ≢ causes.WriteFault → cause ≢ causes.NoMemory → (cause ≡ causes.Done) × (after.written ≡ Some (front ++ found_text p))
+leaves_written words bytes front p before after cause w o l a h f n m =
+    let d = answered words bytes before after cause (causes.Done, found_text p) (λ x r. r.accepted w l p a ∙ always_done bytes p l a) h f n m in
+    (d.0, whole_written before.written after.written front (found_text p) o d.1)

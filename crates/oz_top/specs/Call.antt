@@ -1,0 +1,84 @@
+-- What a call of the program answers, reads and writes.
+use Rattle.std.specs.Prelude.{ℕ, ◌≡◌, ◌≢◌, ◌<◌, ◌≤◌, ◌+◌, ◌⊎◌, true, false, List, [], take, drop, length, Option, Some, None}
+use Rattle.std.specs.Io.KnownBytes.{Appends, Consumes, IsAtEnd}
+use Rattle.oz_outside.specs.Counts.{Rose}
+use Rattle.oz_semantics.specs.Grammar.{Accepts, IsRefused}
+use Rattle.oz_semantics.specs.Translation.{kernel_of}
+use Rattle.oz_semantics.specs.Replies.{Answer, IsReply, is_all, default_budget, text_limit, usage_reply, too_large_reply, refused_reply, answer_to}
+use Rattle.oz_semantics.specs.declared.syntax.Program.{Program}
+use Rattle.oz_semantics.specs.declared.outcome.RefusalKind.{RefusalKind}
+use Rattle.oz_semantics.specs.declared.outcome.RefusalKind.TheVariants.{Syntax}
+use Rattle.oz_semantics.specs.declared.outcome.Cause.{Cause}
+use Rattle.oz_semantics.specs.declared.outcome.Cause.TheVariants as causes
+
+-- what a call sees of its source, and of its sink
+pub record Reading : Type 0 where
+  pub left : Option (List ℕ)
+  pub faults : ℕ
+
+pub record Writing : Type 0 where
+  pub written : Option (List ℕ)
+  pub faults : ℕ
+
+-- the source's bytes were read to their end, and they are this text
+pub record HasRead (old new : Reading) (text : List ℕ) : Type 0 where
+  pub read : Consumes old.left new.left text
+  pub ended : IsAtEnd new.left
+  pub fits : length text ≤ text_limit
+
+-- a text gives this cause and this reply, before anything is written
+abbrev pub TextGives : List ℕ → Cause → List ℕ → Type 0
+TextGives text (causes.Refused kind at) reply = IsRefused text × (kind ≡ Syntax) × (at ≡ 0) × (reply ≡ refused_reply kind at)
+TextGives text causes.Done reply = (p : Program) × Accepts text p × (answer_to (kernel_of p) default_budget ≡ (causes.Done, reply))
+TextGives text (causes.Raised shown) reply = (p : Program) × Accepts text p × (answer_to (kernel_of p) default_budget ≡ (causes.Raised shown, reply))
+TextGives text (causes.Spent total) reply = (p : Program) × Accepts text p × (answer_to (kernel_of p) default_budget ≡ (causes.Spent total, reply))
+TextGives text causes.NoScript reply = (p : Program) × Accepts text p × (answer_to (kernel_of p) default_budget ≡ (causes.NoScript, reply))
+TextGives text causes.NoMemory reply = reply ≡ []
+TextGives text causes.Usage reply = ⊥
+TextGives text causes.ReadFault reply = ⊥
+TextGives text causes.WriteFault reply = ⊥
+TextGives text (causes.TooLarge count) reply = ⊥
+
+-- The words and what was read of the source give this cause and this reply, before anything is written.
+abbrev pub Plans : List (List ℕ) → Reading → Reading → Cause → List ℕ → Type 0
+Plans words old new causes.Usage reply = (is_all words ≡ false) × (reply ≡ usage_reply)
+Plans words old new causes.ReadFault reply = (is_all words ≡ true) × Rose old.faults new.faults × (reply ≡ [])
+Plans words old new (causes.TooLarge count) reply =
+    (is_all words ≡ true) × (count ≡ text_limit + 1) × ((bytes : List ℕ) × (length bytes ≡ count) × Consumes old.left new.left bytes) × (reply ≡ too_large_reply)
+Plans words old new causes.NoMemory reply = (is_all words ≡ true) × (reply ≡ [])
+Plans words old new causes.WriteFault reply = ⊥
+Plans words old new (causes.Refused kind at) reply = (is_all words ≡ true) × ((text : List ℕ) × HasRead old new text × TextGives text (causes.Refused kind at) reply)
+Plans words old new causes.Done reply = (is_all words ≡ true) × ((text : List ℕ) × HasRead old new text × TextGives text causes.Done reply)
+Plans words old new (causes.Raised shown) reply = (is_all words ≡ true) × ((text : List ℕ) × HasRead old new text × TextGives text (causes.Raised shown) reply)
+Plans words old new (causes.Spent total) reply = (is_all words ≡ true) × ((text : List ℕ) × HasRead old new text × TextGives text (causes.Spent total) reply)
+Plans words old new causes.NoScript reply = (is_all words ≡ true) × ((text : List ℕ) × HasRead old new text × TextGives text causes.NoScript reply)
+
+-- The reply of a planned cause was written whole, and the cause is that one; or a write failed, and a part of it was written.
+abbrev pub Ends : Cause → List ℕ → Writing → Writing → Cause → Type 0
+Ends planned reply before after cause =
+    ((cause ≡ planned) × Appends before.written after.written reply)
+    ⊎ ((cause ≡ causes.WriteFault) × Rose before.faults after.faults × ((n : ℕ) × (n < length reply) × Appends before.written after.written (take n reply)))
+
+-- what a call that ends with this cause has read and written
+pub record Answers (words : List (List ℕ)) (old new : Reading) (before after : Writing) (cause : Cause) : Type 0 where
+  pub planned : Cause
+  pub reply : List ℕ
+  pub plans : Plans words old new planned reply
+  pub ends : Ends planned reply before after cause
+
+-- a fault that was counted, or want of memory
+abbrev pub IsExcused : Cause → Type 0
+IsExcused cause = (cause ≡ causes.ReadFault) ⊎ ((cause ≡ causes.WriteFault) ⊎ (cause ≡ causes.NoMemory))
+
+-- What each text asks for, where memory is there.
+pub record AsText (text : List ℕ) (answer : Answer) : Type 0 where
+  pub refused : answer.0 ≢ causes.NoMemory → IsRefused text → answer ≡ (causes.Refused Syntax 0, refused_reply Syntax 0)
+  pub accepted : answer.0 ≢ causes.NoMemory → (p : Program) → Accepts text p → answer ≡ answer_to (kernel_of p) default_budget
+
+-- The plan is the answer to the words and bytes, where nothing fails.
+abbrev pub IsDue : List (List ℕ) → List ℕ → Cause → List ℕ → Type 0
+IsDue words bytes cause reply = cause ≢ causes.ReadFault → cause ≢ causes.NoMemory → IsReply words bytes (cause, reply)
+
+-- All bytes were read, or one more than a text may have, where nothing fails.
+abbrev pub IsRead : List ℕ → Option (List ℕ) → Cause → Type 0
+IsRead bytes left cause = cause ≢ causes.ReadFault → cause ≢ causes.NoMemory → left ≡ Some (drop (text_limit + 1) bytes)

@@ -1,0 +1,9 @@
+//! The call that does all that the program does.
+#![tactic(auto)]
+
+mod call;
+mod open;
+mod reply;
+mod search;
+
+pub use call::{Outcome, oz_call};
