@@ -1,14 +1,13 @@
 -- The tests of the store agree with its definitions.
-use Rattle.std.proofs.Common.{◌≡◌, ◌↔◌, ◌==◌, ◌&&◌, ◌<◌, ℕ, zero, suc, ◌+◌, Bool, true, false, true≢false, if◌then◌else◌, List, [], ◌∷◌, length, Contains, Option, Some, None, refl, sym, ap, subst, arith, ◌∙◌}
-use Rattle.std.specs.Bool.{IsTrue}
-use Rattle.std.specs.List.{list_all, slice_index_or}
+use Rattle.std.proofs.Common.{◌≡◌, ◌==◌, ◌&&◌, ℕ, zero, suc, Bool, true, false, if◌then◌else◌, List, [], ◌∷◌, Contains, Option, Some, None, refl, sym, ap, subst, arith, ◌∙◌}
+use Rattle.std.specs.List.{list_all}
 use Rattle.std.proofs.lemmas.Bool.Decides.{nat_tests}
 use Rattle.oz_base.specs.Lists.{list_eq, given_or, first_given, holds_of}
 use Rattle.oz_base.specs.ListLaws.{list_eq-equivalence, list_eq-decides}
 use Rattle.oz_base.specs.Names.{ident_eq}
 use Rattle.oz_base.specs.declared.names.Ident.{Ident}
 use Rattle.oz_semantics.specs.Values.{is_like}
-use Rattle.oz_semantics.specs.Store.{Same, itself, reversed, joined, IsConsistent, same, value_given, value_of, fits, is_consistent, TestsSame, TestsConsistent}
+use Rattle.oz_semantics.specs.Store.{Same, itself, reversed, joined, IsConsistent, same, value_given, value_of, fits, TestsSame, TestsConsistent}
 use Rattle.oz_semantics.specs.declared.configuration.Value.{Value}
 use Rattle.oz_semantics.specs.declared.configuration.Value.TheVariants.{Atom, Procedure}
 use Rattle.oz_semantics.specs.declared.configuration.Tell.{Tell}
@@ -117,9 +116,11 @@ fits_itself ts h (Is x v) c =
 
 pub tests_consistent : TestsConsistent
 tests_consistent ts = (
-  λ e. record { agree = λ x y v w s c d.
-    let f : holds_of (is_like v) (value_of ts x) ≡ true = all_pass (fits ts) ts (Is x v) e c in
-    let g : holds_of (is_like w) (value_of ts y) ≡ true = all_pass (fits ts) ts (Is y w) e d in
-    both_like (value_of ts x) v w f (subst (λ z. holds_of (is_like w) (value_of ts z) ≡ true) (sym (same_equal ts x y s)) g) },
+  λ e. record {
+    agree = λ x y v w s c d.
+        let f : holds_of (is_like v) (value_of ts x) ≡ true = all_pass (fits ts) ts (Is x v) e c in
+        let g : holds_of (is_like w) (value_of ts y) ≡ true = all_pass (fits ts) ts (Is y w) e d in
+        both_like (value_of ts x) v w f (subst (λ z. holds_of (is_like w) (value_of ts z) ≡ true) (sym (same_equal ts x y s)) g);
+  },
   λ h. passes_all (fits ts) ts (fits_itself ts h),
 )
