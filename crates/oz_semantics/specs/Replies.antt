@@ -57,7 +57,7 @@ total test leaves = decimal (count_by (λ (leaf : Leaf). test leaf.state) leaves
 abbrev pub total_line : List Leaf → List ℕ
 total_line leaves =
     line (codes "total solved=" ++ total is_solved leaves ++ codes " stuck=" ++ total is_stuck leaves
-      ++ codes " raised=" ++ total is_raised leaves ++ codes " suspended=" ++ total is_suspended leaves)
+    ++ codes " raised=" ++ total is_raised leaves ++ codes " suspended=" ++ total is_suspended leaves)
 
 -- what a search that found these leaves writes
 unfoldable pub leaves_reply : List Leaf → List ℕ

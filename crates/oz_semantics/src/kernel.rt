@@ -6,7 +6,10 @@ use oz_base::Sequence;
 #[derive(Drop)]
 pub enum Statement {
     /// `X=a`
-    BindAtom { name: u32, atom: u32 },
+    BindAtom {
+        name: u32,
+        atom: u32,
+    },
     /// `X=proc {$ Y ..} S .. end`
     BindProcedure {
         name: u32,
@@ -14,7 +17,9 @@ pub enum Statement {
         body: Sequence<u32>,
     },
     /// `choice S .. [] S .. end`: the bodies of its alternatives.
-    Choice { alternatives: Sequence<Sequence<u32>> },
+    Choice {
+        alternatives: Sequence<Sequence<u32>>,
+    },
     /// `fail`
     Fail,
 }
