@@ -1,5 +1,5 @@
 -- Each turn that makes a step costs 1, so the bounds of runs and of trees do not matter where they are above the fuel.
-use Rattle.std.proofs.Common.{◌≡◌, ℕ, zero, suc, ◌+◌, ◌-◌, ◌<◌, ◌≤◌, nat_le, Bool, true, false, if◌then◌else◌, List, [], ◌∷◌, Option, Some, None, refl, sym, ap, arith, ◌∙◌}
+use Rattle.std.proofs.Common.{◌≡◌, ℕ, zero, suc, ◌+◌, ◌-◌, ◌<◌, nat_le, Bool, true, false, if◌then◌else◌, List, [], ◌∷◌, Option, Some, None, refl, sym, ap, arith, ◌∙◌}
 use Rattle.std.proofs.lemmas.Bool.Decides.{nat_tests}
 use Rattle.oz_base.specs.declared.names.Ident.{Ident}
 use Rattle.oz_semantics.specs.Names.{is_top}
@@ -7,7 +7,7 @@ use Rattle.oz_semantics.specs.Configurations.{layer_at, thread_at, in_layer, wit
 use Rattle.oz_semantics.specs.Statements.{Effect, Becomes, Raises, code_effect}
 use Rattle.oz_semantics.specs.Spaces.{goes_on}
 use Rattle.oz_semantics.specs.Schedule.{Turned, top_is_broken, settled, status_by, raised, after_effect, place_of, stepped_thread, stepped_layer, frames_in, turn_of, turn}
-use Rattle.oz_semantics.specs.Runs.{Ran, Ended, TopRaised, Over, paying, after_turn, run_for}
+use Rattle.oz_semantics.specs.Runs.{Ran, Ended, Over, paying, after_turn, run_for}
 use Rattle.oz_semantics.specs.Search.{explored}
 use Rattle.oz_semantics.specs.declared.kernel.Statement.{Statement}
 use Rattle.oz_semantics.specs.declared.kernel.Kernel.{Kernel}

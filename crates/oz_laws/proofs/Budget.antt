@@ -4,9 +4,9 @@ use Rattle.oz_base.specs.Lists.{list_eq}
 use Rattle.oz_semantics.specs.Tokens.{token_of, HasTokens, is_reserved, is_var, is_small_word}
 use Rattle.oz_semantics.specs.Grammar as grammar
 use Rattle.oz_semantics.specs.Grammar.{Accepts}
-use Rattle.oz_semantics.specs.Runs.{Ended, run_for}
+use Rattle.oz_semantics.specs.Runs.{Ended}
 use Rattle.oz_semantics.specs.Search.{depth_first, script_variable, with_root}
-use Rattle.oz_semantics.specs.Translation.{kernel_of, words_of, number_of}
+use Rattle.oz_semantics.specs.Translation.{kernel_of, words_of}
 use Rattle.oz_semantics.specs.Replies.{answer_of_tree, answer_of_top, answer_to}
 use Rattle.oz_semantics.specs.declared.syntax.Token.{Token}
 use Rattle.oz_semantics.specs.declared.syntax.Token.TheVariants.{OpenBrace, CloseBrace, Equals, Box, Var, Atom, Reserved}

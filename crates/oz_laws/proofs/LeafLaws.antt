@@ -1,5 +1,5 @@
 -- The leaves of a program are the atoms of its alternatives, left to right.
-use Rattle.std.proofs.Common.{◌≡◌, ℕ, true, zero, suc, ◌+◌, ◌-◌, ◌<◌, List, [], ◌∷◌, ◌++◌, Option, Some, None, length, map, slice_get, unwrap_or, refl, sym, ap, subst, arith, ◌∙◌, codes, length-append, append_assoc}
+use Rattle.std.proofs.Common.{◌≡◌, ℕ, true, zero, suc, ◌+◌, ◌-◌, ◌<◌, List, [], ◌∷◌, ◌++◌, Option, Some, length, map, slice_get, unwrap_or, refl, sym, ap, subst, arith, ◌∙◌, codes, length-append, append_assoc}
 use Rattle.std.specs.List.{range_with_len, fold}
 use Rattle.oz_base.specs.Words.{with_text, number_in}
 use Rattle.oz_base.proofs.WordsLaws.{text_at_number, number_kept, number_added}
@@ -10,7 +10,6 @@ use Rattle.oz_semantics.specs.declared.syntax.Program.{Program}
 use Rattle.oz_semantics.specs.declared.syntax.Alternative.{Alternative}
 use Rattle.oz_semantics.specs.declared.syntax.Alternative.TheVariants.{Equal, Fail}
 use Rattle.oz_semantics.specs.declared.kernel.Statement.{Statement}
-use Rattle.oz_semantics.specs.declared.kernel.Kernel.{Kernel}
 use Rattle.oz_semantics.specs.declared.configuration.Configuration.{Configuration}
 use Rattle.oz_semantics.specs.declared.outcome.State.TheVariants.{Solved}
 use Rattle.oz_laws.specs.Leaves.{leaf_of, leaves_of}
@@ -71,23 +70,23 @@ module _ (p : Program) where
   abbrev words : List (List ℕ)
   words = words_of p
 
-  abbrev v : ℕ
-  v = number_of words p.parameter
+  abbrev parameter : ℕ
+  parameter = number_of words p.parameter
 
   abbrev bodies : List (List ℕ)
   bodies = map (λ (n : ℕ). n ∷ []) (range_with_len 2 (length p.alternatives))
 
-  abbrev rest_of : List Statement
-  rest_of = map (alternative_statement words p.parameter) p.alternatives
+  abbrev alternative_statements : List Statement
+  alternative_statements = map (alternative_statement words p.parameter) p.alternatives
 
   abbrev statements : List Statement
   statements = (kernel_of p).statements
 
   abbrev pub ready : Configuration
-  ready = tops.ready words v bodies rest_of
+  ready = tops.ready words parameter bodies alternative_statements
 
   abbrev choosing : Configuration
-  choosing = tops.choosing words v bodies rest_of
+  choosing = tops.choosing words parameter bodies alternative_statements
 
   -- the root commits to its i-th alternative
   abbrev chosen : ℕ → Configuration
@@ -116,11 +115,11 @@ module _ (p : Program) where
   child visit i n (Equal atom) left t e k =
       let c : 3 + left ≡ suc (suc (suc left)) = omega arith in
       ap (λ (f : ℕ). found visit f (chosen i)) c
-      ∙ tops.atom_found words v bodies rest_of visit left i n (number_of words atom) e k
+      ∙ tops.atom_found words parameter bodies alternative_statements visit left i n (number_of words atom) e k
       ∙ ap (λ (text : List ℕ). Some (record { state = Solved; text = text } ∷ [], left)) t
   child visit i n Fail left t e k =
       let c : 2 + left ≡ suc (suc left) = omega arith in
-      ap (λ (f : ℕ). found visit f (chosen i)) c ∙ tops.fail_found words v bodies rest_of visit left i n e k
+      ap (λ (f : ℕ). found visit f (chosen i)) c ∙ tops.fail_found words parameter bodies alternative_statements visit left i n e k
 
   -- the alternatives from a place on
   from_place : (v w : Visit) → ((c : Configuration) (f : ℕ) → v c f ≡ found w f c) → (done rest : List Alternative) (left : ℕ) → p.alternatives ≡ done ++ rest
@@ -151,6 +150,6 @@ module _ (p : Program) where
   leaves_are_atoms left =
       let n = costs_of p.alternatives + left in
       let visit : Visit = explored (kernel_of p) root_space (suc (suc n)) in
-      tops.root_found words v bodies rest_of visit n
+      tops.root_found words parameter bodies alternative_statements visit n
       ∙ ap (λ (k : ℕ). visit_all visit (children statements root_space k choosing) n) (bodies_length 2 (length p.alternatives))
       ∙ from_place visit (explored (kernel_of p) root_space (suc n)) (λ c f. refl) [] p.alternatives left refl

@@ -1,14 +1,13 @@
 -- The tests of the store agree with its definitions.
-use Rattle.std.proofs.Common.{◌≡◌, ◌↔◌, ◌==◌, ◌&&◌, ◌<◌, ℕ, zero, suc, ◌+◌, Bool, true, false, true≢false, if◌then◌else◌, List, [], ◌∷◌, length, Contains, Option, Some, None, refl, sym, ap, subst, arith, ◌∙◌}
-use Rattle.std.specs.Bool.{IsTrue}
-use Rattle.std.specs.List.{list_all, slice_index_or}
+use Rattle.std.proofs.Common.{◌≡◌, ◌==◌, ◌&&◌, ℕ, zero, suc, Bool, true, false, if◌then◌else◌, List, [], ◌∷◌, Contains, Option, Some, None, refl, sym, ap, subst, arith, ◌∙◌}
+use Rattle.std.specs.List.{list_all}
 use Rattle.std.proofs.lemmas.Bool.Decides.{nat_tests}
 use Rattle.oz_base.specs.Lists.{list_eq, given_or, first_given, holds_of}
 use Rattle.oz_base.specs.ListLaws.{list_eq-equivalence, list_eq-decides}
 use Rattle.oz_base.specs.Names.{ident_eq}
 use Rattle.oz_base.specs.declared.names.Ident.{Ident}
 use Rattle.oz_semantics.specs.Values.{is_like}
-use Rattle.oz_semantics.specs.Store.{Same, itself, reversed, joined, IsConsistent, same, value_given, value_of, fits, is_consistent, TestsSame, TestsConsistent}
+use Rattle.oz_semantics.specs.Store.{Same, itself, reversed, joined, IsConsistent, same, value_given, value_of, fits, TestsSame, TestsConsistent}
 use Rattle.oz_semantics.specs.declared.configuration.Value.{Value}
 use Rattle.oz_semantics.specs.declared.configuration.Value.TheVariants.{Atom, Procedure}
 use Rattle.oz_semantics.specs.declared.configuration.Tell.{Tell}

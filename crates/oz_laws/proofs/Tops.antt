@@ -1,5 +1,5 @@
 -- The top of a program, the root of its search and the children of the root, computed.
-use Rattle.std.proofs.Common.{◌≡◌, ℕ, zero, suc, ◌+◌, ◌-◌, ◌==◌, nat_le, Bool, true, false, List, [], ◌∷◌, ◌++◌, Option, Some, None, length, slice_get, refl, sym, ap, arith, ◌∙◌}
+use Rattle.std.proofs.Common.{◌≡◌, ℕ, suc, ◌+◌, ◌-◌, ◌==◌, nat_le, true, List, [], ◌∷◌, Some, length, slice_get, refl, ap, arith, ◌∙◌}
 use Rattle.std.proofs.lemmas.Bool.Decides.{nat_tests}
 use Rattle.oz_base.specs.declared.names.Ident.{Ident}
 use Rattle.oz_semantics.specs.Names.{named, root_of}
@@ -12,7 +12,6 @@ use Rattle.oz_semantics.specs.declared.kernel.Statement.TheVariants as kernel
 use Rattle.oz_semantics.specs.declared.kernel.Kernel.{Kernel}
 use Rattle.oz_semantics.specs.declared.configuration.Binding.{Binding}
 use Rattle.oz_semantics.specs.declared.configuration.Configuration.{Configuration}
-use Rattle.oz_semantics.specs.declared.configuration.Frame.{Frame}
 use Rattle.oz_semantics.specs.declared.configuration.Layer.{Layer}
 use Rattle.oz_semantics.specs.declared.configuration.Status.{Status}
 use Rattle.oz_semantics.specs.declared.configuration.Status.TheVariants as status
@@ -39,16 +38,16 @@ abbrev pub root_space : List ℕ
 root_space = 1 ∷ []
 
 -- a program whose procedure has this parameter, these bodies of its choice and these statements from 2 on
-module _ (words : List (List ℕ)) (v : ℕ) (bodies : List (List ℕ)) (rest : List Statement) where
+module _ (words : List (List ℕ)) (parameter : ℕ) (bodies : List (List ℕ)) (rest : List Statement) where
   abbrev pub statements : List Statement
-  statements = kernel.BindProcedure 0 (v ∷ []) (1 ∷ []) ∷ kernel.Choice bodies ∷ rest
+  statements = kernel.BindProcedure 0 (parameter ∷ []) (1 ∷ []) ∷ kernel.Choice bodies ∷ rest
 
   abbrev pub program : Kernel
   program = record { words = words; statements = statements; body = 0 ∷ [] }
 
   -- the script is told
   abbrev script_told : List Tell
-  script_told = Is script_variable (value.Procedure (record { name = named [] 1; parameters = v ∷ []; body = 1 ∷ []; environment = opening_environment })) ∷ []
+  script_told = Is script_variable (value.Procedure (record { name = named [] 1; parameters = parameter ∷ []; body = 1 ∷ []; environment = opening_environment })) ∷ []
 
   -- the top with so many children given out
   abbrev top : ℕ → Layer
@@ -76,7 +75,7 @@ module _ (words : List (List ℕ)) (v : ℕ) (bodies : List (List ℕ)) (rest : 
   }
 
   abbrev environment : List Binding
-  environment = record { name = v; variable = root_of root_space } ∷ opening_environment
+  environment = record { name = parameter; variable = root_of root_space } ∷ opening_environment
 
   -- the root before a statement
   abbrev at_statement : ℕ → List Ident → Configuration
@@ -102,15 +101,15 @@ module _ (words : List (List ℕ)) (v : ℕ) (bodies : List (List ℕ)) (rest : 
   abbrev pub solved_child : ℕ → Configuration
   solved_child a = beside status.Open (Is (root_of root_space) (value.Atom a) ∷ []) [] []
 
-  pub atom_chosen : (i n a : ℕ) → slice_get bodies (i - 1) ≡ Some (n ∷ []) → slice_get statements n ≡ Some (kernel.BindAtom v a) → chosen_in statements root_space i choosing ≡ chosen_child n
+  pub atom_chosen : (i n a : ℕ) → slice_get bodies (i - 1) ≡ Some (n ∷ []) → slice_get statements n ≡ Some (kernel.BindAtom parameter a) → chosen_in statements root_space i choosing ≡ chosen_child n
   atom_chosen i n a e k = rw (e, k) refl
 
   pub fail_chosen : (i n : ℕ) → slice_get bodies (i - 1) ≡ Some (n ∷ []) → slice_get statements n ≡ Some kernel.Fail → chosen_in statements root_space i choosing ≡ chosen_child n
   fail_chosen i n e k = rw (e, k) refl
 
-  pub atom_runs : (fuel n a : ℕ) → slice_get statements n ≡ Some (kernel.BindAtom v a) → run statements root_space (chosen_child n) (suc fuel) ≡ Ended (solved_child a) fuel
+  pub atom_runs : (fuel n a : ℕ) → slice_get statements n ≡ Some (kernel.BindAtom parameter a) → run statements root_space (chosen_child n) (suc fuel) ≡ Ended (solved_child a) fuel
   unfolding run_for
-  atom_runs fuel n a k = rw (k, equals_itself v, equals_itself a, equals_itself a, pays fuel, one_less fuel) refl
+  atom_runs fuel n a k = rw (k, equals_itself parameter, equals_itself a, equals_itself a, pays fuel, one_less fuel) refl
 
   pub fail_runs : (fuel n : ℕ) → slice_get statements n ≡ Some kernel.Fail → run statements root_space (chosen_child n) (suc fuel) ≡ Ended failed_child fuel
   unfolding run_for
@@ -118,7 +117,7 @@ module _ (words : List (List ℕ)) (v : ℕ) (bodies : List (List ℕ)) (rest : 
 
   -- what the nodes find
 
-  pub atom_found : (visit : Configuration → ℕ → Found) (left i n a : ℕ) → slice_get bodies (i - 1) ≡ Some (n ∷ []) → slice_get statements n ≡ Some (kernel.BindAtom v a)
+  pub atom_found : (visit : Configuration → ℕ → Found) (left i n a : ℕ) → slice_get bodies (i - 1) ≡ Some (n ∷ []) → slice_get statements n ≡ Some (kernel.BindAtom parameter a)
       → found_at statements root_space visit (suc (suc (suc left))) (node_at program root_space (suc (suc (suc left))) (chosen_in statements root_space i choosing))
       ≡ Some (record { state = states.Solved; text = word_text words a } ∷ [], left)
   atom_found visit left i n a e k =

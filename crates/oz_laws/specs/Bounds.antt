@@ -6,8 +6,10 @@ use Rattle.oz_semantics.specs.declared.kernel.Statement.{Statement}
 use Rattle.oz_semantics.specs.declared.kernel.Kernel.{Kernel}
 use Rattle.oz_semantics.specs.declared.configuration.Configuration.{Configuration}
 
+-- of a run: how many turns at most
 abbrev pub BoundOfRun : Type 0
 BoundOfRun = (statements : List Statement) (space : List ℕ) (n m : ℕ) (c : Configuration) (fuel : ℕ) → fuel < n → fuel < m → run_for statements space n c fuel ≡ run_for statements space m c fuel
 
+-- of a tree: how many levels at most
 abbrev pub BoundOfExplored : Type 0
 BoundOfExplored = (k : Kernel) (space : List ℕ) (n m : ℕ) (c : Configuration) (fuel : ℕ) → fuel < n → fuel < m → explored k space n c fuel ≡ explored k space m c fuel
