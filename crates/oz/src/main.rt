@@ -22,6 +22,12 @@ fn main(rt: HostRuntime) -> ExitCode {
         // A word that is no text is in no command, and neither is the empty list.
         Err(_) => Vec::new(rt.alloc()),
     };
-    let outcome = oz_call(rt.alloc(), words.as_slice(), &mut source, &mut sink, &OpenGate);
+    let outcome = oz_call(
+        rt.alloc(),
+        words.as_slice(),
+        &mut source,
+        &mut sink,
+        &OpenGate,
+    );
     ExitCode::from(outcome.status)
 }

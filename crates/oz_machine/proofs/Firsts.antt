@@ -1,10 +1,8 @@
 -- The place that a search finds.
-use Rattle.std.proofs.Common.{◌≡◌, ℕ, ◌+◌, ◌<◌, suc, Bool, true, false, not, cond, List, [], ◌∷◌, Option, Some, None, length, refl, sym, ◌∙◌, ap, subst, arith, MatchOption}
+use Rattle.std.proofs.Common.{◌≡◌, ℕ, suc, Bool, true, false, List, [], ◌∷◌, Option, Some, None, refl, sym, ap, subst, arith, MatchOption}
 use Rattle.std.specs.Prelude.{position}
-use Rattle.std.specs.List.{find, prefix_len, position_or_len}
 use Rattle.std.specs.Option.{option_map}
 use Rattle.std.proofs.lemmas.Grind.{common_steps}
-use Rattle.oz_base.specs.Lists.{edit_first}
 use Rattle.oz_machine.specs.Places.{IsAbsent, IsFirst}
 
 abbrev pub Found : {A : Type 0} → (A → Bool) → List A → Option ℕ → Type 0

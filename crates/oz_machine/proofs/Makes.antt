@@ -1,9 +1,8 @@
 -- The procedure value that a statement makes.
-use Rattle.std.proofs.Common.{◌≡◌, ℕ, List, ap, ap₂}
+use Rattle.std.proofs.Common.{◌≡◌, ℕ, List, ap₂}
 use Rattle.oz_semantics.specs.Names.{named}
 use Rattle.oz_semantics.specs.Statements.{Place, procedure_made}
 use Rattle.oz_semantics.specs.declared.configuration.Binding.{Binding}
-use Rattle.oz_semantics.specs.declared.configuration.Procedure.{Procedure}
 use Rattle.oz_semantics.specs.declared.configuration.Layer.{Layer}
 use Rattle.oz_machine.specs.Moves.{IsPlaceIn}
 

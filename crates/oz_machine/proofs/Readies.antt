@@ -1,6 +1,5 @@
 -- What a call does, by whether its procedure is determined.
-use Rattle.std.proofs.Common.{◌≡◌, Bool, true, false, List, [], ◌∷◌, Option, Some, None, is_some, refl, if◌then◌else◌}
-use Rattle.std.specs.Option.{option_copied}
+use Rattle.std.proofs.Common.{◌≡◌, Bool, true, false, List, [], None, refl, if◌then◌else◌}
 use Rattle.oz_base.specs.declared.names.Ident.{Ident}
 use Rattle.oz_semantics.specs.Statements.{Steps, Waits, steps, waits_of, offer_of}
 

@@ -6,8 +6,8 @@ use Rattle.oz_semantics.specs.Names.{is_top}
 use Rattle.oz_semantics.specs.Configurations.{layer_at, thread_at, in_layer, without_gone, ending}
 use Rattle.oz_semantics.specs.Statements.{Effect, Becomes, Raises, code_effect}
 use Rattle.oz_semantics.specs.Spaces.{goes_on}
-use Rattle.oz_semantics.specs.Schedule.{Turned, top_is_broken, settled, status_by, raised, after_effect, place_of, stepped_thread, stepped_layer, stepped, frames_in, turn}
-use Rattle.oz_semantics.specs.Runs.{Ran, Ended, TopRaised, Over, paying, after_turn, run_for}
+use Rattle.oz_semantics.specs.Schedule.{Turned, top_is_broken, settled, status_by, raised, after_effect, place_of, stepped_thread, stepped_layer, frames_in, turn}
+use Rattle.oz_semantics.specs.Runs.{Ran, Ended, TopRaised, Over, after_turn, run_for}
 use Rattle.oz_semantics.specs.declared.kernel.Statement.{Statement}
 use Rattle.oz_semantics.specs.declared.configuration.Frame.{Frame}
 use Rattle.oz_semantics.specs.declared.configuration.Layer.{Layer}

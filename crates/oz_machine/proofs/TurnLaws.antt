@@ -1,11 +1,9 @@
 -- How the parts of a step make up the turn.
-use Rattle.std.proofs.Common.{◌≡◌, ℕ, ◌==◌, suc, Bool, true, false, cond, List, [], ◌∷◌, ◌++◌, Option, Some, None, position, length, take, drop, slice_index_or, slice_set, insert, refl, sym, subst, ap, ap₂, ◌∙◌}
-use Rattle.std.specs.Option.{option_map}
-use Rattle.oz_base.specs.Lists.{put_before}
+use Rattle.std.proofs.Common.{◌≡◌, ℕ, ◌==◌, Bool, true, false, cond, List, [], ◌∷◌, Option, Some, None, slice_set, refl, sym, subst, ap, ap₂, ◌∙◌}
 use Rattle.oz_base.specs.declared.names.Ident.{Ident}
-use Rattle.oz_semantics.specs.Configurations.{is_of, is_numbered, layer_at, thread_at, in_layer, in_thread, with_frames, without_gone}
+use Rattle.oz_semantics.specs.Configurations.{is_of, thread_at, in_layer, in_thread, with_frames, without_gone}
 use Rattle.oz_semantics.specs.Statements.{Place, Effect, Becomes, Raises, code_effect}
-use Rattle.oz_semantics.specs.Schedule.{Turned, settled, raised, after_effect, place_of, stepped_thread, stepped_layer, stepped, frames_in}
+use Rattle.oz_semantics.specs.Schedule.{settled, raised, after_effect, place_of, stepped_thread, stepped_layer, stepped, frames_in}
 use Rattle.oz_semantics.specs.Runs.{left_by}
 use Rattle.oz_semantics.specs.declared.kernel.Statement.{Statement}
 use Rattle.oz_semantics.specs.declared.configuration.Frame.{Frame}
@@ -14,11 +12,10 @@ use Rattle.oz_semantics.specs.declared.configuration.Layer.{Layer}
 use Rattle.oz_semantics.specs.declared.configuration.Configuration.{Configuration}
 use Rattle.oz_semantics.specs.declared.outcome.Raise.{Raise}
 use Rattle.oz_machine.specs.Places.{IsFirst}
-use Rattle.oz_machine.specs.Moves.{rest_of, moved, effect_of, HasPlan, IsPlaceIn}
+use Rattle.oz_machine.specs.Moves.{rest_of, moved, effect_of, HasPlan}
 use Rattle.oz_machine.specs.Settling.{is_settled}
 use Rattle.oz_machine.specs.declared.moves.Move.{Move}
 use Rattle.oz_machine.specs.declared.moves.Move.TheVariants as move
-use Rattle.oz_machine.proofs.Edits.{read_at, edited_by}
 
 -- what settling leaves
 pub left_settled : (statements : List Statement) (b : Bool) (c d : Configuration) → ((cost : ℕ) → settled statements None cost c ≡ is_settled b cost d) → (cost : ℕ) → left_by (settled statements None cost c) ≡ d

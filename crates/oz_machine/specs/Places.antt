@@ -1,5 +1,5 @@
 -- Where the first item that passes a test stands.
-use Rattle.std.specs.Prelude.{ℕ, ◌≡◌, ◌<◌, Bool, List, [], ◌∷◌, ◌++◌, Option, Some, None, length, insert, slice_index_or, slice_set}
+use Rattle.std.specs.Prelude.{ℕ, ◌≡◌, ◌<◌, Bool, List, [], ◌∷◌, ◌++◌, Some, None, length, insert, slice_index_or, slice_set}
 use Rattle.std.specs.List.{find}
 use Rattle.oz_base.specs.Lists.{edit_first, put_before}
 

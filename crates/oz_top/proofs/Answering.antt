@@ -1,9 +1,8 @@
 -- Which answer a text has, and what a call that ends with it has read and written.
-use Rattle.std.proofs.Common.{◌≡◌, ◌≢◌, ◌⊎◌, inl, inr, ℕ, ◌+◌, ◌-◌, ◌<◌, ◌≤◌, Bool, true, false, cond, List, [], ◌∷◌, ◌++◌, Option, Some, None, length, take, drop, nat_le, codes, refl, sym, subst, ap, arith, ◌∙◌, append-nil, length-append}
+use Rattle.std.proofs.Common.{◌≡◌, ◌≢◌, ◌⊎◌, inl, inr, ℕ, ◌+◌, ◌-◌, ◌<◌, ◌≤◌, Bool, true, false, cond, List, [], ◌++◌, Option, Some, None, length, drop, nat_le, codes, refl, sym, subst, ap, arith, ◌∙◌, append-nil, length-append}
 use Rattle.std.proofs.lemmas.List.{drop_all}
 use Rattle.std.proofs.Math.Seq.{drop-append_seam}
 use Rattle.std.specs.Io.KnownBytes.{Appends, Consumes, IsAtEnd}
-use Rattle.oz_outside.specs.Counts.{Rose}
 use Rattle.oz_semantics.specs.Texts.{Printed, raise_text}
 use Rattle.oz_semantics.specs.Runs.{Ran, Ended, TopRaised, Over, run, opening}
 use Rattle.oz_semantics.specs.Search.{Found, depth_first, has_script, script_variable, search_space, with_root}
@@ -22,7 +21,7 @@ use Rattle.oz_laws.proofs.Budget.{always_done}
 use Rattle.oz_machine.specs.Machines.{Loaded}
 use Rattle.oz_machine.specs.Answers.{IsRun}
 use Rattle.oz_machine.specs.declared.machine.Ran.TheVariants as ran
-use Rattle.oz_top.specs.Call.{Reading, Writing, HasRead, TextGives, AsText, Plans, IsDue, IsRead, Ends, Answers, IsExcused}
+use Rattle.oz_top.specs.Call.{Reading, Writing, HasRead, TextGives, AsText, Plans, IsDue, IsRead, Ends, IsExcused}
 
 -- a text gives the plan of the call
 pub plans_text : (words : List (List ℕ)) (old new : Reading) (text : List ℕ) (cause : Cause) (reply : List ℕ) → is_all words ≡ true → HasRead old new text → TextGives text cause reply → Plans words old new cause reply
@@ -263,19 +262,19 @@ answered : (words : List (List ℕ)) (bytes : List ℕ) (before after : Writing)
     → cause ≢ causes.ReadFault → cause ≢ causes.WriteFault → cause ≢ causes.NoMemory → (cause ≡ answer.0) × Appends before.written after.written answer.1
 answered words bytes before after cause answer only h f w m = go (h f m)
   where
-  go : ((c : Cause) × (r : List ℕ) × IsReply words bytes (c, r) × Ends c r before after cause) → (cause ≡ answer.0) × Appends before.written after.written answer.1
-  go (c, r, reply, inl e) =
-      let same : ◌≡◌ {A = Answer} (c, r) answer = only (c, r) reply in
-      (e.0 ∙ ap (λ (x : Answer). x.0) same, subst (λ (x : Answer). Appends before.written after.written x.1) same e.1)
-  go (c, r, reply, inr e) = absurd (w e.0)
+    go : ((c : Cause) × (r : List ℕ) × IsReply words bytes (c, r) × Ends c r before after cause) → (cause ≡ answer.0) × Appends before.written after.written answer.1
+    go (c, r, reply, inl e) =
+        let same : ◌≡◌ {A = Answer} (c, r) answer = only (c, r) reply in
+        (e.0 ∙ ap (λ (x : Answer). x.0) same, subst (λ (x : Answer). Appends before.written after.written x.1) same e.1)
+    go (c, r, reply, inr e) = absurd (w e.0)
 
 asked : (words : List (List ℕ)) (bytes : List ℕ) (before after : Writing) (cause : Cause) (answer : Answer) → ((x : Answer) → IsReply words bytes x → x ≡ answer) → Replied words bytes before after cause
     → (cause ≡ answer.0) ⊎ IsExcused cause
 asked words bytes before after cause answer only h = go (excused_or cause)
   where
-  go : IsNoExcuse cause ⊎ IsExcused cause → (cause ≡ answer.0) ⊎ IsExcused cause
-  go (inr e) = inr e
-  go (inl n) = inl (answered words bytes before after cause answer only h n.0 n.1 n.2).0
+    go : IsNoExcuse cause ⊎ IsExcused cause → (cause ≡ answer.0) ⊎ IsExcused cause
+    go (inr e) = inr e
+    go (inl n) = inl (answered words bytes before after cause answer only h n.0 n.1 n.2).0
 
 pub asked_large : (words : List (List ℕ)) (bytes : List ℕ) (before after : Writing) (cause : Cause) → is_all words ≡ true → text_limit < length bytes → Replied words bytes before after cause
     → (cause ≡ causes.TooLarge (text_limit + 1)) ⊎ IsExcused cause

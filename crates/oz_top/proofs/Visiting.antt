@@ -1,11 +1,9 @@
 -- What a visit of one node finds.
-use Rattle.std.proofs.Common.{◌≡◌, ◌≢◌, ℕ, zero, suc, ◌+◌, ◌-◌, ◌<◌, ◌≤◌, nat_le, if◌then◌else◌, true, List, [], ◌∷◌, ◌++◌, Option, Some, None, refl, sym, subst, ap, ap₂, arith, ◌∙◌, append-nil}
+use Rattle.std.proofs.Common.{◌≡◌, ◌≢◌, ℕ, zero, suc, ◌+◌, ◌-◌, ◌≤◌, nat_le, if◌then◌else◌, true, List, [], ◌∷◌, ◌++◌, Some, None, refl, sym, subst, ap, ap₂, arith, ◌∙◌, append-nil}
 use Rattle.std.proofs.lemmas.Bool.Decides.{nat_tests}
 use Rattle.oz_semantics.specs.Spaces.{state}
-use Rattle.oz_semantics.specs.Texts.{Printed}
 use Rattle.oz_semantics.specs.Runs as runs
-use Rattle.oz_semantics.specs.Search.{Node, Reached, At, Beyond, Found, with_front, then_find, visit_all, node_with, node_in_state, node_of_run, node_at, found_at, found_in_state, explored, state_text}
-use Rattle.oz_semantics.specs.declared.kernel.Statement.{Statement}
+use Rattle.oz_semantics.specs.Search.{At, Beyond, Found, with_front, then_find, visit_all, node_in_state, node_of_run, node_at, found_at, found_in_state, explored, state_text}
 use Rattle.oz_semantics.specs.declared.kernel.Kernel.{Kernel}
 use Rattle.oz_semantics.specs.declared.configuration.Configuration.{Configuration}
 use Rattle.oz_semantics.specs.declared.outcome.State.{State}
@@ -17,7 +15,7 @@ use Rattle.oz_machine.specs.Machines.{Loaded}
 use Rattle.oz_machine.specs.Answers.{IsRun, PrintsWithin}
 use Rattle.oz_machine.specs.declared.texts.Text.{Text}
 use Rattle.oz_machine.specs.declared.machine.Ran.TheVariants.{Ended}
-use Rattle.oz_top.specs.Searching.{children_by, leaf_by, leaves_of}
+use Rattle.oz_top.specs.Searching.{children_by, leaf_by}
 
 abbrev Visit : Type 0
 Visit = Configuration → ℕ → Found

@@ -1,12 +1,11 @@
 -- What a call of the program answers, reads and writes.
-use Rattle.std.specs.Prelude.{ℕ, ◌≡◌, ◌≢◌, ◌<◌, ◌≤◌, ◌+◌, ◌⊎◌, true, false, List, [], take, drop, length, Option, Some, None}
+use Rattle.std.specs.Prelude.{ℕ, ◌≡◌, ◌≢◌, ◌<◌, ◌≤◌, ◌+◌, ◌⊎◌, true, false, List, [], take, drop, length, Option, Some}
 use Rattle.std.specs.Io.KnownBytes.{Appends, Consumes, IsAtEnd}
 use Rattle.oz_outside.specs.Counts.{Rose}
 use Rattle.oz_semantics.specs.Grammar.{Accepts, IsRefused}
 use Rattle.oz_semantics.specs.Translation.{kernel_of}
 use Rattle.oz_semantics.specs.Replies.{Answer, IsReply, is_all, default_budget, text_limit, usage_reply, too_large_reply, refused_reply, answer_to}
 use Rattle.oz_semantics.specs.declared.syntax.Program.{Program}
-use Rattle.oz_semantics.specs.declared.outcome.RefusalKind.{RefusalKind}
 use Rattle.oz_semantics.specs.declared.outcome.RefusalKind.TheVariants.{Syntax}
 use Rattle.oz_semantics.specs.declared.outcome.Cause.{Cause}
 use Rattle.oz_semantics.specs.declared.outcome.Cause.TheVariants as causes

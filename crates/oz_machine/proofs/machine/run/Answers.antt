@@ -1,6 +1,6 @@
 use Rattle.std.proofs.Common.{◌≡◌, ◌∙◌, ◌-◌, ◌+◌, List, true, false, sym, subst, ap, arith}
 use Rattle.oz_semantics.specs.Spaces.{state}
-use Rattle.oz_semantics.specs.Schedule.{Turned, turn}
+use Rattle.oz_semantics.specs.Schedule.{turn}
 use Rattle.oz_semantics.specs.Runs.{Ended, TopRaised}
 use Rattle.oz_semantics.specs.declared.kernel.Statement.{Statement}
 use Rattle.oz_machine.proofs.RunLaws.{MayTurn, run_out, run_went, run_stopped, run_done}

@@ -1,4 +1,4 @@
-use Rattle.std.proofs.Common.{◌∙◌, sym, ap, ap₂}
+use Rattle.std.proofs.Common.{◌∙◌, sym, ap₂}
 use Rattle.oz_semantics.specs.Statements.{tells_then, counting_procedure}
 use Rattle.oz_semantics.specs.declared.configuration.Value.TheVariants.{Procedure}
 use Rattle.oz_machine.proofs.Makes.{made_in}

@@ -1,5 +1,5 @@
-use Rattle.std.proofs.Common.{◌∙◌, ◌∷◌, [], ◌++◌, cond, sym, ap, ap₂}
-use Rattle.oz_machine.proofs.StateLaws.{spaces_more, spaces_with, spaces_without}
+use Rattle.std.proofs.Common.{◌∙◌, ◌∷◌, [], ◌++◌, sym, ap, ap₂}
+use Rattle.oz_machine.proofs.StateLaws.{spaces_with, spaces_without}
 use Rattle.oz_semantics.specs.Schedule.{is_broken}
 use Rattle.oz_machine.proofs.settling.broken_spaces.Goals as goal
 use Rattle.oz_machine.proofs.settling.broken_spaces.Goals.{then-is_broken+in_ok-copied+in_ok-push, else-is_broken}

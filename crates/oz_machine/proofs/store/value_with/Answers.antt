@@ -1,4 +1,4 @@
-use Rattle.std.proofs.Common.{◌≡◌, ◌∙◌, sym, ap, Some, None}
+use Rattle.std.proofs.Common.{◌∙◌, sym, ap}
 use Rattle.oz_base.specs.Lists.{first_given, given_or}
 use Rattle.oz_base.specs.Names.{ident_eq}
 use Rattle.oz_semantics.specs.Store.{value_given}

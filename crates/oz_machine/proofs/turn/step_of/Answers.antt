@@ -1,4 +1,4 @@
-use Rattle.std.proofs.Common.{◌≡◌, ◌∙◌, List, Some, slice_set, sym, subst, ap}
+use Rattle.std.proofs.Common.{◌≡◌, ◌∙◌, Some, slice_set, sym, subst, ap}
 use Rattle.std.specs.Prelude.{IfOk}
 use Rattle.oz_semantics.specs.Configurations.{with_frames, without_gone}
 use Rattle.oz_semantics.specs.Schedule.{Turned, settled}

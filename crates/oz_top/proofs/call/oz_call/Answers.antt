@@ -1,5 +1,5 @@
 -- The clauses of the call that follow from its plan and from how the writing ended.
-use Rattle.std.proofs.Common.{ℕ, List, Bool, true, false, Some, map, ◌≡◌, sym, subst, ◌∙◌}
+use Rattle.std.proofs.Common.{ℕ, List, true, Some, map, ◌≡◌, sym, subst}
 use Rattle.std.specs.String.{string_bytes}
 use Rattle.oz_semantics.specs.Replies.{is_all}
 use Rattle.oz_top.specs.Call.{Reading, Writing, Plans, Ends}

@@ -1,5 +1,5 @@
-use Rattle.std.proofs.Common.{◌≡◌, ◌≤◌, ◌∙◌, List, [], ◌∷◌, suc, sym, subst, ap, ap₂, arith, refl}
-use Rattle.oz_semantics.specs.Search.{Found, with_front, visit_all, explored, depth_first}
+use Rattle.std.proofs.Common.{◌≤◌, ◌∙◌, List, ◌∷◌, suc, sym, subst, ap, ap₂, arith, refl}
+use Rattle.oz_semantics.specs.Search.{with_front, visit_all, explored, depth_first}
 use Rattle.oz_semantics.specs.declared.kernel.Kernel.{Kernel}
 use Rattle.oz_semantics.specs.declared.outcome.Leaf.{Leaf}
 use Rattle.oz_semantics.specs.declared.configuration.Configuration.{Configuration}

@@ -1,4 +1,4 @@
-use Rattle.std.proofs.Common.{◌∙◌, ◌+◌, refl, ap, ap₂}
+use Rattle.std.proofs.Common.{◌∙◌, ◌+◌, refl, ap}
 use Rattle.oz_semantics.specs.Search.{chosen_in}
 use Rattle.oz_machine.specs.Machines.{Loaded}
 use Rattle.oz_top.proofs.Opening.{opens_next}
