@@ -7,3 +7,6 @@ mod reply;
 mod search;
 
 pub use call::{Outcome, oz_call};
+
+#[cfg(test)]
+mod tests;

@@ -1,0 +1,6 @@
+proc {Script Colour}
+   choice Colour=red
+   [] Colour=green
+   [] Colour=blue
+   end
+end

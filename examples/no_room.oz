@@ -1,0 +1,5 @@
+proc {Script Room}
+   choice fail
+   [] fail
+   end
+end
