@@ -1,0 +1,4 @@
+pub mod Covers
+pub mod SetLaws
+pub mod IntervalLaws
+pub mod DomainLaws
