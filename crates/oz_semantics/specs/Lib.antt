@@ -1,1 +1,4 @@
 pub mod Domains
+pub mod Positions
+pub mod Relations
+pub mod Passes
