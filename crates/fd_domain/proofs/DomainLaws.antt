@@ -8,7 +8,7 @@ use Rattle.std.specs.Cmp.{int_cmp_total, Equal-is, tied_itself}
 use Rattle.std.specs.FinSet.{int_cmp-IsAntisymmetric}
 use Rattle.oz_base.specs.declared.interval.Interval.{Interval}
 use Rattle.oz_base.specs.declared.interval.TheConstants.{LEAST_VALUE, GREATEST_VALUE}
-use Rattle.oz_semantics.specs.Domains.{IntSet, Has, least, greatest, union, AreApart, IsInterval, IsDomain}
+use Rattle.oz_semantics.specs.Domains.{IntSet, Has, least, greatest, union, AreApart, AreIntervals, IsInterval, IsDomain}
 use Rattle.fd_domain.specs.declared.domain.Cut.TheVariants.{Changed}
 use Rattle.fd_domain.specs.Parts.{MakeDomain, IsPlace, clip, clipped, common, halves, interval_at, interval_has}
 use Rattle.fd_domain.specs.Cuts.{Keeps, is_other}
@@ -306,3 +306,10 @@ view_domain s ss e d =
       low = (in_domain ss (least (union ss)) d (has-covers ss (least (union ss)) (domain_has_least ss d))).0;
       high = (in_domain ss (greatest (union ss)) d (has-covers ss (greatest (union ss)) (domain_has_greatest ss d))).1;
     })
+
+-- a set has one list of intervals alone
+pub intervals_unique : (is js : List Interval) (s : IntSet) → AreIntervals is s → AreIntervals js s → is ≡ js
+intervals_unique is js s a b =
+    canonical (LEAST_VALUE -ℤ pos 1) GREATEST_VALUE (LEAST_VALUE -ℤ pos 1) GREATEST_VALUE is js a.apart b.apart
+    (λ q c. has-covers js q (subst (λ z. Has z q) (a.all ∙ sym b.all) (covers-has is q c)))
+    (λ q c. has-covers is q (subst (λ z. Has z q) (b.all ∙ sym a.all) (covers-has js q c)))
