@@ -13,3 +13,8 @@ pub mod Tokens
 pub mod Grammar
 pub mod Translation
 pub mod Replies
+pub mod Domains
+pub mod Positions
+pub mod Relations
+pub mod Passes
+pub mod Splits

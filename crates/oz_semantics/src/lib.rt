@@ -1,7 +1,8 @@
 //! What the language means: the plain data that the definitions in `specs/` speak of.
 //!
 //! The definitions, in the order in which to read them: `Names`, `Values`, `Kernels`, `Store`, `Configurations`,
-//! `Statements`, `Spaces`, `Schedule`, `Texts`, `Runs`, `Search`, `Tokens`, `Grammar`, `Translation`, `Replies`.
+//! `Statements`, `Spaces`, `Schedule`, `Texts`, `Runs`, `Search`, `Tokens`, `Grammar`, `Translation`, `Replies`. Those of
+//! finite domains stand apart: `Domains`, `Positions`, `Relations`, `Passes`, `Splits`.
 #![tactic(auto)]
 
 mod configuration;
