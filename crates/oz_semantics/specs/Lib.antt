@@ -1,0 +1,4 @@
+pub mod Paths
+pub mod Trees
+pub mod Histories
+pub mod Leaves
