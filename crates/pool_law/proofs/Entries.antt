@@ -223,8 +223,8 @@ pub fold_push : {A B : Type 0} (f : B → A → B) (b : B) (xs : List A) (x : A)
 fold_push f b [] x = refl
 fold_push f b (y ∷ xs) x = fold_push f (f b y) xs x
 
-pub held_push : (h : List Entry) (e : Entry) (w : ℕ) → claim_of (h ++ e ∷ []) w ≡ claim_after w (claim_of h w) e
-held_push h e w = fold_push (claim_after w) None h e
+pub claim_of_push : (h : List Entry) (e : Entry) (w : ℕ) → claim_of (h ++ e ∷ []) w ≡ claim_after w (claim_of h w) e
+claim_of_push h e w = fold_push (claim_after w) None h e
 
 pub out_to_push : (h : List Entry) (e : Entry) (w : ℕ) (q : List ℕ) → is_out_to (h ++ e ∷ []) w q ≡ ((list_any (claims_as w q) h || claims_as w q e) && not (is_settled h q || settles q e))
 out_to_push h e w q = rw (← any_push (claims_as w q) h e, ← settled_push h e q) refl
@@ -246,7 +246,7 @@ claim_holds h v q holds free unsettled w p =
           claim_true (list_any (claims_as w p) h) (is_settled h p) (same_path p q) gone (λ s. rw (same_is p q s) unsettled)
       | false ↦ λ e. sym (same_open (list_any (claims_as w p) h) (is_settled h p)) ∙ holds w p
     ] in
-    out_to_push h (Claim v q) w p ∙ (step (w == v) refl ∙ ap (λ o. is_at o p) (sym (held_push h (Claim v q) w)))
+    out_to_push h (Claim v q) w p ∙ (step (w == v) refl ∙ ap (λ o. is_at o p) (sym (claim_of_push h (Claim v q) w)))
 
 pub settle_holds : (h : List Entry) (v : ℕ) (q : List ℕ) (e : Entry) → ((w : ℕ) (p : List ℕ) → is_out_to h w p ≡ is_at (claim_of h w) p)
     → ((v' w : ℕ) (p : List ℕ) → list_any (claims_as v' p) h ≡ true → list_any (claims_as w p) h ≡ true → v' ≡ w) → is_out_to h v q ≡ true
@@ -260,7 +260,7 @@ settle_holds h v q e holds once here no_claim settled after w p =
       | true ↦ λ i. settle_true a t (same_path p q) (λ apart. holds w p ∙ other_free (claim_of h w) p q (sym (holds w q) ∙ rw (eqb-true w v i) here) apart)
       | false ↦ λ i. settle_false a t (same_path p q) (λ s. false_from_ne_true a (λ y. both_ways (w == v) i (eq-eqb w v (once w v p y (rw (same_is p q s) (and_parts (list_any (claims_as v q) h) (not (is_settled h q)) here).0))))) ∙ holds w p
     ] in
-    before ∙ (step (w == v) refl ∙ ap (λ o. is_at o p) (sym (held_push h e w ∙ after w (claim_of h w))))
+    before ∙ (step (w == v) refl ∙ ap (λ o. is_at o p) (sym (claim_of_push h e w ∙ after w (claim_of h w))))
 
 pub claim_once : (h : List Entry) (u : ℕ) (q : List ℕ) → ((v w : ℕ) (p : List ℕ) → list_any (claims_as v p) h ≡ true → list_any (claims_as w p) h ≡ true → v ≡ w) → is_claimed h q ≡ false
     → (v w : ℕ) (p : List ℕ) → list_any (claims_as v p) (h ++ Claim u q ∷ []) ≡ true → list_any (claims_as w p) (h ++ Claim u q ∷ []) ≡ true → v ≡ w
@@ -282,7 +282,7 @@ same_claims h e none once v w p a b =
     once v w p (back v a) (back w b)
 
 pub stop_holds : (h : List Entry) (x : Halt) → ((w : ℕ) (p : List ℕ) → is_out_to h w p ≡ is_at (claim_of h w) p) → (w : ℕ) (p : List ℕ) → is_out_to (h ++ Stop x ∷ []) w p ≡ is_at (claim_of (h ++ Stop x ∷ []) w) p
-stop_holds h x holds w p = out_to_push h (Stop x) w p ∙ (sym (same_open (list_any (claims_as w p) h) (is_settled h p)) ∙ (holds w p ∙ ap (λ o. is_at o p) (sym (held_push h (Stop x) w))))
+stop_holds h x holds w p = out_to_push h (Stop x) w p ∙ (sym (same_open (list_any (claims_as w p) h) (is_settled h p)) ∙ (holds w p ∙ ap (λ o. is_at o p) (sym (claim_of_push h (Stop x) w))))
 
 pub no_entry : (before : List Entry) (e : Entry) (after : List Entry) → [] ≡ before ++ e ∷ after → ⊥
 no_entry [] e after eq = absurd (cc (eq))

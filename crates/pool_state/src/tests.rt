@@ -1,4 +1,6 @@
-ghost use Rattle.std.specs.Prelude.{◌≡◌, ℕ, List, [], ◌∷◌, IfOk};
+ghost use Rattle.std.specs.Prelude.{◌≡◌, ℕ, List, [], ◌∷◌, None, IfOk};
+ghost use Rattle.std.specs.Bool.{OnTrue};
+ghost use Rattle.oz_semantics.specs.Histories.{claim_of};
 ghost use Rattle.oz_semantics.specs.declared.history.Entry.TheVariants.{Claim, Split};
 
 use super::*;
@@ -74,5 +76,38 @@ fn gives_the_leaves_in_path_order(rt: HostRuntime) -> Result<(), Fail> {
         panic!(rt; "there is a leaf")
     };
     assert!(rt; path.last() == 1 && *place == 5);
+    Ok(())
+}
+
+// Worker 0 takes a node, and says that it is a leaf. Whether that fits.
+#[tactic(auto, using(pool_law::proofs::Entries::claim_of_push))]
+fn end_one(pool: &mut PoolState) -> Result<bool, AllocError>
+    requires free { claim_of pool.old.history 0 ≡ None }
+    ensures free { IfOk result (λ more. OnTrue more (claim_of pool.new.history 0 ≡ None)) }
+{
+    let Claimed::Node(path) = pool.claim(0)? else {
+        return Ok(false);
+    };
+    let Settled::Done = pool.leaf(0, path, Outcome::Suspended, 1)? else {
+        return Ok(false);
+    };
+    Ok(true)
+}
+
+#[test]
+fn explores_a_million_leaves(rt: HostRuntime) -> Result<(), Fail> {
+    let mut pool = PoolState::new(rt.alloc(), 1_000_001)?;
+    let Claimed::Node(root) = pool.claim(0)? else {
+        panic!(rt; "the root is open")
+    };
+    let Settled::Done = pool.split(0, root, 1_000_000, 1)? else {
+        panic!(rt; "a step fits into the budget")
+    };
+    for _ in 0..1_000_000_u32 {
+        let more = end_one(&mut pool)?;
+        assert!(rt; more);
+    }
+    assert!(rt; pool.finished());
+    assert_eq!(rt; pool.end().leaves.len(), 1_000_000);
     Ok(())
 }
