@@ -8,13 +8,13 @@ use prog.Atomic.{either}
 use Rattle.std.proofs.lemmas.List.Elements.{filter-append}
 use Rattle.std.proofs.lemmas.List.Folds.{list_any-append}
 use Rattle.std.proofs.lemmas.List.{append-nil}
-use Rattle.std.proofs.lemmas.Bool.{cases_lt, both_ways, or_cases}
+use Rattle.std.proofs.lemmas.Bool.{cases_lt, both_ways, or_cases, or_right, false_from_ne_true}
 use Rattle.std.proofs.lemmas.Bool.Decides.{nat_tests}
 use Rattle.std.specs.Option.{option_or}
 use Rattle.atomic_table.specs.Table.{State, Me, Act, keeps, takes, gives, step, stepped, Valid, carried_after, Allows, Splits, Joins, opening, Final, Seen}
 use Rattle.atomic_table.proofs.Lists.{at_longer, at_set, set_here, set_else, set_again}
 use Rattle.turn_lock.specs.declared.kept.View.{View}
-use Rattle.turn_lock.specs.Views.{has, number, took, gave, giver, drawer, joined, longer, shorter, BeginsWith, spent_view, plus_one, or_zero}
+use Rattle.turn_lock.specs.Views.{has, IsOnceEach, number, took, gave, giver, drawer, joined, longer, shorter, BeginsWith, spent_view, plus_one, or_zero}
 use Rattle.turn_lock.specs.Turns as rule
 use Rattle.turn_lock.proofs.Prefixes.{prefix_self, prefix_trans, prefix_shorter, first_has, not_empty, set_self, in_range, same_place, at_end, length_set}
 
@@ -72,6 +72,7 @@ module _ {T F E : Type 0} (fixed : T → F) (entries : T → List E) (named : E 
                 told = tt;
                 owns = λ n hn. let o = mine.owns n hn in (o.0, o.1, ap (own n) (sym fr.history), o.3);
                 draws = mine.draws;
+                once = mine.once;
                 spent = λ none. absurd (not_empty v.numbers many none);
               }))
               (λ e. r.seats j u e.1)
@@ -93,6 +94,7 @@ module _ {T F E : Type 0} (fixed : T → F) (entries : T → List E) (named : E 
           record {
             later = rw fr.history mine.seen;
             told = rw fr.history mine.told;
+            once = mine.once;
             own_same = λ n hn. ap (own n) fr.history ∙ (mine.owns n hn).2;
             fixed_is = (mine.owns (number v) here).3 ∙ ap Some (sym fr.fixed_is);
           },
@@ -170,6 +172,7 @@ module _ {T F E : Type 0} (fixed : T → F) (entries : T → List E) (named : E 
               told = begins_later r.h h' v.told grew.0 mine.told;
               owns = λ n hn. let o = mine.owns n hn in (o.0, o.1, refl, o.3);
               draws = mine.draws;
+              once = mine.once;
               spent = λ none. refl;
             }))
             (λ e. let its = r.seats j u e.1 in record {
@@ -177,6 +180,7 @@ module _ {T F E : Type 0} (fixed : T → F) (entries : T → List E) (named : E 
               told = begins_later r.h h' u.told grew.0 its.told;
               owns = λ n hn. let o = its.owns n hn in (o.0, o.1, grew.1 n (λ same. e.0 (sym o.0 ∙ (ap r.owner same ∙ here.0))) ∙ o.2, o.3);
               draws = its.draws;
+              once = its.once;
               spent = its.spent;
             })
             (at_set s.views id j w u place);
@@ -233,6 +237,7 @@ module _ {T F E : Type 0} (fixed : T → F) (entries : T → List E) (named : E 
           told = tt;
           owns = λ n hn. (refl, (let z = only_zero n hn in omega arith), refl, refl);
           draws = λ k e. (refl, one_is k e);
+          once = (refl, tt);
           spent = λ none. refl;
         });
     lock = inl record {
@@ -350,6 +355,7 @@ module _ {T F E : Type 0} (fixed : T → F) (entries : T → List E) (named : E 
               told = mine.told;
               owns = λ n hn. let o = mine.owns n hn in (kept n o.1 ∙ o.0, (let lt = o.1 in omega arith), o.2, o.3);
               draws = λ m d. (last.0, next_is k m r.drawn last.1 (sym (ap plus_one draws) ∙ d));
+              once = mine.once;
               spent = mine.spent;
             }))
             (λ e. let its = r.seats j u e.1 in record {
@@ -357,6 +363,7 @@ module _ {T F E : Type 0} (fixed : T → F) (entries : T → List E) (named : E 
               told = its.told;
               owns = λ n hn. let o = its.owns n hn in (kept n o.1 ∙ o.0, (let lt = o.1 in omega arith), o.2, o.3);
               draws = λ m d. absurd (e.0 ((its.draws m d).0 ∙ sym last.0));
+              once = its.once;
               spent = its.spent;
             })
             (at_set s.views id j (giver v) u before))
@@ -372,6 +379,7 @@ module _ {T F E : Type 0} (fixed : T → F) (entries : T → List E) (named : E 
                     (mine.owns (number v) (first_has v.numbers many)).3,
                   );
               draws = λ m d. absurd (cc (d));
+              once = (refl, tt);
               spent = λ none. refl;
             })
             (at_end views' (drawer v) u j place);
@@ -408,6 +416,14 @@ module _ {T F E : Type 0} (fixed : T → F) (entries : T → List E) (named : E 
   -- ---- two seats become one
   has_either : (n : ℕ) (xs ys : List ℕ) → has n (xs ++ ys) ≡ true → (has n xs ≡ true) ⊎ (has n ys ≡ true)
   has_either n xs ys e = or_cases (has n xs) (has n ys) (sym (list_any-append (nat_eq n) xs ys) ∙ e)
+
+  once_both : (xs ys : List ℕ) → IsOnceEach xs → IsOnceEach ys → ((n : ℕ) → has n xs ≡ true → has n ys ≡ true → ⊥) → IsOnceEach (xs ++ ys)
+  once_both [] ys a b never = b
+  once_both (x ∷ xs) ys a b never =
+      let here : has x (x ∷ xs) ≡ true = grind (arith, nat_tests) in
+      let more : (n : ℕ) → has n xs ≡ true → has n (x ∷ xs) ≡ true = λ n h. or_right (nat_eq n x) (has n xs) h in
+      let off : has x ys ≡ false = false_from_ne_true (has x ys) (never x here) in
+      (list_any-append (nat_eq x) xs ys ∙ rw (a.0, off) refl, once_both xs ys a.1 b (λ n h g. never n (more n h) g))
 
   longer_cases : (xs ys : List E) (P : List E → Type 0) → (length ys ≤ length xs → P xs) → (length xs ≤ length ys → P ys) → P (longer xs ys)
   longer_cases xs ys P f g =
@@ -458,6 +474,7 @@ module _ {T F E : Type 0} (fixed : T → F) (entries : T → List E) (named : E 
               told = tt;
               owns = λ n hn. absurd (both_ways false refl hn);
               draws = λ k d. absurd (cc (d));
+              once = tt;
               spent = λ none. refl;
             })
             (λ e. ⊎_elim
@@ -473,6 +490,7 @@ module _ {T F E : Type 0} (fixed : T → F) (entries : T → List E) (named : E 
                   (λ a. let o = mine.draws k a in (keeps_root id o.0 not_other, o.1))
                   (λ b. let o = its.draws k b in (moves_root o.0, o.1))
                   (option_or_cases v.drawn w.drawn k d);
+              once = once_both v.numbers w.numbers mine.once its.once (λ n a b. apart (sym (its.owns n b).0 ∙ (mine.owns n a).0));
               spent = λ none. refl;
             }))
             (λ g. let theirs = r.seats j u g.1 in record {
@@ -480,6 +498,7 @@ module _ {T F E : Type 0} (fixed : T → F) (entries : T → List E) (named : E 
               told = theirs.told;
               owns = λ n hn. let o = theirs.owns n hn in (keeps_owner n j o.0 e.0, o.1, o.2, o.3);
               draws = λ k d. let o = theirs.draws k d in (keeps_root j o.0 e.0, o.1);
+              once = theirs.once;
               spent = theirs.spent;
             })
             (at_set s.views id j both u e.1))

@@ -5,7 +5,7 @@ use mathlib.Core.List.{IsPrefix}
 use lib.ListN.{get_elem?}
 use Rattle.atomic_table.specs.Table.{State, Me, Step}
 use Rattle.turn_lock.specs.declared.kept.View.{View}
-use Rattle.turn_lock.specs.Views.{has, number, took, gave, BeginsWith}
+use Rattle.turn_lock.specs.Views.{has, IsOnceEach, number, took, gave, BeginsWith}
 
 module _ {T F E : Type 0} (fixed : T → F) (entries : T → List E) (named : E → ℕ) where
   -- the entries that name n
@@ -17,6 +17,7 @@ module _ {T F E : Type 0} (fixed : T → F) (entries : T → List E) (named : E 
     pub seen : IsPrefix v.seen h
     pub told : BeginsWith h v.told
     pub owns : (n : ℕ) → has n v.numbers ≡ true → (owner n ≡ id) × (n < drawn) × (own n h ≡ own n v.seen) × (v.fixed ≡ Some f)
+    pub once : IsOnceEach v.numbers
     pub draws : (k : ℕ) → v.drawn ≡ Some k → (id ≡ root) × (k ≡ drawn)
     pub spent : v.numbers ≡ [] → v.turn ≡ false
 
@@ -55,11 +56,12 @@ module _ {T F E : Type 0} (fixed : T → F) (entries : T → List E) (named : E 
   abbrev pub opening_view : T → View F E
   opening_view x = record { fixed = Some (fixed x); numbers = 0 ∷ []; seen = []; told = []; drawn = Some 1; turn = false }
 
-  -- what a seat finds at its turn: the history begins with what it has seen, and has no entry more of its numbers
+  -- what a seat finds at its turn: the history begins with what it has seen, and has no entry more of its numbers, each of which it has once
   pub record Finds (v : View F E) (x : T) : Type 0 where
     pub later : IsPrefix v.seen (entries x)
     pub told : BeginsWith (entries x) v.told
     pub own_same : (n : ℕ) → has n v.numbers ≡ true → own n (entries x) ≡ own n v.seen
+    pub once : IsOnceEach v.numbers
     pub fixed_is : v.fixed ≡ Some (fixed x)
 
   abbrev pub Took : Me (Option T) (View F E) → Me (Option T) (View F E) → Type 0

@@ -10,6 +10,11 @@ use Rattle.turn_lock.specs.declared.kept.View.{View}
 abbrev pub has : ℕ → List ℕ → Bool
 has n ns = list_any (nat_eq n) ns
 
+-- none of these comes twice
+abbrev pub IsOnceEach : List ℕ → Type 0
+IsOnceEach [] = Unit {0}
+IsOnceEach (n ∷ ns) = (has n ns ≡ false) × IsOnceEach ns
+
 abbrev pub plus_one : Option ℕ → Option ℕ
 plus_one None = None
 plus_one (Some k) = Some (k + 1)
