@@ -2,9 +2,9 @@
 use Rattle.std.specs.Prelude.{◌≡◌, ◌<◌, ℕ, ◌+◌, nat_eq, nat_lt, Bool, true, false, List, [], ◌∷◌, ◌++◌, length, Option, Some, None, if◌then◌else◌}
 use Rattle.std.specs.List.{list_any}
 use Rattle.std.specs.Option.{option_or}
-use mathlib.Core.List.{IsPrefix}
 use Rattle.atomic_table.specs.Seated.{TableId}
 use Rattle.turn_lock.specs.declared.kept.View.{View}
+use Rattle.turn_lock.specs.declared.kept.Told.{Told}
 
 -- the number is one of these
 abbrev pub has : ℕ → List ℕ → Bool
@@ -23,20 +23,13 @@ abbrev pub or_zero : Option ℕ → ℕ
 or_zero None = 0
 or_zero (Some k) = k
 
+-- the first, or 0
 abbrev pub first : List ℕ → ℕ
 first [] = 0
 first (n ∷ ns) = n
 
 abbrev pub longer : {E : Type 0} → List E → List E → List E
 longer xs ys = if nat_lt (length xs) (length ys) then ys else xs
-
-abbrev pub shorter : {E : Type 0} → List E → List E → List E
-shorter xs ys = if nat_lt (length xs) (length ys) then xs else ys
-
--- h begins with each of these
-abbrev pub BeginsWith : {E : Type 0} → List E → List (List E) → Type 0
-BeginsWith h [] = Unit {0}
-BeginsWith h (t ∷ ts) = IsPrefix t h × BeginsWith h ts
 
 -- what contracts see of a seat or a turn
 pub record Known (F E : Type 0) : Type 0 where
@@ -67,9 +60,15 @@ module _ {F E : Type 0} where
   abbrev pub drawer : View F E → View F E
   drawer v = record { fixed = v.fixed; numbers = or_zero v.drawn ∷ []; seen = v.seen; told = []; drawn = None; turn = false }
 
-  abbrev pub joined : View F E → View F E → View F E
-  joined v w = record { fixed = v.fixed; numbers = v.numbers ++ w.numbers; seen = longer v.seen w.seen; told = v.told ++ (w.told ++ shorter v.seen w.seen ∷ []); drawn = option_or v.drawn w.drawn; turn = false }
+  -- what a seat tells the one that it becomes a part of
+  abbrev pub telling : View F E → Told E
+  telling v = record { numbers = v.numbers; seen = v.seen }
 
+  -- one seat for the numbers of both, which has seen what either had seen
+  abbrev pub joined : View F E → View F E → View F E
+  joined v w = record { fixed = v.fixed; numbers = v.numbers ++ w.numbers; seen = longer v.seen w.seen; told = v.told ++ (w.told ++ telling v ∷ telling w ∷ []); drawn = option_or v.drawn w.drawn; turn = false }
+
+  -- of a seat that has become a part of another
   abbrev pub spent_view : View F E
   spent_view = record { fixed = None; numbers = []; seen = []; told = []; drawn = None; turn = false }
 

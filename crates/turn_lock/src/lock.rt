@@ -1,7 +1,7 @@
 //! The lock.
 ghost use Rattle.std.specs.Prelude.{◌≡◌, ℕ, ◌<◌, ◌≤◌, ◌^◌, true, false, [], ◌∷◌, length, Some, None, IfOk, MatchBool, ◌%◌};
-ghost use Rattle.turn_lock.specs.Views.{BeginsWith, StandsForAll, took, gave, giver, drawer, joined};
-ghost use Rattle.turn_lock.specs.Turns.{opening_view, Finds, Took, Grows};
+ghost use Rattle.turn_lock.specs.Views.{StandsForAll, took, gave, giver, drawer, joined};
+ghost use Rattle.turn_lock.specs.Turns.{opening_view, AllTold, Finds, Took, Grows};
 
 use crate::kept::{Kept, View};
 use crate::plays::{Both, Draw, Give, Take, Turns};
@@ -60,7 +60,7 @@ impl<T: Kept> Model for Turn<T> {
 
     ghost view = { λ t. known t.place.table_id t.place.me.0 };
 
-    ghost invariant = { λ t. (t.place.me.1 ≡ (0, None) ∷ []) × (t.place.me.0.turn ≡ true) × (0 < length t.place.me.0.numbers) };
+    ghost invariant = { λ t. (t.place.me.1 ≡ (0, None) ∷ []) × (t.place.me.0.turn ≡ true) × (0 < length t.place.me.0.numbers) × (t.place.me.0.told ≡ []) };
 }
 
 impl<T: Kept> TurnLock<T> {
@@ -177,7 +177,7 @@ impl<T: Kept> TurnLock<T> {
         requires lock { seat.lock ≡ self }
         requires all { StandsForAll seat.view }
         ensures history { T.entries result ≡ seat.view.seen }
-        ensures told { BeginsWith (T.entries result) seat.view.told }
+        ensures told { AllTold T.fixed T.entries T.named (T.entries result) seat.view.told }
         ensures fixed { seat.view.fixed ≡ Some (T.fixed result) }
     {
         let Seat { place } = seat;

@@ -16,5 +16,5 @@ store-requires g c =
       omega (arith, c.self.invariant.0),
       gives_as k.fixed k.entries k.named _ _ c.count-count.result _ p.me.0 c.args.value c.self.invariant.1
           (c.exchange.ensures.3 ∙ ap (λ cs. (p.me.0, (0, Some c.args.value) ∷ rest cs)) i.0)
-          c.count-count.ensures.count i.1 i.2 may c.count-count.ensures.small,
+          c.count-count.ensures.count i.1 i.2 i.3 may c.count-count.ensures.small,
     )
