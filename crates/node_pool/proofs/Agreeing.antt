@@ -1,5 +1,5 @@
 -- Each call keeps a history that agrees with the tree.
-use Rattle.std.proofs.Common.{◌≡◌, ℕ, ◌+◌, Bool, true, List, [], ◌∷◌, ◌++◌, Option, Some, None, Result, Ok, Err, IfOk, OnErr, refl, ap, sym, subst, ⊎_elim}
+use Rattle.std.proofs.Common.{◌≡◌, ℕ, Bool, List, [], ◌∷◌, ◌++◌, Option, Some, None, Result, Ok, Err, IfOk, OnErr, sym, subst, ⊎_elim}
 use Rattle.oz_semantics.specs.declared.history.Entry.{Entry}
 use Rattle.oz_semantics.specs.declared.history.Entry.TheVariants.{Claim, Stop}
 use Rattle.oz_semantics.specs.declared.history.Cause.{Cause}

@@ -1,5 +1,5 @@
 -- What a worker knows after its turn.
-use Rattle.std.proofs.Common.{eq-eqb, ◌≡◌, ℕ, ◌==◌, ◌<◌, cond, Bool, true, false, not, List, [], ◌∷◌, ◌++◌, length, Option, Some, None, Result, Ok, Err, IfOk, OnErr, MatchResult, refl, ap, sym, ◌∙◌, subst, arith}
+use Rattle.std.proofs.Common.{eq-eqb, ◌≡◌, ℕ, ◌==◌, ◌<◌, cond, Bool, true, false, List, [], ◌∷◌, length, Option, Some, None, Result, Ok, Err, IfOk, OnErr, MatchResult, refl, ap, sym, ◌∙◌, subst, arith}
 use Rattle.std.specs.List.{fold}
 use Rattle.std.specs.Option.{is_some}
 use Rattle.std.proofs.lemmas.Bool.Decides.{nat_tests}
@@ -12,6 +12,7 @@ use Rattle.oz_semantics.specs.declared.history.Cause.{Cause}
 use Rattle.oz_semantics.specs.declared.history.Cause.TheVariants.{Total}
 use Rattle.oz_semantics.specs.declared.tree.Report.{Report}
 use Rattle.oz_semantics.specs.Histories.{IsLegal, claim_after, claim_of, own, stop_of, worker_of}
+use Rattle.pool_law.specs.Law.{HoldsTree}
 use Rattle.pool_law.proofs.Entries.{claim_of_push}
 use Rattle.pool_state.specs.declared.pool.Claimed.{Claimed}
 use Rattle.pool_state.specs.declared.pool.Claimed.TheVariants as claimed
@@ -20,9 +21,10 @@ use Rattle.pool_state.specs.declared.pool.Settled.TheVariants as settled
 use Rattle.pool_state.specs.Pool.{AnswersClaim, after_stop, halt, unless_stopped}
 use Rattle.pool_state.specs.Settles.{AnswersSettle}
 use Rattle.turn_lock.specs.declared.kept.View.{View}
-use Rattle.turn_lock.specs.Views.{first, gave, has, took}
+use Rattle.turn_lock.specs.Views.{gave, has, took}
 use Rattle.turn_lock.proofs.Prefixes.{first_has}
 use Rattle.node_pool.specs.declared.tree.Mark.{Mark}
+use Rattle.node_pool.specs.Boards.{IsCause}
 use Rattle.node_pool.specs.Workers.{IsWorker, WorkerView, claim, mark, number, worker_view}
 use Rattle.node_pool.specs.Calls.{ClaimTurn, Found, SettleTurn, StopTurn, claim_left, claimed_path}
 
@@ -61,7 +63,7 @@ module _ {T : Type 0} where
       let P : WorkerView T → Type 0 = λ z. Ready z h n in
       subst P e (record { found = record { later = later; own_same = same }; many = many; is = was.named })
 
-  found_claim : (w : WorkerView T) (h : List Entry) (n : ℕ) → Ready w h n → claim_of h (number w) ≡ claim w
+  pub found_claim : (w : WorkerView T) (h : List Entry) (n : ℕ) → Ready w h n → claim_of h (number w) ≡ claim w
   found_claim w h n r = same_claim (number w) h w.seen (r.found.own_same (number w) (first_has w.numbers r.many))
 
   -- what the pool knows of its claim is what the worker knows
@@ -86,8 +88,8 @@ module _ {T : Type 0} where
       → k ≡ h → IsLegal (node z) (is_over z) c h → IsLegal (node x) (is_over x) a k
   legal_for node is_over x y z a b c o h k pool board same seen legal =
       let marks : mark z c ≡ mark x a =
-          let m : mark y b ≡ mark x a = cc (sym board ∙ pool) in
-          let n : mark z c ≡ mark y b = λ i. mark (same.0 i) (same.1 i) in n ∙ m in
+      let m : mark y b ≡ mark x a = cc (sym board ∙ pool) in
+      let n : mark z c ≡ mark y b = λ i. mark (same.0 i) (same.1 i) in n ∙ m in
       let P : Mark T → Type 0 = λ m. IsLegal (node m.tag) (is_over m.tag) m.budget k in
       let Q : List Entry → Type 0 = λ z'. IsLegal (node z) (is_over z) c z' in
       subst P marks (subst Q (sym seen) legal)
@@ -101,6 +103,18 @@ module _ {T : Type 0} where
   -- the node is that of the board's tag
   pub node_for : (node : T → List ℕ → Option Report) (x y : T) (a b : ℕ) (o : Option (Mark T)) (p : List ℕ) (k : Report) → o ≡ Some (mark x a) → o ≡ Some (mark y b) → node x p ≡ Some k → node y p ≡ Some k
   node_for node x y a b o p k pool board is = ap (λ (m : Mark T). node m.tag p) (same_marks x y a b o pool board) ∙ is
+
+  -- the board's tree is the pool's
+  pub tree_for : (node : T → List ℕ → Option Report) (x y : T) (a b : ℕ) (o : Option (Mark T)) (h k : List Entry) → o ≡ Some (mark x a) → o ≡ Some (mark y b) → k ≡ h → HoldsTree (node y) b h → HoldsTree (node x) a k
+  tree_for node x y a b o h k pool board seen holds =
+      let P : Mark T → Type 0 = λ m. HoldsTree (node m.tag) m.budget k in
+      let Q : List Entry → Type 0 = λ z. HoldsTree (node y) b z in
+      subst P (same_marks x y a b o pool board) (subst Q (sym seen) holds)
+
+  -- the cause is one for the board
+  pub cause_for : (is_over : T → List ℕ → ℕ → Bool) (x y : T) (a b : ℕ) (o : Option (Mark T)) (c : Option (List ℕ)) (cause : Cause) → o ≡ Some (mark x a) → o ≡ Some (mark y b) → IsCause (is_over x) a c cause → IsCause (is_over y) b c cause
+  cause_for is_over x y a b o c cause pool board is =
+      let P : Mark T → Type 0 = λ m. IsCause (is_over m.tag) m.budget c cause in subst P (sym (same_marks x y a b o pool board)) is
 
   module _ (w : WorkerView T) (h k : List Entry) (n : ℕ) (r : Ready w h n) where
     kept : k ≡ h → claim_of k (number w) ≡ claim w

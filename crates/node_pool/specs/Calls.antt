@@ -1,5 +1,5 @@
 -- What a worker's turn finds, and what it leaves.
-use Rattle.std.specs.Prelude.{◌≡◌, ◌≤◌, ℕ, ◌+◌, Bool, true, false, not, ◌&&◌, List, [], ◌∷◌, ◌++◌, Option, Some, None, Result, Ok, Err, MatchResult, if◌then◌else◌}
+use Rattle.std.specs.Prelude.{◌≡◌, ℕ, ◌+◌, true, not, ◌&&◌, List, [], ◌∷◌, ◌++◌, Option, Some, None, Result, Ok, Err, MatchResult, if◌then◌else◌}
 use Rattle.std.specs.Option.{option_or, is_some}
 use mathlib.Core.List.{IsPrefix}
 use Rattle.oz_semantics.specs.declared.history.Entry.{Entry}
@@ -12,7 +12,7 @@ use Rattle.pool_state.specs.declared.pool.Settled.TheVariants as settled
 use Rattle.pool_state.specs.Pool.{AnswersClaim, after_stop, halt}
 use Rattle.pool_state.specs.Settles.{AnswersSettle}
 use Rattle.turn_lock.specs.Views.{has, IsOnceEach}
-use Rattle.node_pool.specs.Workers.{WorkerView, number, claim, at_history}
+use Rattle.node_pool.specs.Workers.{WorkerView, number, claim}
 
 -- the path that a claim gave, if any
 abbrev pub path_of : Claimed → Option (List ℕ)

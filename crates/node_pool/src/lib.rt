@@ -9,6 +9,5 @@ mod shared;
 mod tree;
 
 pub use pool_state::{Claimed, Ended, PoolState, Settled};
-
 pub use shared::{SharedPool, Worker};
 pub use tree::{Mark, Tree};

@@ -165,6 +165,7 @@ impl<T: Kept> TurnLock<T> {
         requires locks { (seat.lock ≡ self.now) × (other.lock ≡ self.now) }
         ensures lock { result.lock ≡ seat.lock }
         ensures view { result.view ≡ joined seat.view other.view }
+        ensures many { (0 < length seat.view.numbers) × (0 < length other.view.numbers) }
     {
         let Seat { mut place } = seat;
         let Seat { place: other } = other;

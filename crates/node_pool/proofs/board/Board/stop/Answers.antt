@@ -1,4 +1,4 @@
-use Rattle.std.proofs.Common.{◌≡◌, sym, subst}
+use Rattle.std.proofs.Common.{sym, subst}
 use Rattle.oz_semantics.specs.Histories.{claim_of}
 use Rattle.node_pool.specs.Boards.{Ledger, IsCause}
 use Rattle.node_pool.proofs.Agreeing.{stop_agrees, may_ask}

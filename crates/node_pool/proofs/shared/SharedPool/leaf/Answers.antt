@@ -1,8 +1,6 @@
-use Rattle.std.proofs.Common.{cond, ◌≡◌, ℕ, None, Some, IfOk, ◌∙◌, ap, sym, subst}
+use Rattle.std.proofs.Common.{cond, ℕ, None, IfOk, ◌∙◌, ap, sym, subst}
 use Rattle.std.specs.Option.{is_some}
 use Rattle.oz_semantics.specs.declared.history.Entry.TheVariants.{Leaf}
-use Rattle.oz_semantics.specs.declared.tree.Kind.TheVariants.{End}
-use Rattle.oz_semantics.specs.Trees.{report}
 use Rattle.oz_semantics.specs.Histories.{claim_of}
 use Rattle.pool_state.specs.Settles.{AnswersSettle}
 use Rattle.node_pool.specs.Calls.{claim_left}
@@ -34,8 +32,8 @@ invariant_of-worker g c =
     let r = ready i.seat.lock i.seat.view w i.number i.drawn i.has_claim h c.worker.view_is c.worker.invariant f.later f.own_same f.many in
     let k = c.leaf-answer.new.self.history in
     let ok : IfOk c.leaf-answer.result (λ x. AnswersSettle c.args.self.now.budget h i.number c.args.steps (Leaf i.number c.args.path c.args.outcome c.args.steps) x k) =
-        let P : ℕ → Type 0 = λ b. IfOk c.leaf-answer.result (λ x. AnswersSettle b h i.number c.args.steps (Leaf i.number c.args.path c.args.outcome c.args.steps) x k) in
-        subst P (same_budget c.args.self.now.tag c.enter-turn.result.1.tag c.args.self.now.budget c.enter-turn.result.1.budget i.seat.view.fixed (ap (λ z. z.mark) c.worker.view_is ∙ c.requires.pool.1) f.fixed_is) c.leaf-answer.ensures.ok in
+    let P : ℕ → Type 0 = λ b. IfOk c.leaf-answer.result (λ x. AnswersSettle b h i.number c.args.steps (Leaf i.number c.args.path c.args.outcome c.args.steps) x k) in
+    subst P (same_budget c.args.self.now.tag c.enter-turn.result.1.tag c.args.self.now.budget c.enter-turn.result.1.budget i.seat.view.fixed (ap (λ z. z.mark) c.worker.view_is ∙ c.requires.pool.1) f.fixed_is) c.leaf-answer.ensures.ok in
     let now = settle_now w h k i.number r c.args.self.now.budget c.args.steps (λ n. Leaf n c.args.path c.args.outcome c.args.steps) c.leaf-answer.result (λ n x. ap (λ b. cond b None x) (itself n)) ok c.leaf-answer.ensures.err in
     worker_after i.seat.view c.enter-turn.result.0.view c.leave-seat.result.view i.number i.drawn i.has_claim _ h k c.worker.invariant
     c.enter-turn.ensures.view c.leave-seat.ensures.view (c.stays_out-has_claim.ensures c.args.path ∙ ap is_some (ap (λ x. claim_left x c.leaf-answer.result) (sym c.requires.out) ∙ (sym now ∙ ap (claim_of k) (sym r.is))))
@@ -49,8 +47,8 @@ returns-clause-turn g c =
     let r = ready i.seat.lock i.seat.view w i.number i.drawn i.has_claim h c.worker.view_is c.worker.invariant f.later f.own_same f.many in
     let k = c.leaf-answer.new.self.history in
     let ok : IfOk c.leaf-answer.result (λ x. AnswersSettle c.args.self.now.budget h i.number c.args.steps (Leaf i.number c.args.path c.args.outcome c.args.steps) x k) =
-        let P : ℕ → Type 0 = λ b. IfOk c.leaf-answer.result (λ x. AnswersSettle b h i.number c.args.steps (Leaf i.number c.args.path c.args.outcome c.args.steps) x k) in
-        subst P (same_budget c.args.self.now.tag c.enter-turn.result.1.tag c.args.self.now.budget c.enter-turn.result.1.budget i.seat.view.fixed (ap (λ z. z.mark) c.worker.view_is ∙ c.requires.pool.1) f.fixed_is) c.leaf-answer.ensures.ok in
+    let P : ℕ → Type 0 = λ b. IfOk c.leaf-answer.result (λ x. AnswersSettle b h i.number c.args.steps (Leaf i.number c.args.path c.args.outcome c.args.steps) x k) in
+    subst P (same_budget c.args.self.now.tag c.enter-turn.result.1.tag c.args.self.now.budget c.enter-turn.result.1.budget i.seat.view.fixed (ap (λ z. z.mark) c.worker.view_is ∙ c.requires.pool.1) f.fixed_is) c.leaf-answer.ensures.ok in
     let s = c.leave-seat.result in
     settle_turn w h k i.number r c.args.self.now.budget c.args.steps (λ n. Leaf n c.args.path c.args.outcome c.args.steps) (worker_view s.lock s.view) c.leaf-answer.result (ap (λ z. z.seen) c.leave-seat.ensures.view) ok c.leaf-answer.ensures.err
 
@@ -63,8 +61,8 @@ returns-clause-claim g c =
     let r = ready i.seat.lock i.seat.view w i.number i.drawn i.has_claim h c.worker.view_is c.worker.invariant f.later f.own_same f.many in
     let k = c.leaf-answer.new.self.history in
     let ok : IfOk c.leaf-answer.result (λ x. AnswersSettle c.args.self.now.budget h i.number c.args.steps (Leaf i.number c.args.path c.args.outcome c.args.steps) x k) =
-        let P : ℕ → Type 0 = λ b. IfOk c.leaf-answer.result (λ x. AnswersSettle b h i.number c.args.steps (Leaf i.number c.args.path c.args.outcome c.args.steps) x k) in
-        subst P (same_budget c.args.self.now.tag c.enter-turn.result.1.tag c.args.self.now.budget c.enter-turn.result.1.budget i.seat.view.fixed (ap (λ z. z.mark) c.worker.view_is ∙ c.requires.pool.1) f.fixed_is) c.leaf-answer.ensures.ok in
+    let P : ℕ → Type 0 = λ b. IfOk c.leaf-answer.result (λ x. AnswersSettle b h i.number c.args.steps (Leaf i.number c.args.path c.args.outcome c.args.steps) x k) in
+    subst P (same_budget c.args.self.now.tag c.enter-turn.result.1.tag c.args.self.now.budget c.enter-turn.result.1.budget i.seat.view.fixed (ap (λ z. z.mark) c.worker.view_is ∙ c.requires.pool.1) f.fixed_is) c.leaf-answer.ensures.ok in
     let s = c.leave-seat.result in
     claim_after_turn i.seat.lock s.lock i.seat.view c.enter-turn.result.0.view s.view w h k _ c.worker.view_is c.enter-turn.ensures.view c.leave-seat.ensures.view
     (settle_now w h k i.number r c.args.self.now.budget c.args.steps (λ n. Leaf n c.args.path c.args.outcome c.args.steps) c.leaf-answer.result (λ n x. ap (λ b. cond b None x) (itself n)) ok c.leaf-answer.ensures.err)
