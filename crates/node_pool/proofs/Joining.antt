@@ -1,6 +1,7 @@
 -- Two workers become one, and one becomes two.
-use Rattle.std.proofs.Common.{cond, ◌≡◌, ℕ, ◌+◌, ◌<◌, Bool, true, false, not, ◌&&◌, List, [], ◌∷◌, ◌++◌, length, Option, Some, None, refl, ap, sym, ◌∙◌, subst, arith}
+use Rattle.std.proofs.Common.{cond, ◌≡◌, ℕ, ◌+◌, ◌<◌, Bool, true, false, not, ◌&&◌, ◌||◌, nat_eq, List, [], ◌∷◌, ◌++◌, length, Option, Some, None, refl, ap, sym, ◌∙◌, subst, arith}
 use Rattle.std.specs.Option.{is_some, option_or}
+use Rattle.std.proofs.lemmas.List.Folds.{list_any-append}
 use mathlib.Core.List.{IsPrefix}
 use Rattle.atomic_table.specs.Seated.{TableId}
 use Rattle.oz_semantics.specs.declared.history.Entry.{Entry}
@@ -16,6 +17,12 @@ use Rattle.node_pool.specs.Calls.{Enrolled, Found, Joined, in_order}
 use Rattle.node_pool.proofs.Turning.{same_claim}
 
 -- ---- the order
+or_swap : (a b : Bool) → (a || b) ≡ (b || a)
+or_swap true true = refl
+or_swap true false = refl
+or_swap false true = refl
+or_swap false false = refl
+
 module _ {T : Type 0} (v w : WorkerView T) where
   abbrev pick : Bool → WorkerView T × WorkerView T
   pick x = cond x (w, v) (v, w)
@@ -35,6 +42,25 @@ module _ {T : Type 0} (v w : WorkerView T) where
         | Some p ↦ λ b i j. i
       ] in
       step (claim v) (claim w) refl refl
+
+  either : (n : ℕ) → has n ((in_order v w).0.numbers ++ (in_order v w).1.numbers) ≡ (has n v.numbers || has n w.numbers)
+  either n =
+      let step : (x : Bool) → has n ((pick x).0.numbers ++ (pick x).1.numbers) ≡ (has n v.numbers || has n w.numbers) = elim [
+        | true ↦ list_any-append (nat_eq n) w.numbers v.numbers ∙ or_swap (has n w.numbers) (has n v.numbers)
+        | false ↦ list_any-append (nat_eq n) v.numbers w.numbers
+      ] in
+      step (not (is_some (claim v)) && is_some (claim w))
+
+  -- for callers: where the first draws numbers, and the second does not, the joined one does
+  pub drawn_by_first : (k : ℕ) → v.drawn ≡ Some k → w.drawn ≡ None → option_or (in_order v w).0.drawn (in_order v w).1.drawn ≡ Some k
+  drawn_by_first k e f =
+      let step : (x : Bool) → option_or (pick x).0.drawn (pick x).1.drawn ≡ Some k = elim [ true ↦ (λ i. option_or (f i) (e i)) | false ↦ (λ i. option_or (e i) (f i)) ] in
+      step (not (is_some (claim v)) && is_some (claim w))
+
+  pub drawn_by_second : (k : ℕ) → v.drawn ≡ None → w.drawn ≡ Some k → option_or (in_order v w).0.drawn (in_order v w).1.drawn ≡ Some k
+  drawn_by_second k e f =
+      let step : (x : Bool) → option_or (pick x).0.drawn (pick x).1.drawn ≡ Some k = elim [ true ↦ (λ i. option_or (f i) (e i)) | false ↦ (λ i. option_or (e i) (f i)) ] in
+      step (not (is_some (claim v)) && is_some (claim w))
 
   pub first_mark : (o : Option (Mark T)) → v.mark ≡ o → w.mark ≡ o → (in_order v w).0.mark ≡ o
   first_mark o e f =
@@ -106,6 +132,7 @@ module _ {T : Type 0} (a b s : View (Mark T) Entry) (h : List Entry) (turn : Joi
         subst Q (sym turn.is) (record {
           first = both.0;
           second = both.1;
+          stands = λ n. ap (has n) (λ i. (first_view i).numbers ++ (second_view i).numbers) ∙ either v w n;
           numbers = λ i. (first_view i).numbers ++ (second_view i).numbers;
           drawn = λ i. option_or (first_view i).drawn (second_view i).drawn;
           once = turn.once;

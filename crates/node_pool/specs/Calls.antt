@@ -1,5 +1,5 @@
 -- What a worker's turn finds, and what it leaves.
-use Rattle.std.specs.Prelude.{◌≡◌, ℕ, ◌+◌, true, not, ◌&&◌, List, [], ◌∷◌, ◌++◌, Option, Some, None, Result, Ok, Err, MatchResult, if◌then◌else◌}
+use Rattle.std.specs.Prelude.{◌≡◌, ℕ, ◌+◌, true, not, ◌&&◌, ◌||◌, List, [], ◌∷◌, ◌++◌, Option, Some, None, Result, Ok, Err, MatchResult, if◌then◌else◌}
 use Rattle.std.specs.Option.{option_or, is_some}
 use mathlib.Core.List.{IsPrefix}
 use Rattle.oz_semantics.specs.declared.history.Entry.{Entry}
@@ -71,6 +71,7 @@ module _ {T : Type 0} where
   pub record Joined (v w u : WorkerView T) : Type 0 where
     pub first : Found v u.seen
     pub second : Found w u.seen
+    pub stands : (n : ℕ) → has n u.numbers ≡ (has n v.numbers || has n w.numbers)
     pub numbers : u.numbers ≡ (in_order v w).0.numbers ++ (in_order v w).1.numbers
     pub drawn : u.drawn ≡ option_or (in_order v w).0.drawn (in_order v w).1.drawn
     pub once : IsOnceEach u.numbers

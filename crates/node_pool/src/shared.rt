@@ -16,7 +16,6 @@ use oz_semantics::{Cause, Entry, Kind, Outcome};
 use pool_state::{Claimed, Ended, Settled};
 use std::alloc::{AllocError, Global};
 use std::marker::Model;
-use std::snapshot::Snapshot;
 use std::sync::Wait;
 use turn_lock::{Kept, Seat, TurnLock};
 
@@ -24,8 +23,6 @@ use turn_lock::{Kept, Seat, TurnLock};
 #[derive(Drop)]
 pub struct SharedPool<T: Tree> {
     lock: TurnLock<Board<T>>,
-    tag: Snapshot<T>,
-    budget: u64,
 }
 
 impl<T: Tree> Model for SharedPool<T> {
@@ -33,7 +30,7 @@ impl<T: Tree> Model for SharedPool<T> {
 
     ghost Value = { PoolView T };
 
-    ghost view = { λ p. record { lock = p.lock; tag = p.tag.value; budget = p.budget } };
+    ghost view = { λ p. record { lock = p.lock.id; tag = p.lock.fixed.tag; budget = p.lock.fixed.budget } };
 }
 
 /// A right to take nodes of a pool, under a number.
@@ -97,21 +94,15 @@ impl<T: Tree> SharedPool<T> {
         ensures pool { IfOk result (λ r. (r.0.tag ≡ tag) × (r.0.budget ≡ budget)) }
         ensures worker { IfOk result (λ r. r.1 ≡ first_worker r.0) }
     {
-        let kept = Snapshot::of(&tag);
         let board = Board::new(alloc, tag, budget)?;
         let (lock, seat) = TurnLock::new(alloc, board)?;
-        let pool = SharedPool {
-            lock,
-            tag: kept,
-            budget,
-        };
         let worker = Worker {
             seat,
             number: 0,
             drawn: Some(1),
             has_claim: false,
         };
-        Ok((pool, worker))
+        Ok((SharedPool { lock }, worker))
     }
 
     /// The worker takes the open node that is furthest to the left. It must have no claim out. After an error the history is as it was found.
@@ -337,11 +328,7 @@ impl<T: Tree> SharedPool<T> {
             drawn: _,
             has_claim: _,
         } = worker;
-        let SharedPool {
-            lock,
-            tag: _,
-            budget: _,
-        } = self;
+        let SharedPool { lock } = self;
         let board = lock.close(seat);
         board.legal();
         board.holds_tree();
