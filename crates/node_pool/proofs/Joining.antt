@@ -12,7 +12,7 @@ use Rattle.turn_lock.specs.Views.{IsOnceEach, drawer, first, gave, giver, has, j
 use Rattle.turn_lock.specs.Turns as lock
 use Rattle.turn_lock.proofs.Prefixes.{first_has}
 use Rattle.node_pool.specs.declared.tree.Mark.{Mark}
-use Rattle.node_pool.specs.Workers.{IsWorker, WorkerView, claim, number, worker_view}
+use Rattle.node_pool.specs.Workers.{IsOnlyLater, StandsForAll, IsWorker, WorkerView, claim, number, worker_view}
 use Rattle.node_pool.specs.Calls.{Enrolled, Found, Joined, in_order}
 use Rattle.node_pool.proofs.Turning.{same_claim}
 
@@ -195,3 +195,19 @@ module _ {T : Type 0} (v t s u x : View (Mark T) Entry) (h : List Entry) (n k : 
     newcomer_claim none =
         let P : View (Mark T) Entry → Type 0 = λ z. claim (worker_view o z) ≡ None in
         subst P (sym (drawer_is ∙ ap drawer seat_is)) (ap (claim_of h) (sym number_is) ∙ same_claim k h [] none)
+
+-- ---- for callers
+-- where one of two workers draws numbers, and the two have all that were drawn, the joined one stands for all, whatever it has seen since
+module _ {T : Type 0} (v w u x : WorkerView T) (k : ℕ) (both : Joined v w u) (later : IsOnlyLater u x) (all : (n : ℕ) → n < k → (has n v.numbers || has n w.numbers) ≡ true) where
+  stands : option_or (in_order v w).0.drawn (in_order v w).1.drawn ≡ Some k → StandsForAll x
+  stands drawn = (
+    k,
+    ap (λ (z : WorkerView T). z.drawn) later ∙ (both.drawn ∙ drawn),
+    λ n lt. ap (λ (z : WorkerView T). has n z.numbers) later ∙ (both.stands n ∙ all n lt),
+  )
+
+  pub stands_by_first : v.drawn ≡ Some k → w.drawn ≡ None → StandsForAll x
+  stands_by_first one two = stands (drawn_by_first v w k one two)
+
+  pub stands_by_second : v.drawn ≡ None → w.drawn ≡ Some k → StandsForAll x
+  stands_by_second one two = stands (drawn_by_second v w k one two)

@@ -7,8 +7,9 @@ ghost use Rattle.node_pool.specs.Calls.{claim_left};
 
 use super::*;
 use oz_base::Path;
-use oz_semantics::{Cause, Outcome};
+use oz_semantics::{Cause, Halt, Outcome};
 use std::alloc::AllocError;
+use std::process::Abort;
 use std::sync::Wait;
 use std::test::Fail;
 use std::thread;
@@ -131,5 +132,49 @@ fn two_threads_share_a_pool(rt: HostRuntime) -> Result<(), Fail> {
     let Ended { entries, leaves } = explore_by_two(&rt, pool, worker);
     assert_eq!(rt; entries.len(), 8);
     assert_eq!(rt; leaves.len(), 2);
+    Ok(())
+}
+
+// Joined to a worker without a claim, the worker that has the root out keeps its number.
+fn join_and_close<R: Wait>(
+    rt: &R,
+    pool: SharedPool<Small>,
+    idle: Worker<Small>,
+    holder: Worker<Small>,
+    root: Path,
+) -> (Result<Settled, AllocError>, Ended)
+    requires pools { IsOf idle pool × IsOf holder pool }
+    requires claims { (claim idle ≡ None) × (claim holder ≡ Some root) × (root ≡ []) }
+    requires drawn { (idle.drawn ≡ None) × (holder.drawn ≡ Some 2) }
+    requires numbers { (idle.numbers ≡ 1 ∷ []) × (holder.numbers ≡ 0 ∷ []) }
+{
+    let all = pool.join(rt, idle, holder);
+    let (all, answer) = pool.split(rt, all, root, 3, 1);
+    (answer, pool.close(all))
+}
+
+// The root has more steps than the budget.
+#[test]
+fn a_stop_ends_the_exploration(rt: HostRuntime) -> Result<(), Fail> {
+    let (pool, first) = SharedPool::new(rt.alloc(), Small, 0)?;
+    let (first, second) = pool.enrol(&rt, first);
+    let (first, answer) = pool.claim(&rt, first);
+    let Ok(Claimed::Node(root)) = answer else {
+        panic!(rt; "the root is open")
+    };
+    if !is_root(&root) {
+        panic!(rt; "nothing else is open");
+    }
+    let first = pool.stop(&rt, first, Cause::Fuel);
+    let (second, answer) = pool.claim(&rt, second);
+    let Ok(Claimed::Stopped(Halt { worker, cause })) = answer else {
+        panic!(rt; "the first worker stopped")
+    };
+    assert!(rt; worker == 0 && matches!(&cause, Cause::Fuel));
+    let second = pool.stop(&rt, second, Cause::Memory);
+    let (answer, ended) = join_and_close(&rt, pool, second, first, root);
+    assert!(rt; matches!(&answer, Ok(Settled::Stopped(_))));
+    assert_eq!(rt; ended.entries.len(), 2);
+    assert_eq!(rt; ended.leaves.len(), 0);
     Ok(())
 }
