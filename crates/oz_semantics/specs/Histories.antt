@@ -1,4 +1,4 @@
--- The history of a pool of nodes: the list of its entries, the oldest first.
+-- The history of a pool of nodes: the list of its entries, the oldest first. A node is open until a worker claims it, then out until the worker says what it is.
 use Rattle.std.specs.Prelude.{◌≡◌, ℕ, ◌+◌, ◌≤◌, ◌<◌, ◌==◌, Bool, true, false, not, ◌&&◌, ◌||◌, List, [], ◌∷◌, ◌++◌, Option, Some, None, if◌then◌else◌}
 use Rattle.std.specs.List.{list_any, sum_by, fold, filter}
 use Rattle.std.specs.Ordering.{is_gt}
