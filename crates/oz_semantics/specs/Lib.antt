@@ -18,3 +18,7 @@ pub mod Positions
 pub mod Relations
 pub mod Passes
 pub mod Splits
+pub mod Paths
+pub mod Trees
+pub mod Histories
+pub mod Leaves

@@ -2,17 +2,22 @@
 //!
 //! The definitions, in the order in which to read them: `Names`, `Values`, `Kernels`, `Store`, `Configurations`,
 //! `Statements`, `Spaces`, `Schedule`, `Texts`, `Runs`, `Search`, `Tokens`, `Grammar`, `Translation`, `Replies`. Those of
-//! finite domains stand apart: `Domains`, `Positions`, `Relations`, `Passes`, `Splits`.
+//! finite domains stand apart: `Domains`, `Positions`, `Relations`, `Passes`, `Splits`. So do those of a search that workers
+//! share: `Paths`, `Trees`, `Histories`, `Leaves`.
 #![tactic(auto)]
 
 mod configuration;
+mod history;
 mod kernel;
 mod outcome;
 mod syntax;
+mod tree;
 
 pub use configuration::{
     Binding, Code, Configuration, Frame, Layer, Next, Procedure, Status, Tell, Thread, Value,
 };
+pub use history::{Entry, Halt, StopCause};
 pub use kernel::{Kernel, Statement};
 pub use outcome::{Cause, Leaf, Raise, RefusalKind, State, Stepped};
 pub use syntax::{Alternative, Program, Token};
+pub use tree::{Kind, Outcome, Report};

@@ -1,0 +1,11 @@
+pub mod Entries
+pub mod Noted
+pub mod Fronts
+pub mod Items
+pub mod Explores
+pub mod Folds
+pub mod FrontLaws
+pub mod Finish
+pub mod Last
+pub mod Noting
+pub mod Orders

@@ -1,0 +1,15 @@
+-- What ties the pool to its history.
+use Rattle.std.specs.Prelude.{◌≡◌, ◌≤◌, ◌<◌, ◌^◌, None, vec_len, vec_capacity}
+use Rattle.pool_law.specs.Places.{places_of}
+use Rattle.pool_state.specs.Pool.{Pool}
+use Rattle.pool_state.specs.Tied.{IsTied}
+use Rattle.pool_state.specs.declared.pool.PoolState.TheInside.{Inside}
+
+abbrev pub seen : Inside → Pool
+seen s = record { budget = s.budget; history = s.entries.items }
+
+pub record IsKept (s : Inside) : Type 0 where
+  pub tied : IsTied s.budget s.open.entries s.out.items s.total s.halt s.entries.items
+  pub placed : s.leaves.entries ≡ places_of s.entries.items
+  pub small : s.budget ≤ 2 ^ 48
+  pub room : s.halt ≡ None → vec_len s.entries < vec_capacity s.entries
