@@ -10,7 +10,7 @@ ghost use Rattle.node_pool.specs.Boards.{IsCause};
 
 use crate::tree::{Mark, Tree};
 use oz_base::Path;
-use oz_semantics::{StopCause, Entry, Kind, Outcome};
+use oz_semantics::{Entry, Kind, Outcome, StopCause};
 use pool_state::{Claimed, Ended, PoolState, Settled};
 use std::alloc::{AllocError, Global};
 use std::marker::Model;

@@ -12,7 +12,7 @@ ghost use Rattle.node_pool.specs.Calls.{ClaimTurn, SettleTurn, StopTurn, Enrolle
 use crate::board::Board;
 use crate::tree::Tree;
 use oz_base::Path;
-use oz_semantics::{StopCause, Entry, Kind, Outcome};
+use oz_semantics::{Entry, Kind, Outcome, StopCause};
 use pool_state::{Claimed, Ended, Settled};
 use std::alloc::{AllocError, Global};
 use std::marker::Model;

@@ -7,7 +7,7 @@ ghost use Rattle.node_pool.specs.Calls.{claim_left};
 
 use super::*;
 use oz_base::Path;
-use oz_semantics::{StopCause, Halt, Outcome};
+use oz_semantics::{Halt, Outcome, StopCause};
 use std::alloc::AllocError;
 use std::process::Abort;
 use std::sync::Wait;

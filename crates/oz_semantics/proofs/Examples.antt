@@ -1,15 +1,13 @@
 -- The definitions, computed on small programs.
-use Rattle.std.specs.Prelude.{ℕ, ◌≡◌, ◌∷◌, ◌++◌, [], codes, refl}
-use Rattle.std.specs.Fmt.{decimal}
+use Rattle.std.specs.Prelude.{◌≡◌, ◌∷◌, [], codes, refl}
 use Rattle.oz_semantics.specs.declared.syntax.Alternative.TheVariants.{Equal, Fail}
 use Rattle.oz_semantics.specs.declared.syntax.Program.{Program}
-use Rattle.oz_semantics.specs.declared.kernel.Kernel.{Kernel}
 use Rattle.oz_semantics.specs.declared.outcome.Cause.TheVariants as causes
 use Rattle.oz_semantics.specs.declared.outcome.State.TheVariants as states
 use Rattle.oz_semantics.specs.Runs.{run_for}
 use Rattle.oz_semantics.specs.Search.{explored, depth_first}
 use Rattle.oz_semantics.specs.Translation.{kernel_of, words_of}
-use Rattle.oz_semantics.specs.Replies.{answer_to, leaves_reply, spent, line}
+use Rattle.oz_semantics.specs.Replies.{answer_to, leaves_reply, spent}
 
 abbrev two : Program
 two = record { parameter = codes "R"; alternatives = Equal (codes "a") ∷ Fail ∷ Equal (codes "b") ∷ [] }

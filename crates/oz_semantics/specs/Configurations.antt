@@ -1,5 +1,5 @@
 -- Configurations: looking things up in them, and the small edits of which the steps are made.
-use Rattle.std.specs.Prelude.{ℕ, ◌+◌, ◌==◌, Bool, true, false, not, if◌then◌else◌, List, [], ◌∷◌, ◌++◌, Option, None, Some, map, filter}
+use Rattle.std.specs.Prelude.{ℕ, ◌+◌, ◌==◌, Bool, true, false, not, if◌then◌else◌, List, [], ◌∷◌, ◌++◌, Option, map, filter}
 use Rattle.std.specs.List.{find, flat_map, range_with_len}
 use Rattle.oz_base.specs.Lists.{list_eq, is_empty, edit_first, put_before}
 use Rattle.oz_base.specs.declared.names.Ident.{Ident}

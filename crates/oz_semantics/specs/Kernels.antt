@@ -1,8 +1,7 @@
 -- Kernel programs: looking up what their numbers name.
-use Rattle.std.specs.Prelude.{ℕ, List, [], Option, Some, None, length, slice_get, unwrap_or}
+use Rattle.std.specs.Prelude.{ℕ, List, [], Option, Some, None, slice_get, unwrap_or}
 use Rattle.oz_semantics.specs.declared.kernel.Statement.{Statement}
 use Rattle.oz_semantics.specs.declared.kernel.Statement.TheVariants.{BindAtom, BindProcedure, Choice, Fail}
-use Rattle.oz_semantics.specs.declared.kernel.Kernel.{Kernel}
 
 -- the text of a word
 abbrev pub word_text : List (List ℕ) → ℕ → List ℕ

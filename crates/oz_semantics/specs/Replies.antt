@@ -1,5 +1,5 @@
 -- What the program answers, and with which status it ends.
-use Rattle.std.specs.Prelude.{ℕ, ◌+◌, ◌≡◌, ◌<◌, ◌≤◌, nat_le, Bool, true, false, if◌then◌else◌, List, [], ◌∷◌, ◌++◌, Option, Some, None, length, count_by, codes}
+use Rattle.std.specs.Prelude.{ℕ, ◌+◌, ◌≡◌, ◌<◌, ◌≤◌, nat_le, Bool, true, false, if◌then◌else◌, List, [], ◌∷◌, ◌++◌, Some, None, length, count_by, codes}
 use Rattle.std.specs.Fmt.{decimal}
 use Rattle.oz_base.specs.Lists.{list_eq}
 use Rattle.oz_semantics.specs.Texts.{Printed, raise_text}

@@ -1,6 +1,6 @@
 -- Computation spaces (CTM 12.5; Schulte 4 and 10): when a space is stable, its state, its creation, and the commitment of a
 -- choice.
-use Rattle.std.specs.Prelude.{ℕ, ◌+◌, ◌-◌, Bool, true, false, not, ◌&&◌, ◌||◌, if◌then◌else◌, is_some, List, [], ◌∷◌, ◌++◌, Option, Some, None, map, filter, slice_get, unwrap_or}
+use Rattle.std.specs.Prelude.{ℕ, ◌+◌, ◌-◌, Bool, true, false, not, ◌&&◌, if◌then◌else◌, is_some, List, [], ◌∷◌, ◌++◌, Option, Some, None, slice_get, unwrap_or}
 use Rattle.std.specs.List.{list_any, list_all, filter_map}
 use Rattle.oz_base.specs.Lists.{first, is_empty, iff, edit_first}
 use Rattle.oz_base.specs.declared.names.Ident.{Ident}

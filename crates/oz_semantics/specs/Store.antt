@@ -1,6 +1,6 @@
 -- The single-assignment store (CTM 2.2, 2.8): what a list of tells makes equal, when it is consistent, and the value that
 -- it gives a variable.
-use Rattle.std.specs.Prelude.{ℕ, ◌↔◌, Bool, IsTrue, if◌then◌else◌, is_some, List, Contains, Option, Some, None}
+use Rattle.std.specs.Prelude.{◌↔◌, Bool, IsTrue, if◌then◌else◌, is_some, List, Contains, Option, Some, None}
 use Rattle.std.specs.List.{list_all}
 use Rattle.oz_base.specs.Lists.{first_given, holds_of}
 use Rattle.oz_base.specs.Names.{ident_eq}

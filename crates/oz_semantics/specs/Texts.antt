@@ -1,5 +1,5 @@
 -- The text of a term, and how many nodes it has.
-use Rattle.std.specs.Prelude.{ℕ, ◌+◌, List, [], ◌∷◌, ◌++◌, Option, Some, None, codes}
+use Rattle.std.specs.Prelude.{ℕ, List, Option, Some, None, codes}
 use Rattle.oz_base.specs.declared.names.Ident.{Ident}
 use Rattle.oz_semantics.specs.Kernels.{word_text}
 use Rattle.oz_semantics.specs.Store.{value_of}

@@ -1,5 +1,5 @@
 -- The kernel of a program.
-use Rattle.std.specs.Prelude.{ℕ, ◌+◌, List, [], ◌∷◌, ◌++◌, map, length, codes, unwrap_or}
+use Rattle.std.specs.Prelude.{ℕ, List, [], ◌∷◌, map, length, codes, unwrap_or}
 use Rattle.std.specs.List.{range_with_len, fold}
 use Rattle.oz_base.specs.Words.{with_text, number_in}
 use Rattle.oz_semantics.specs.declared.syntax.Alternative.{Alternative}

@@ -1,5 +1,5 @@
 -- Values (CTM 2.3.3), and what tells two of them apart.
-use Rattle.std.specs.Prelude.{ℕ, Bool, false, ◌==◌}
+use Rattle.std.specs.Prelude.{Bool, false, ◌==◌}
 use Rattle.oz_base.specs.Names.{ident_eq}
 use Rattle.oz_semantics.specs.declared.configuration.Value.{Value}
 use Rattle.oz_semantics.specs.declared.configuration.Value.TheVariants.{Atom, Procedure}

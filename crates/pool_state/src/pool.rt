@@ -10,7 +10,7 @@ ghost use Rattle.pool_state.specs.Settles.{AnswersSettle};
 
 use crate::frontier::{Taken, open_children, take_leftmost};
 use oz_base::Path;
-use oz_semantics::{StopCause, Entry, Halt, Outcome};
+use oz_semantics::{Entry, Halt, Outcome, StopCause};
 use std::alloc::{AllocError, Global};
 use std::collections::BTreeMap;
 use std::marker::Model;

@@ -5,7 +5,7 @@ ghost use Rattle.oz_semantics.specs.declared.history.Entry.TheVariants.{Claim, S
 
 use super::*;
 use oz_base::Path;
-use oz_semantics::{StopCause, Halt, Outcome};
+use oz_semantics::{Halt, Outcome, StopCause};
 use std::alloc::AllocError;
 use std::process::Abort;
 use std::test::Fail;
