@@ -15,14 +15,26 @@ fail() {
     exit 125
 }
 
-# The crates that crates.txt lists, one a line.
+# The crates that the program stands on, and itself, in the order of crates.txt, which has each behind those that it uses.
 crates() {
-    while read -r name rest; do
-        case $name in
-        '' | '#'*) ;;
-        *) printf '%s\n' "${name%%:*}" ;;
-        esac
-    done <"$top/crates.txt"
+    awk '
+        NF && !/^#/ {
+            split($0, halves, ":")
+            split(halves[1], head, " ")
+            name[++count] = head[1]
+            uses[head[1]] = halves[2]
+        }
+        END {
+            is_used["oz"] = 1
+            for (i = count; i > 0; i--)
+                if (name[i] in is_used) {
+                    many = split(uses[name[i]], used, " ")
+                    for (j = 1; j <= many; j++) is_used[used[j]] = 1
+                }
+            for (i = 1; i <= count; i++)
+                if (name[i] in is_used) print name[i]
+        }
+    ' "$top/crates.txt"
 }
 
 # Proves each library, and then the program, which is tried on the smallest text.
