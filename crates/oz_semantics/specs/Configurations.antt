@@ -1,4 +1,5 @@
--- Configurations: looking things up in them, and the small edits of which the steps are made.
+-- Configurations of the abstract machine (CTM 2.4, 12.4): looking things up in them, and the small edits of which the steps
+-- are made.
 use Rattle.std.specs.Prelude.{ℕ, ◌+◌, ◌==◌, Bool, true, false, not, if◌then◌else◌, List, [], ◌∷◌, ◌++◌, Option, map, filter}
 use Rattle.std.specs.List.{find, flat_map, range_with_len}
 use Rattle.oz_base.specs.Lists.{list_eq, is_empty, edit_first, put_before}
@@ -33,7 +34,7 @@ is_open status.Open = true
 is_open status.Failed = false
 is_open (status.Raised r) = false
 
--- the view of a space: what its ancestors and itself were told (CTM 12.5)
+-- the view of a space: what its ancestors and itself were told (CTM 12.4)
 abbrev pub view : List Layer → List ℕ → List Tell
 view layers space = flat_map (λ (l : Layer). if is_below l.space space then l.tells else []) layers
 

@@ -1,4 +1,4 @@
--- The grammar, by the tokens that a tree spells, and the texts that are accepted.
+-- The grammar (CTM, appendix C), by the tokens that a tree spells, and the texts that are accepted.
 use Rattle.std.specs.Prelude.{ℕ, ◌≡◌, ◌≢◌, List, [], ◌∷◌, ◌++◌, codes}
 use Rattle.oz_semantics.specs.Tokens.{HasTokens}
 use Rattle.oz_semantics.specs.declared.syntax.Token.{Token}

@@ -1,4 +1,4 @@
--- Kernel programs: looking up what their numbers name.
+-- Kernel programs (CTM 2.3): looking up what their numbers name.
 use Rattle.std.specs.Prelude.{ℕ, List, [], Option, Some, None, slice_get, unwrap_or}
 use Rattle.oz_semantics.specs.declared.kernel.Statement.{Statement}
 use Rattle.oz_semantics.specs.declared.kernel.Statement.TheVariants.{BindAtom, BindProcedure, Choice, Fail}

@@ -1,4 +1,4 @@
--- The opening configuration of a program, and runs of the machine below a space with a bound on their cost.
+-- The opening configuration of a program (CTM 2.4), and runs of the machine below a space with a bound on their cost.
 use Rattle.std.specs.Prelude.{ℕ, zero, suc, ◌-◌, nat_le, if◌then◌else◌, List, [], ◌∷◌, None}
 use Rattle.oz_semantics.specs.Names.{named}
 use Rattle.oz_semantics.specs.Configurations.{spawning, new_layer, frames_of}

@@ -1,4 +1,5 @@
--- Nodes of the search, by recomputation from the root (Schulte 7; CTM 12.5), and the depth-first tree.
+-- The search: its root, its nodes, of which each is its parent committed to an alternative, and the depth-first tree (CTM 12.4;
+-- Schulte 5).
 use Rattle.std.specs.Prelude.{ℕ, zero, suc, ◌+◌, ◌-◌, nat_le, Bool, false, if◌then◌else◌, List, [], ◌∷◌, ◌++◌, Option, Some, None, map, length, ◌==◌}
 use Rattle.std.specs.List.{range_with_len}
 use Rattle.oz_base.specs.Lists.{holds_of}

@@ -1,4 +1,4 @@
--- The tokens of a text: each the longest that fits.
+-- The tokens of a text (CTM, appendix C): each the longest that fits.
 use Rattle.std.specs.Prelude.{ℕ, ◌≡◌, ◌<◌, ◌≤◌, ◌&&◌, ◌||◌, ◌==◌, nat_le, Bool, true, false, if◌then◌else◌, Option, Some, None, List, [], ◌∷◌, ◌++◌, length, take, codes}
 use Rattle.std.specs.List.{list_all, list_any}
 use Rattle.oz_base.specs.Lists.{list_eq}

@@ -1,4 +1,4 @@
--- The kernel of a program.
+-- The kernel of a program (CTM 2.6).
 use Rattle.std.specs.Prelude.{ℕ, List, [], ◌∷◌, map, length, codes, unwrap_or}
 use Rattle.std.specs.List.{range_with_len, fold}
 use Rattle.oz_base.specs.Words.{with_text, number_in}

@@ -1,4 +1,4 @@
--- Values (CTM 2.3.3), and what tells two of them apart.
+-- Values (CTM 2.3.2), and what tells two of them apart.
 use Rattle.std.specs.Prelude.{Bool, false, ◌==◌}
 use Rattle.oz_base.specs.Names.{ident_eq}
 use Rattle.oz_semantics.specs.declared.configuration.Value.{Value}

@@ -1,4 +1,4 @@
-//! Configurations of the abstract machine (CTM 2.4, 12.5): a layer for each computation space, and the queue.
+//! Configurations of the abstract machine (CTM 2.4, 12.4): a layer for each computation space, and the queue.
 use crate::Raise;
 use oz_base::{Copies, Ident, Sequence, Stack};
 use std::alloc::{AllocError, Global};

@@ -218,20 +218,6 @@ replied words old new before after planned cause reply bytes p e d f m =
     let s = sound words old new before after planned cause reply p e f m in
     (planned, reply, d s.0 s.1, e)
 
-pub replied_usage : (words : List (List ℕ)) (before after : Writing) (cause : Cause) (bytes : List ℕ) → is_all words ≡ false → Ends causes.Usage usage_reply before after cause
-    → (c : Cause) × (r : List ℕ) × IsReply words bytes (c, r) × Ends c r before after cause
-replied_usage words before after cause bytes w e = (
-  causes.Usage,
-  usage_reply,
-  record {
-    other_words = λ h. refl;
-    too_large = λ h. absurd (let k : true ≡ false = sym h ∙ w in cc);
-    refused = λ h. absurd (let k : true ≡ false = sym h ∙ w in cc);
-    accepted = λ h. absurd (let k : true ≡ false = sym h ∙ w in cc);
-  },
-  e,
-)
-
 pub read_by : (words : List (List ℕ)) (old new : Reading) (before after : Writing) (planned cause : Cause) (reply bytes : List ℕ) (left : Option (List ℕ)) → Plans words old new planned reply → Ends planned reply before after cause
     → IsRead bytes left planned → IsRead bytes left cause
 read_by words old new before after planned cause reply bytes left p e r = λ f m.
