@@ -12,6 +12,7 @@ pub mod Search
 pub mod Tokens
 pub mod Grammar
 pub mod Translation
+pub mod Commands
 pub mod Replies
 pub mod Domains
 pub mod Positions

@@ -6,6 +6,7 @@
 //! share: `Paths`, `Trees`, `Histories`, `Leaves`.
 #![tactic(auto)]
 
+mod command;
 mod configuration;
 mod history;
 mod kernel;
@@ -13,6 +14,7 @@ mod outcome;
 mod syntax;
 mod tree;
 
+pub use command::Command;
 pub use configuration::{
     Binding, Code, Configuration, Frame, Layer, Next, Procedure, Status, Tell, Thread, Value,
 };

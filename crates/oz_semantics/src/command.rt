@@ -1,0 +1,9 @@
+//! What the words of the command line ask for.
+
+/// A command with its numbers.
+#[derive(Clone, Copy, Debug, PartialEq, Eq)]
+pub enum Command {
+    /// `all`: the leaves of the search of a script, by that many workers (1) and for no more than that many steps
+    /// (1 to 281474976710656).
+    All { workers: u32, budget: u64 },
+}
