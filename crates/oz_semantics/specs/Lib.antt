@@ -10,10 +10,10 @@ pub mod Texts
 pub mod Runs
 pub mod Search
 pub mod Tokens
+pub mod Wording
 pub mod Grammar
-pub mod Translation
+pub mod Refusals
 pub mod Commands
-pub mod Replies
 pub mod Domains
 pub mod Positions
 pub mod Relations

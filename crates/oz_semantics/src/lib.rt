@@ -11,7 +11,7 @@ mod configuration;
 mod history;
 mod kernel;
 mod outcome;
-mod syntax;
+mod token;
 mod tree;
 
 pub use command::Command;
@@ -20,6 +20,6 @@ pub use configuration::{
 };
 pub use history::{Entry, Halt, StopCause};
 pub use kernel::{Kernel, Statement};
-pub use outcome::{Cause, Leaf, Raise, RefusalKind, State, Stepped};
-pub use syntax::{Alternative, Program, Token};
+pub use outcome::{Cause, Fault, Leaf, Raise, RefusalKind, State, Stepped};
+pub use token::{Lexeme, Literal, Sort, Token};
 pub use tree::{Kind, Outcome, Report};
