@@ -32,6 +32,10 @@ mutual
     nothing : Phrases
     more : Phrase → Phrases → Phrases
 
+abbrev pub of_list : List Phrase → Phrases
+of_list [] = nothing
+of_list (p ∷ ps) = more p (of_list ps)
+
 -- the tokens of a phrase
 abbrev mutual
   pub tokens_of : Phrase → List Token

@@ -3,7 +3,7 @@
 use Rattle.std.specs.Prelude.{ℕ, suc, ◌≡◌, ◌<◌, ◌+◌, ◌-◌, ◌||◌, nat_lt, nat_eq, Bool, true, false, if◌then◌else◌, List, [], ◌∷◌, ◌++◌, length, take, slice_get, Some}
 use Rattle.std.specs.List.{list_any}
 use Rattle.oz_semantics.specs.Tokens.{Lexes, Whole, Bad}
-use Rattle.oz_semantics.specs.Wording.{tokens_in}
+use Rattle.oz_semantics.specs.Wording.{words_of, tokens_in}
 use Rattle.oz_semantics.specs.Grammar.{Phrase, Phrases, nothing, more, var, int, literal, tuple, skip, fail, equal, call, proc, local, choice, body, Derives, Begins}
 use Rattle.oz_semantics.specs.declared.token.Lexeme.{Lexeme}
 use Rattle.oz_semantics.specs.declared.token.Token.{Token}
@@ -97,13 +97,19 @@ first_scope = 0 ∷ []
 
 -- Texts
 
+-- a program as it is read: its words, and its phrase, which names them by their numbers
+pub record Program : Type 0 where
+  pub words : List (List ℕ)
+  pub phrase : Phrase
+
 -- the text is the program's
-pub record Accepts (text : List ℕ) (p : Phrase) : Type 0 where
+pub record Accepts (text : List ℕ) (p : Program) : Type 0 where
   pub lexemes : List Lexeme
   pub lexed : Lexes text 0 lexemes Whole
-  pub derived : Derives (tokens_in text lexemes) p
+  pub words : p.words ≡ words_of text lexemes
+  pub derived : Derives (tokens_in text lexemes) p.phrase
   pub shallow : too_deep 0 (tokens_in text lexemes) ≡ false
-  pub in_scope : faults first_scope p ≡ []
+  pub in_scope : faults first_scope p.phrase ≡ []
 
 -- the tokens before the n-th begin a program and do not lie too deep
 pub record IsFineBefore (ts : List Token) (n : ℕ) : Type 0 where
