@@ -5,6 +5,8 @@ use Rattle.std.specs.List.{find, flat_map, range_with_len}
 use Rattle.oz_base.specs.Lists.{list_eq, is_empty, edit_first, put_before}
 use Rattle.oz_base.specs.declared.names.Ident.{Ident}
 use Rattle.oz_semantics.specs.Names.{is_below, is_properly_below, space_lt, child_name, named}
+use Rattle.oz_semantics.specs.Kernels.{name_eq}
+use Rattle.oz_semantics.specs.declared.kernel.Name.{Name}
 use Rattle.oz_semantics.specs.declared.configuration.Code.TheVariants as code
 use Rattle.oz_semantics.specs.declared.configuration.Binding.{Binding}
 use Rattle.oz_semantics.specs.declared.configuration.Frame.{Frame}
@@ -43,9 +45,15 @@ abbrev pub nowhere : Ident
 nowhere = named [] 0
 
 -- the variable of an identifier: the innermost binding counts
-abbrev pub bound : List Binding → ℕ → Ident
+abbrev pub bound : List Binding → Name → Ident
 bound [] name = nowhere
-bound (b ∷ bs) name = if b.name == name then b.variable else bound bs name
+bound (b ∷ bs) name = if name_eq b.name name then b.variable else bound bs name
+
+-- identifiers that stand for variables, one for each
+abbrev pub bindings : List Name → List Ident → List Binding
+bindings (n ∷ ns) (x ∷ xs) = record { name = n; variable = x } ∷ bindings ns xs
+bindings [] xs = []
+bindings (n ∷ ns) [] = []
 
 -- the variables that a layer gave out
 abbrev pub variables_of : Layer → List Ident
@@ -74,6 +82,13 @@ without_gone l = record l { threads = filter (λ (t : Thread). not (is_empty t.f
 -- a space is told one thing more
 abbrev pub telling : Tell → Layer → Layer
 telling t l = record l { tells = l.tells ++ t ∷ [] }
+
+-- the next variables of a space, so many
+abbrev pub fresh_variables : Layer → ℕ → List Ident
+fresh_variables l n = map (named l.space) (range_with_len l.next.variable n)
+
+abbrev pub giving_out : ℕ → Layer → Layer
+giving_out n l = record l { next = record l.next { variable = l.next.variable + n } }
 
 -- a new thread with these statements
 abbrev pub spawning : List Frame → Layer → Layer

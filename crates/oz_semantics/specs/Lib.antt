@@ -13,7 +13,9 @@ pub mod Tokens
 pub mod Wording
 pub mod Grammar
 pub mod Refusals
+pub mod Translation
 pub mod Commands
+pub mod Replies
 pub mod Domains
 pub mod Positions
 pub mod Relations

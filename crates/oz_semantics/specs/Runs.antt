@@ -4,6 +4,7 @@ use Rattle.oz_semantics.specs.Names.{named}
 use Rattle.oz_semantics.specs.Configurations.{spawning, new_layer, frames_of}
 use Rattle.oz_semantics.specs.Spaces.{goes_on}
 use Rattle.oz_semantics.specs.Schedule.{Turned, turn, settled}
+use Rattle.oz_semantics.specs.declared.kernel.Name.TheVariants.{Word}
 use Rattle.oz_semantics.specs.declared.kernel.Statement.{Statement}
 use Rattle.oz_semantics.specs.declared.kernel.Kernel.{Kernel}
 use Rattle.oz_semantics.specs.declared.configuration.Binding.{Binding}
@@ -13,7 +14,7 @@ use Rattle.oz_semantics.specs.declared.outcome.Stepped.TheVariants.{Moved, Quies
 
 -- Word 0, `Script`, stands for variable 0 of the top.
 abbrev pub opening_environment : List Binding
-opening_environment = record { name = 0; variable = named [] 0 } ∷ []
+opening_environment = record { name = Word 0; variable = named [] 0 } ∷ []
 
 abbrev pub left_by : Turned → Configuration
 left_by t = t.1

@@ -28,7 +28,8 @@ script_variable = named [] 0
 
 abbrev pub is_script : Value → Bool
 is_script (value.Procedure p) = (length p.parameters == 1)
-is_script (value.Atom a) = false
+is_script (value.Constant c) = false
+is_script (value.Tuple t) = false
 
 -- the top made `Script` a procedure of one parameter
 abbrev pub has_script : Configuration → Bool

@@ -1,13 +1,14 @@
 -- Kernel statements (CTM 2.4, 4.1): when each can step, what it waits for, what it offers, and what its step does. A step
 -- changes the layer of the thread's own space and no other.
-use Rattle.std.specs.Prelude.{ℕ, ◌+◌, ◌==◌, Bool, true, false, if◌then◌else◌, List, [], ◌∷◌, ◌++◌, Option, Some, None, length, slice_get}
+use Rattle.std.specs.Prelude.{ℕ, ◌+◌, ◌==◌, Bool, true, false, if◌then◌else◌, List, [], ◌∷◌, ◌++◌, Option, Some, None, map, length, slice_get}
 use Rattle.oz_base.specs.Lists.{first}
 use Rattle.oz_base.specs.declared.names.Ident.{Ident}
 use Rattle.oz_semantics.specs.Names.{named}
 use Rattle.oz_semantics.specs.Store.{value_of, is_determined, is_consistent}
-use Rattle.oz_semantics.specs.Configurations.{bound, with_frames, telling, frames_of}
+use Rattle.oz_semantics.specs.Configurations.{bound, bindings, with_frames, telling, fresh_variables, giving_out, frames_of}
+use Rattle.oz_semantics.specs.declared.kernel.Name.{Name}
 use Rattle.oz_semantics.specs.declared.kernel.Statement.{Statement}
-use Rattle.oz_semantics.specs.declared.kernel.Statement.TheVariants.{BindAtom, BindProcedure, Choice, Fail}
+use Rattle.oz_semantics.specs.declared.kernel.Statement.TheVariants.{Skip, Fail, Local, Equate, Bind, BindTuple, BindProcedure, Call, Choice}
 use Rattle.oz_semantics.specs.declared.configuration.Code.{Code}
 use Rattle.oz_semantics.specs.declared.configuration.Code.TheVariants as code
 use Rattle.oz_semantics.specs.declared.configuration.Binding.{Binding}
@@ -16,7 +17,7 @@ use Rattle.oz_semantics.specs.declared.configuration.Procedure as procedures
 use Rattle.oz_semantics.specs.declared.configuration.Value.{Value}
 use Rattle.oz_semantics.specs.declared.configuration.Value.TheVariants as value
 use Rattle.oz_semantics.specs.declared.configuration.Tell.{Tell}
-use Rattle.oz_semantics.specs.declared.configuration.Tell.TheVariants.{Is}
+use Rattle.oz_semantics.specs.declared.configuration.Tell.TheVariants.{Equal, Is}
 use Rattle.oz_semantics.specs.declared.configuration.Thread.{Thread}
 use Rattle.oz_semantics.specs.declared.configuration.Layer.{Layer}
 use Rattle.oz_semantics.specs.declared.outcome.Raise.{Raise}
@@ -31,21 +32,30 @@ pub data Readiness : Type 0 where
   -- so many alternatives
   Offers : ℕ → Readiness
 
-abbrev pub statement_ready : Option Statement → Readiness
-statement_ready (Some (BindAtom name atom)) = Steps
-statement_ready (Some (BindProcedure name parameters body)) = Steps
-statement_ready (Some (Choice alternatives)) = Offers (length alternatives)
-statement_ready (Some Fail) = Steps
-statement_ready None = Waits []
+-- until the variable has a value
+abbrev pub awaits : List Tell → Ident → Readiness
+awaits view x = if is_determined view x then Steps else Waits (x ∷ [])
 
 -- a call waits for its procedure
-abbrev pub code_ready : List Statement → List Tell → Code → Readiness
-code_ready statements view (code.Statement n) = statement_ready (slice_get statements n)
-code_ready statements view (code.Apply procedure argument) = if is_determined view procedure then Steps else Waits (procedure ∷ [])
+abbrev pub statement_ready : List Tell → List Binding → Option Statement → Readiness
+statement_ready view environment (Some Skip) = Steps
+statement_ready view environment (Some Fail) = Steps
+statement_ready view environment (Some (Local names body)) = Steps
+statement_ready view environment (Some (Equate left right)) = Steps
+statement_ready view environment (Some (Bind name v)) = Steps
+statement_ready view environment (Some (BindTuple name label fields)) = Steps
+statement_ready view environment (Some (BindProcedure name parameters body)) = Steps
+statement_ready view environment (Some (Call procedure arguments)) = awaits view (bound environment procedure)
+statement_ready view environment (Some (Choice alternatives)) = Offers (length alternatives)
+statement_ready view environment None = Waits []
+
+abbrev pub code_ready : List Statement → List Tell → List Binding → Code → Readiness
+code_ready statements view environment (code.Statement n) = statement_ready view environment (slice_get statements n)
+code_ready statements view environment (code.Apply procedure argument) = awaits view procedure
 
 -- by the statement on top of a stack, if there is one
 abbrev pub top_ready : List Statement → List Tell → Option Frame → Readiness
-top_ready statements view (Some frame) = code_ready statements view frame.code
+top_ready statements view (Some frame) = code_ready statements view frame.environment frame.code
 top_ready statements view None = Waits []
 
 abbrev pub thread_ready : List Statement → List Tell → Thread → Readiness
@@ -79,41 +89,50 @@ pub record Place : Type 0 where
   pub layer : Layer
   pub thread : ℕ
 
--- tells a value and then makes a change, where the value is consistent with what the space sees
-abbrev pub tells_then : Place → Ident → Value → (Layer → Layer) → Effect
-tells_then p x v change = if is_consistent (p.view ++ Is x v ∷ []) then Becomes (change (telling (Is x v) p.layer)) else Raises FailureTell
+-- tells something and then makes a change, where that is consistent with what the space sees
+abbrev pub tells_then : Place → Tell → (Layer → Layer) → Effect
+tells_then p t change = if is_consistent (p.view ++ t ∷ []) then Becomes (change (telling t p.layer)) else Raises FailureTell
+
+abbrev pub tells : Place → Tell → Effect
+tells p t = tells_then p t (λ l. l)
+
+-- the statements of a body on top of the thread's stack
+abbrev pub pushing : Place → List Binding → List ℕ → Layer → Layer
+pushing p environment body l = with_frames p.thread (λ frames. frames_of environment body ++ frames) l
 
 -- the procedure value that a statement makes here
-abbrev pub procedure_made : Place → List Binding → List ℕ → List ℕ → procedures.Procedure
+abbrev pub procedure_made : Place → List Binding → List Name → List ℕ → procedures.Procedure
 procedure_made p environment parameters body =
     record { name = named p.layer.space p.layer.next.procedure; parameters = parameters; body = body; environment = environment }
 
 abbrev pub counting_procedure : Layer → Layer
 counting_procedure l = record l { next = record l.next { procedure = l.next.procedure + 1 } }
 
-abbrev pub statement_effect : Place → List Binding → Option Statement → Effect
-statement_effect p environment (Some (BindAtom name atom)) = tells_then p (bound environment name) (value.Atom atom) (λ l. l)
-statement_effect p environment (Some (BindProcedure name parameters body)) =
-    tells_then p (bound environment name) (value.Procedure (procedure_made p environment parameters body)) counting_procedure
-statement_effect p environment (Some (Choice alternatives)) = Becomes p.layer
-statement_effect p environment (Some Fail) = Raises FailureFail
-statement_effect p environment None = Becomes p.layer
-
--- parameters that stand for arguments
-abbrev pub bindings : List ℕ → List Ident → List Binding
-bindings (n ∷ ns) (x ∷ xs) = record { name = n; variable = x } ∷ bindings ns xs
-bindings [] xs = []
-bindings (n ∷ ns) [] = []
-
 -- the body of a procedure, with its parameters standing for the arguments
 abbrev pub pushes_body : Place → procedures.Procedure → List Ident → Effect
-pushes_body p q arguments =
-    Becomes (with_frames p.thread (λ frames. frames_of (bindings q.parameters arguments ++ q.environment) q.body ++ frames) p.layer)
+pushes_body p q arguments = Becomes (pushing p (bindings q.parameters arguments ++ q.environment) q.body p.layer)
 
 abbrev pub call_effect : Place → Option Value → List Ident → Effect
 call_effect p (Some (value.Procedure q)) arguments = if length arguments == length q.parameters then pushes_body p q arguments else Raises Arity
-call_effect p (Some (value.Atom a)) arguments = Raises Apply
+call_effect p (Some (value.Constant c)) arguments = Raises Apply
+call_effect p (Some (value.Tuple t)) arguments = Raises Apply
 call_effect p None arguments = Becomes p.layer
+
+abbrev pub statement_effect : Place → List Binding → Option Statement → Effect
+statement_effect p environment (Some Skip) = Becomes p.layer
+statement_effect p environment (Some Fail) = Raises FailureFail
+statement_effect p environment (Some (Local names body)) =
+    Becomes (pushing p (bindings names (fresh_variables p.layer (length names)) ++ environment) body (giving_out (length names) p.layer))
+statement_effect p environment (Some (Equate left right)) = tells p (Equal (bound environment left) (bound environment right))
+statement_effect p environment (Some (Bind name v)) = tells p (Is (bound environment name) (value.Constant v))
+statement_effect p environment (Some (BindTuple name label fields)) =
+    tells p (Is (bound environment name) (value.Tuple (record { label = label; fields = map (bound environment) fields })))
+statement_effect p environment (Some (BindProcedure name parameters body)) =
+    tells_then p (Is (bound environment name) (value.Procedure (procedure_made p environment parameters body))) counting_procedure
+statement_effect p environment (Some (Call procedure arguments)) =
+    call_effect p (value_of p.view (bound environment procedure)) (map (bound environment) arguments)
+statement_effect p environment (Some (Choice alternatives)) = Becomes p.layer
+statement_effect p environment None = Becomes p.layer
 
 abbrev pub code_effect : List Statement → Place → Frame → Code → Effect
 code_effect statements p frame (code.Statement n) = statement_effect p frame.environment (slice_get statements n)

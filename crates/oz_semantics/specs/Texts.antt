@@ -1,10 +1,16 @@
 -- The text of a term, and how many nodes it has.
-use Rattle.std.specs.Prelude.{ℕ, List, Option, Some, None, codes}
+use Rattle.std.specs.Prelude.{ℕ, zero, suc, ◌+◌, ℤ, pos, negsuc, List, [], ◌∷◌, ◌++◌, Option, Some, None, map, length, position, codes}
+use Rattle.std.specs.Fmt.{decimal}
 use Rattle.oz_base.specs.declared.names.Ident.{Ident}
 use Rattle.oz_semantics.specs.Kernels.{word_text}
-use Rattle.oz_semantics.specs.Store.{value_of}
+use Rattle.oz_semantics.specs.Store.{same, value_of}
+use Rattle.oz_semantics.specs.declared.token.Literal.{Literal}
+use Rattle.oz_semantics.specs.declared.token.Literal.TheVariants as literal
+use Rattle.oz_semantics.specs.declared.kernel.Constant.{Constant}
+use Rattle.oz_semantics.specs.declared.kernel.Constant.TheVariants as constant
+use Rattle.oz_semantics.specs.declared.configuration.Tuple as tuples
 use Rattle.oz_semantics.specs.declared.configuration.Value.{Value}
-use Rattle.oz_semantics.specs.declared.configuration.Value.TheVariants.{Atom, Procedure}
+use Rattle.oz_semantics.specs.declared.configuration.Value.TheVariants as value
 use Rattle.oz_semantics.specs.declared.configuration.Tell.{Tell}
 use Rattle.oz_semantics.specs.declared.outcome.Raise.{Raise}
 use Rattle.oz_semantics.specs.declared.outcome.Raise.TheVariants.{FailureTell, FailureFail, FailureTop, Apply, Arity}
@@ -16,14 +22,64 @@ pub record Printed : Type 0 where
 abbrev pub one_node : List ℕ → Printed
 one_node bytes = record { bytes = bytes; nodes = 1 }
 
-abbrev pub value_text : List (List ℕ) → Option Value → Printed
-value_text words None = one_node (codes "_")
-value_text words (Some (Atom a)) = one_node (word_text words a)
-value_text words (Some (Procedure p)) = one_node (codes "<proc>")
+-- Integers and literals
+
+-- `~` stands before the digits of a negative one
+abbrev pub integer_text : ℤ → List ℕ
+integer_text (pos n) = decimal n
+integer_text (negsuc n) = codes "~" ++ decimal (suc n)
+
+abbrev pub literal_text : List (List ℕ) → Literal → List ℕ
+literal_text words (literal.Atom a) = word_text words a
+literal_text words literal.True = codes "true"
+literal_text words literal.False = codes "false"
+literal_text words literal.Unit = codes "unit"
+
+abbrev pub constant_text : List (List ℕ) → Constant → List ℕ
+constant_text words (constant.Int i) = integer_text i
+constant_text words (constant.Literal l) = literal_text words l
+
+-- Tuples
+
+-- each after the first has a blank before it
+abbrev pub spaced : List (List ℕ) → List ℕ
+spaced [] = []
+spaced (t ∷ ts) = codes " " ++ t ++ spaced ts
+
+abbrev pub in_row : List (List ℕ) → List ℕ
+in_row [] = []
+in_row (t ∷ ts) = t ++ spaced ts
+
+abbrev pub count_nodes : List Printed → ℕ
+count_nodes [] = 0
+count_nodes (p ∷ ps) = p.nodes + count_nodes ps
+
+-- l(F ..)
+abbrev pub tuple_printed : List ℕ → List Printed → Printed
+tuple_printed label ps =
+    record { bytes = label ++ codes "(" ++ in_row (map (λ (p : Printed). p.bytes) ps) ++ codes ")"; nodes = suc (count_nodes ps) }
+
+-- Terms
+
+-- a tuple; or, where its class is open on the way from the root, the number of tuples up to it, the enclosing one being 1
+abbrev pub tuple_or_up : List (List ℕ) → (Ident → Printed) → tuples.Tuple → Option ℕ → Printed
+tuple_or_up words print t None = tuple_printed (literal_text words t.label) (map print t.fields)
+tuple_or_up words print t (Some k) = one_node (codes "^" ++ decimal (suc k))
+
+abbrev pub value_printed : List (List ℕ) → (Ident → Printed) → Option ℕ → Option Value → Printed
+value_printed words print up None = one_node (codes "_")
+value_printed words print up (Some (value.Constant c)) = one_node (constant_text words c)
+value_printed words print up (Some (value.Tuple t)) = tuple_or_up words print t up
+value_printed words print up (Some (value.Procedure p)) = one_node (codes "<proc>")
+
+-- the term of x inside the tuples that are open, the innermost first; no more can be open than there are tells
+unfoldable pub printed : List (List ℕ) → List Tell → ℕ → List Ident → Ident → Printed
+printed words view zero up x = one_node []
+printed words view (suc n) up x = value_printed words (printed words view n (x ∷ up)) (position (same view x) up) (value_of view x)
 
 -- the term of a variable in a view
 abbrev pub term_text : List (List ℕ) → List Tell → Ident → Printed
-term_text words view x = value_text words (value_of view x)
+term_text words view x = printed words view (suc (length view)) [] x
 
 -- the term of an exception
 abbrev pub raise_text : Raise → Printed

@@ -1,12 +1,41 @@
 -- Values (CTM 2.3.2), and what tells two of them apart.
-use Rattle.std.specs.Prelude.{Bool, false, ◌==◌}
+use Rattle.std.specs.Prelude.{ℕ, Bool, false, ◌&&◌, ◌==◌, List, [], length}
+use Rattle.std.specs.Ordering.{int_eq}
 use Rattle.oz_base.specs.Names.{ident_eq}
+use Rattle.oz_base.specs.declared.names.Ident.{Ident}
+use Rattle.oz_semantics.specs.declared.token.Literal.{Literal}
+use Rattle.oz_semantics.specs.declared.token.Literal.TheVariants as literal
+use Rattle.oz_semantics.specs.declared.kernel.Constant.{Constant}
+use Rattle.oz_semantics.specs.declared.kernel.Constant.TheVariants as constant
 use Rattle.oz_semantics.specs.declared.configuration.Value.{Value}
-use Rattle.oz_semantics.specs.declared.configuration.Value.TheVariants.{Atom, Procedure}
+use Rattle.oz_semantics.specs.declared.configuration.Value.TheVariants as value
 
--- one atom, or one procedure
+-- the literals that are no atoms, told apart by a number
+abbrev pub literal_rank : Literal → ℕ
+literal_rank (literal.Atom a) = 0
+literal_rank literal.True = 1
+literal_rank literal.False = 2
+literal_rank literal.Unit = 3
+
+abbrev pub literal_eq : Literal → Literal → Bool
+literal_eq (literal.Atom a) (literal.Atom b) = (a == b)
+literal_eq l m = (literal_rank l == literal_rank m)
+
+abbrev pub constant_eq : Constant → Constant → Bool
+constant_eq (constant.Int i) (constant.Int j) = int_eq i j
+constant_eq (constant.Literal l) (constant.Literal m) = literal_eq l m
+constant_eq (constant.Int i) (constant.Literal m) = false
+constant_eq (constant.Literal l) (constant.Int j) = false
+
+-- one integer or literal, one procedure, or tuples of one label and as many fields
 abbrev pub is_like : Value → Value → Bool
-is_like (Atom a) (Atom b) = (a == b)
-is_like (Procedure p) (Procedure q) = ident_eq p.name q.name
-is_like (Atom a) (Procedure q) = false
-is_like (Procedure p) (Atom b) = false
+is_like (value.Constant c) (value.Constant d) = constant_eq c d
+is_like (value.Tuple t) (value.Tuple u) = literal_eq t.label u.label && (length t.fields == length u.fields)
+is_like (value.Procedure p) (value.Procedure q) = ident_eq p.name q.name
+is_like v w = false
+
+-- the variables in the fields
+abbrev pub fields_of : Value → List Ident
+fields_of (value.Tuple t) = t.fields
+fields_of (value.Constant c) = []
+fields_of (value.Procedure p) = []

@@ -1,6 +1,6 @@
 //! Configurations of the abstract machine (CTM 2.4, 12.4): a layer for each computation space, and the queue.
-use crate::Raise;
-use oz_base::{Copies, Ident, Sequence, Stack};
+use crate::{Constant, Literal, Name, Raise};
+use oz_base::{Copies, Ident, Sequence, Shared, Stack};
 use std::alloc::{AllocError, Global};
 
 /// What stands on a thread's stack: a statement of the kernel, or one that the machine itself put there.
@@ -27,10 +27,10 @@ impl Copies for Code {
     }
 }
 
-/// An identifier, by its number among the kernel's words, and the variable that it stands for.
+/// An identifier and the variable that it stands for.
 #[derive(Drop)]
 pub struct Binding {
-    pub name: u32,
+    pub name: Name,
     pub variable: Ident,
 }
 
@@ -43,11 +43,14 @@ impl Copies for Binding {
     }
 }
 
-/// A statement with its environment, the innermost binding first.
+/// Which variables identifiers stand for, the innermost binding first. The statements of a body share it.
+pub type Environment = Shared<Stack<Binding>>;
+
+/// A statement with its environment.
 #[derive(Drop)]
 pub struct Frame {
     pub code: Code,
-    pub environment: Stack<Binding>,
+    pub environment: Environment,
 }
 
 impl Copies for Frame {
@@ -63,9 +66,9 @@ impl Copies for Frame {
 #[derive(Drop)]
 pub struct Procedure {
     pub name: Ident,
-    pub parameters: Sequence<u32>,
+    pub parameters: Sequence<Name>,
     pub body: Sequence<u32>,
-    pub environment: Stack<Binding>,
+    pub environment: Environment,
 }
 
 impl Copies for Procedure {
@@ -79,18 +82,35 @@ impl Copies for Procedure {
     }
 }
 
+/// A tuple: a label, and a variable for each of the features 1, 2, ..
+#[derive(Drop)]
+pub struct Tuple {
+    pub label: Literal,
+    pub fields: Sequence<Ident>,
+}
+
+impl Copies for Tuple {
+    fn copied(&self, alloc: Global) -> Result<Self, AllocError> {
+        Ok(Tuple {
+            label: self.label,
+            fields: self.fields.copied(alloc)?,
+        })
+    }
+}
+
 /// A value of the language.
 #[derive(Drop)]
 pub enum Value {
-    /// An atom, by its number among the kernel's words.
-    Atom(u32),
+    Constant(Constant),
+    Tuple(Tuple),
     Procedure(Procedure),
 }
 
 impl Copies for Value {
     fn copied(&self, alloc: Global) -> Result<Self, AllocError> {
         match self {
-            Value::Atom(atom) => Ok(Value::Atom(*atom)),
+            Value::Constant(constant) => Ok(Value::Constant(*constant)),
+            Value::Tuple(tuple) => Ok(Value::Tuple(tuple.copied(alloc)?)),
             Value::Procedure(procedure) => Ok(Value::Procedure(procedure.copied(alloc)?)),
         }
     }
@@ -99,6 +119,8 @@ impl Copies for Value {
 /// What a space was told.
 #[derive(Drop)]
 pub enum Tell {
+    /// `x=y`
+    Equal { left: Ident, right: Ident },
     /// `x=v`
     Is { variable: Ident, value: Value },
 }
@@ -106,6 +128,10 @@ pub enum Tell {
 impl Copies for Tell {
     fn copied(&self, alloc: Global) -> Result<Self, AllocError> {
         match self {
+            Tell::Equal { left, right } => Ok(Tell::Equal {
+                left: left.copied(alloc)?,
+                right: right.copied(alloc)?,
+            }),
             Tell::Is { variable, value } => Ok(Tell::Is {
                 variable: variable.copied(alloc)?,
                 value: value.copied(alloc)?,

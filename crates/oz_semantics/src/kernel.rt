@@ -1,33 +1,78 @@
-//! Kernel programs (CTM 2.3), with their words and statements numbered.
-use oz_base::Sequence;
+//! Kernel programs (CTM 2.3), with their statements numbered.
+use crate::Literal;
+use oz_base::{Copies, Sequence};
+use std::alloc::{AllocError, Global};
 
-/// A kernel statement. Identifiers and atoms are numbers of the kernel's words. A body is the list of the numbers of its
-/// statements, in their order.
+/// An identifier of a kernel program.
+#[derive(Clone, Copy, Debug, PartialEq, Eq)]
+pub enum Name {
+    /// A word of the program's text, by its number.
+    Word(u32),
+    /// One that the translation made, by its number, from 1.
+    Fresh(u32),
+}
+
+impl Copies for Name {
+    fn copied(&self, _alloc: Global) -> Result<Self, AllocError> {
+        Ok(*self)
+    }
+}
+
+/// A value that stands in a program's text.
+#[derive(Clone, Copy, Debug, PartialEq, Eq)]
+pub enum Constant {
+    /// An integer from -2^127 to 2^127-1.
+    Int(i128),
+    Literal(Literal),
+}
+
+/// A kernel statement. A body is the list of the numbers of its statements, in their order.
 #[derive(Drop)]
 pub enum Statement {
-    /// `X=a`
-    BindAtom {
-        name: u32,
-        atom: u32,
+    Skip,
+    Fail,
+    /// `local X .. in S .. end`
+    Local {
+        names: Sequence<Name>,
+        body: Sequence<u32>,
+    },
+    /// `X=Y`
+    Equate {
+        left: Name,
+        right: Name,
+    },
+    /// `X=v`
+    Bind {
+        name: Name,
+        value: Constant,
+    },
+    /// `X=l(Y ..)`, with one field at least.
+    BindTuple {
+        name: Name,
+        label: Literal,
+        fields: Sequence<Name>,
     },
     /// `X=proc {$ Y ..} S .. end`
     BindProcedure {
-        name: u32,
-        parameters: Sequence<u32>,
+        name: Name,
+        parameters: Sequence<Name>,
         body: Sequence<u32>,
+    },
+    /// `{X Y ..}`
+    Call {
+        procedure: Name,
+        arguments: Sequence<Name>,
     },
     /// `choice S .. [] S .. end`: the bodies of its alternatives.
     Choice {
         alternatives: Sequence<Sequence<u32>>,
     },
-    /// `fail`
-    Fail,
 }
 
 /// A program in kernel form.
 #[derive(Drop)]
 pub struct Kernel {
-    /// The texts of identifiers and atoms, each once. The first is `Script`.
+    /// The texts of names and atoms, each once. The first is `Script`.
     pub words: Sequence<Sequence<u8>>,
     pub statements: Sequence<Statement>,
     /// What the program itself does.

@@ -16,10 +16,11 @@ mod tree;
 
 pub use command::Command;
 pub use configuration::{
-    Binding, Code, Configuration, Frame, Layer, Next, Procedure, Status, Tell, Thread, Value,
+    Binding, Code, Configuration, Environment, Frame, Layer, Next, Procedure, Status, Tell, Thread,
+    Tuple, Value,
 };
 pub use history::{Entry, Halt, StopCause};
-pub use kernel::{Kernel, Statement};
+pub use kernel::{Constant, Kernel, Name, Statement};
 pub use outcome::{Cause, Fault, Leaf, Raise, RefusalKind, State, Stepped};
 pub use token::{Lexeme, Literal, Sort, Token};
 pub use tree::{Kind, Outcome, Report};

@@ -76,8 +76,8 @@ pub enum Cause {
     Raised { text: Sequence<u8> },
     /// The words of the command line are not understood.
     Usage,
-    /// The text is not accepted; what is wrong with it, and at which byte, from 0.
-    Refused { kind: RefusalKind, at: u64 },
+    /// The text is not accepted.
+    Refused(Fault),
     ReadFault,
     WriteFault,
     /// The budget of steps, `total`, is exceeded.

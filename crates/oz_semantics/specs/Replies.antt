@@ -1,0 +1,141 @@
+-- What the program answers, and with which status it ends.
+use Rattle.std.specs.Prelude.{ℕ, ◌+◌, ◌≡◌, ◌<◌, ◌≤◌, nat_le, Bool, true, false, if◌then◌else◌, List, [], ◌∷◌, ◌++◌, Some, None, length, count_by, codes}
+use Rattle.std.specs.Fmt.{decimal}
+use Rattle.oz_semantics.specs.Texts.{Printed, raise_text}
+use Rattle.oz_semantics.specs.Runs.{Ran, Ended, TopRaised, Over, run, opening}
+use Rattle.oz_semantics.specs.Search.{Found, depth_first, has_script, script_variable, search_space, with_root}
+use Rattle.oz_semantics.specs.Refusals.{Program, Accepts, IsRefused}
+use Rattle.oz_semantics.specs.Commands.{Spells}
+use Rattle.oz_semantics.specs.Translation.{kernel_of}
+use Rattle.oz_semantics.specs.declared.kernel.Kernel.{Kernel}
+use Rattle.oz_semantics.specs.declared.outcome.State.{State}
+use Rattle.oz_semantics.specs.declared.outcome.State.TheVariants as states
+use Rattle.oz_semantics.specs.declared.outcome.Leaf.{Leaf}
+use Rattle.oz_semantics.specs.declared.outcome.RefusalKind.{RefusalKind}
+use Rattle.oz_semantics.specs.declared.outcome.RefusalKind.TheVariants.{Byte, Deep, Syntax, Unbound, Linear}
+use Rattle.oz_semantics.specs.declared.outcome.Fault.{Fault}
+use Rattle.oz_semantics.specs.declared.command.Command.TheVariants as command
+use Rattle.oz_semantics.specs.declared.command.Command.{Command}
+use Rattle.oz_semantics.specs.declared.outcome.Cause.{Cause}
+use Rattle.oz_semantics.specs.declared.outcome.Cause.TheVariants as causes
+
+abbrev pub line : List ℕ → List ℕ
+line text = text ++ 10 ∷ []
+
+-- Leaves
+
+-- K is the number of the leaf
+abbrev pub leaf_line : ℕ → List ℕ → State → List ℕ
+leaf_line k text states.Solved = line (codes "solved " ++ decimal k ++ codes " " ++ text)
+leaf_line k text states.Stuck = line (codes "stuck " ++ decimal k ++ codes " " ++ text)
+leaf_line k text (states.Raised raise) = line (codes "raised " ++ decimal k ++ codes " " ++ text)
+leaf_line k text states.Suspended = line (codes "suspended " ++ decimal k)
+leaf_line k text states.Running = []
+leaf_line k text states.Failed = []
+leaf_line k text (states.Alternatives n) = []
+
+-- a line for each leaf, numbered from k
+abbrev pub leaf_lines : ℕ → List Leaf → List ℕ
+leaf_lines k [] = []
+leaf_lines k (leaf ∷ leaves) = leaf_line k leaf.text leaf.state ++ leaf_lines (k + 1) leaves
+
+-- which of the four totals a leaf counts in: solved, stuck, raised, suspended
+abbrev pub is_solved : State → Bool
+is_solved states.Solved = true
+is_solved state = false
+
+abbrev pub is_stuck : State → Bool
+is_stuck states.Stuck = true
+is_stuck state = false
+
+abbrev pub is_raised : State → Bool
+is_raised (states.Raised raise) = true
+is_raised state = false
+
+abbrev pub is_suspended : State → Bool
+is_suspended states.Suspended = true
+is_suspended state = false
+
+abbrev pub total : (State → Bool) → List Leaf → List ℕ
+total test leaves = decimal (count_by (λ (leaf : Leaf). test leaf.state) leaves)
+
+abbrev pub total_line : List Leaf → List ℕ
+total_line leaves =
+    line (codes "total solved=" ++ total is_solved leaves ++ codes " stuck=" ++ total is_stuck leaves
+    ++ codes " raised=" ++ total is_raised leaves ++ codes " suspended=" ++ total is_suspended leaves)
+
+-- what a search that found these leaves writes
+unfoldable pub leaves_reply : List Leaf → List ℕ
+leaves_reply leaves = leaf_lines 1 leaves ++ total_line leaves
+
+-- The answer of `all`: its cause and what it writes
+
+abbrev pub Answer : Type 0
+Answer = Cause × List ℕ
+
+abbrev pub spent : ℕ → Answer
+spent budget = (causes.Spent budget, line (codes "spent " ++ decimal budget))
+
+abbrev pub answer_of_tree : ℕ → Found → Answer
+answer_of_tree budget None = spent budget
+answer_of_tree budget (Some (leaves, left)) = (causes.Done, leaves_reply leaves)
+
+-- an exception of the top, whose text has to fit into the budget too
+abbrev pub answer_of_raise : ℕ → ℕ → Printed → Answer
+answer_of_raise budget left printed =
+    if nat_le printed.nodes left then (causes.Raised printed.bytes, line (codes "raised " ++ printed.bytes)) else spent budget
+
+abbrev pub answer_of_top : Kernel → ℕ → Ran → Answer
+answer_of_top k budget (TopRaised c left raise) = answer_of_raise budget left (raise_text raise)
+answer_of_top k budget (Over c) = spent budget
+answer_of_top k budget (Ended c left) =
+    if has_script c then answer_of_tree budget (depth_first k (search_space c) (with_root k.statements script_variable c) left)
+    else (causes.NoScript, line (codes "no script"))
+
+-- what `all` answers for a kernel: the top runs until it is quiescent, and then the tree of its script is searched
+unfoldable pub answer_to : Kernel → ℕ → Answer
+answer_to k budget = answer_of_top k budget (run k.statements [] (opening k) budget)
+
+-- a text has at most so many bytes
+abbrev pub text_limit : ℕ
+text_limit = 1048576
+
+abbrev pub usage_reply : List ℕ
+usage_reply = line (codes "usage")
+
+abbrev pub too_large_reply : List ℕ
+too_large_reply = line (codes "too large")
+
+abbrev pub kind_text : RefusalKind → List ℕ
+kind_text Byte = codes "byte"
+kind_text Deep = codes "deep"
+kind_text Syntax = codes "syntax"
+kind_text Unbound = codes "unbound"
+kind_text Linear = codes "linear"
+
+abbrev pub refused_reply : Fault → List ℕ
+refused_reply fault = line (codes "refused " ++ kind_text fault.kind ++ codes " " ++ decimal fault.at)
+
+-- What `all` answers to a text, for a budget
+pub record IsTextReply (bytes : List ℕ) (budget : ℕ) (answer : Answer) : Type 0 where
+  pub too_large : text_limit < length bytes → answer ≡ (causes.TooLarge (text_limit + 1), too_large_reply)
+  pub refused : length bytes ≤ text_limit → (fault : Fault) → IsRefused bytes fault → answer ≡ (causes.Refused fault, refused_reply fault)
+  pub accepted : length bytes ≤ text_limit → (p : Program) → Accepts bytes p → answer ≡ answer_to (kernel_of p) budget
+
+-- What the program answers to its words, where the source has these bytes: a cause, and what is written.
+pub record IsReply (words : List (List ℕ)) (bytes : List ℕ) (answer : Answer) : Type 0 where
+  pub usage : ((c : Command) → Spells words c → ⊥) → answer ≡ (causes.Usage, usage_reply)
+  pub all : (workers budget : ℕ) → Spells words (command.All workers budget) → IsTextReply bytes budget answer
+
+-- The status of a cause
+abbrev pub status_of : Cause → ℕ
+status_of causes.Done = 0
+status_of (causes.Raised text) = 1
+status_of causes.Usage = 2
+status_of (causes.Refused fault) = 3
+status_of causes.ReadFault = 4
+status_of causes.WriteFault = 5
+status_of (causes.Spent total) = 6
+status_of causes.NoMemory = 7
+status_of (causes.TooLarge count) = 8
+status_of causes.NoScript = 9
