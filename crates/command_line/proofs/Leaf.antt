@@ -1,5 +1,5 @@
 -- Each command as clap builds it, and what its rules make of one value.
-use Rattle.std.proofs.Common.{◌≡◌, ◌∙◌, refl, sym, subst, ℕ, Bool, true, false, true≢false, List, [], ◌∷◌, Option, Some, None, codes, cond, ◌||◌}
+use Rattle.std.proofs.Common.{◌≡◌, ◌∙◌, refl, ℕ, Bool, true, false, List, [], ◌∷◌, Option, Some, None, codes, cond, ◌||◌}
 use Rattle.std.specs.Str.{bytes_eq}
 use Rattle.std.specs.Prelude.{if◌then◌else◌}
 use Rattle.clap.specs.Words.{Row, Rule, Shape, Text}

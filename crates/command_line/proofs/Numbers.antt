@@ -57,16 +57,22 @@ digits_no_plus t e = go (has_plus t) refl
     go true h = absurd (true≢false (sym e ∙ no_digit t h))
     go false h = h
 
+number_most : (n : OptionName) (t : Text) → is_number n t ≡ true → digits_value 10 t ≤ most n
+number_most n t e = leb-true _ _ (both _ _ e).1
+
+number_digits : (n : OptionName) (t : Text) → is_number n t ≡ true → list_all (λ d. is_digit d 10) t ≡ true
+number_digits n t e = (both _ _ (both _ _ (both _ _ e).0).0).1
+
+number_is_numeral : (n : OptionName) (t : Text) → is_number n t ≡ true → IsNumeral 10 t
+number_is_numeral n t e = (ltb-true _ _ (both _ _ (both _ _ (both _ _ e).0).0).0, digits t (number_digits n t e))
+
 -- digits that are the number of an option read as that number
 pub reads_number : (n : OptionName) (t : Text) → is_number n t ≡ true → (E : Type 0) (r : Option ℕ) (gives : Text → Result ℕ E → Type 0)
     → ((x : Result ℕ E) → gives t x → ParsesUnsigned 64 10 t x) → ReadsOne gives t r → r ≡ Some (digits_value 10 t)
 reads_number n t e E r gives parses h =
-    let least = both _ _ e in
-    let numeral = both _ _ (both _ _ least.0).0 in
-    let plain : without_leading_plus t ≡ t = no_plus t (digits_no_plus t numeral.1) in
-    let top : digits_value 10 t ≤ most n = leb-true _ _ least.1 in
-    let fits : digits_value 10 t < 2 ^ 64 = omega (arith, most_fits n) in
-    go r plain (ltb-true _ _ numeral.0, digits t numeral.1) fits h
+    let plain : without_leading_plus t ≡ t = no_plus t (digits_no_plus t (number_digits n t e)) in
+    let fits : digits_value 10 t < 2 ^ 64 = omega (arith, number_most n t e, most_fits n) in
+    go r plain (number_is_numeral n t e) fits h
   where
     go : (r : Option ℕ) → without_leading_plus t ≡ t → IsNumeral 10 t → digits_value 10 t < 2 ^ 64 → ReadsOne gives t r → r ≡ Some (digits_value 10 t)
     go (Some v) plain numeral fits h = ap Some ((parses (Ok v) h).1 ∙ ap (digits_value 10) plain)
@@ -128,4 +134,4 @@ value_most v n given ok = subst (λ o. unwrap_or o (default n) ≤ most n) (numb
   where
     go : (o : Option Text) → text_in given n ≡ o → unwrap_or (option_map (digits_value 10) o) (default n) ≤ most n
     go None e = default_most n
-    go (Some t) e = leb-true _ _ (both _ _ (text_is_number v n given t ok e)).1
+    go (Some t) e = number_most n t (text_is_number v n given t ok e)

@@ -1,5 +1,5 @@
 -- The words spell a command exactly where the reading from the left gives it.
-use Rattle.std.proofs.Common.{◌≡◌, ◌∙◌, ap, ap₂, refl, sym, ℕ, Bool, true, false, true≢false, List, [], ◌∷◌, ◌++◌, append_assoc, append-nil, Option, Some, None, IfSome, cond, ◌&&◌, ◌||◌, ◌==◌, not, codes}
+use Rattle.std.proofs.Common.{◌≡◌, ◌∙◌, ap, ap₂, refl, sym, Bool, true, false, true≢false, List, [], ◌∷◌, ◌++◌, append_assoc, append-nil, Option, Some, None, IfSome, cond, ◌&&◌, ◌||◌, ◌==◌, not, codes}
 use Rattle.std.specs.Prelude.{option_and_then, option_map}
 use Rattle.std.specs.List.{list_any, list_all, flat_map, before_first, after_first}
 use Rattle.std.specs.Str.{bytes_eq}

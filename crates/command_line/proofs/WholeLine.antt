@@ -12,9 +12,9 @@ use Rattle.clap.specs.Kinds.{Kinds, or_else}
 use Rattle.clap.specs.declared.error.ErrorKind.TheVariants.{InvalidSubcommand, MissingSubcommand, UnknownArgument}
 use Rattle.clap.proofs.FaultLemmas.{stopped_fault}
 use Rattle.oz_semantics.specs.declared.command.Command.{Command}
-use Rattle.oz_semantics.specs.Commands.{Given, Verb, Word, all, command_by, fit, verb_word}
+use Rattle.oz_semantics.specs.Commands.{Given, Verb, Word, all, command_by, verb_word}
 use Rattle.command_line.specs.Reading.{command_of, is_odd, options_of, verb_of}
-use Rattle.command_line.specs.Table.{oz_app, rows_for}
+use Rattle.command_line.specs.Table.{IsFound, oz_app}
 use Rattle.command_line.proofs.WordKinds.{Kind, long, short, plain, classify}
 use Rattle.command_line.proofs.Turns.{at_word, holding, stray, unknown_long, unknown_short}
 use Rattle.command_line.proofs.Uses.{has_plus}
@@ -124,14 +124,13 @@ no_words = refl
 -- what is read of the words is what clap answers and holds
 abbrev pub Tells : List Word → Option Command → Type 0
 Tells words None = fault_of oz_app words ≡ [] → ⊥
-Tells words (Some c) = (fault_of oz_app words ≡ []) × ((v : Verb) × (given : List Given) × (subcommand_of oz_app words ≡ Some (verb_word v, rows_for given))
-    × (fit v given ≡ true) × (command_by v given ≡ c))
+Tells words (Some c) = (fault_of oz_app words ≡ []) × ((v : Verb) × (given : List Given) × IsFound (subcommand_of oz_app words) v given × (command_by v given ≡ c))
 
 told : (v : Verb) (x : Text) (ws : List Text) → verb_of x ≡ Some v → (og : Option (List Given)) → options_of v [] None ws ≡ og → Ends (total v start ws) (final v start ws) og
     → Tells (x ∷ ws) (option_map (command_by v) og)
 told v x ws is None e h = subst (λ k. k ≡ [] → ⊥) (sym (fault_is v x ws is)) h
 told v x ws is (Some given) e h =
-    (fault_is v x ws is ∙ h.0, (v, given, matches_is v x ws is ∙ ap (λ rs. Some (verb_word v, rs)) h.1, options_fit v ws [] None given refl e, refl))
+    (fault_is v x ws is ∙ h.0, (v, given, (matches_is v x ws is ∙ ap (λ rs. Some (verb_word v, rs)) h.1, options_fit v ws [] None given refl e), refl))
 
 pub tells : (words : List Word) → list_any is_odd words ≡ false → Tells words (command_of words)
 tells [] odd = λ e.

@@ -12,7 +12,7 @@ use Rattle.oz_semantics.specs.Commands.{Given, OptionName, Verb, Word, workers, 
 use Rattle.command_line.specs.Reading.{apart, is_odd, joined, option_name, option_read, options_of, value_part, with_option}
 use Rattle.command_line.specs.Table.{id_of, rows_for}
 use Rattle.command_line.proofs.Leaf.{leaf, rules_for, rule_for, long_name, find_first, find_id, find_short, takes_one}
-use Rattle.command_line.proofs.WordKinds.{Kind, long, short, plain, NoNumber, classify}
+use Rattle.command_line.proofs.WordKinds.{Kind, long, short, plain, classify}
 use Rattle.command_line.proofs.Turns.{holding, at_word, unknown_long, due_long, value_long, unknown_short, plain_stray, settle_due, value_due}
 use Rattle.command_line.proofs.Uses.{Agrees, has_plus, one_agrees}
 use Rattle.command_line.proofs.Walking.{Ends, ended, final, first_is, goes, leaf_is, leaf_once, stops, total, total_nil, unsettled}

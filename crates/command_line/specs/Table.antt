@@ -1,10 +1,10 @@
 -- The commands and their options, as clap is told of them, and what clap holds of an option that was given.
-use Rattle.std.specs.Prelude.{ℕ, List, [], ◌∷◌, codes, map, Some, None, true}
+use Rattle.std.specs.Prelude.{List, [], ◌∷◌, codes, map, Option, Some, None, ◌≡◌, true}
 use Rattle.clap.specs.Words.{App, Row, Rule, Text, new_app, new_rule, with_rule, with_subcommand}
 use Rattle.clap.specs.declared.builder.value_parser.ValueParser.TheVariants as parser
 use Rattle.clap.specs.declared.builder.value_parser.Reading.TheVariants as reading
 use Rattle.clap.specs.declared.parser.matches.ValueSource.TheVariants.{CommandLine}
-use Rattle.oz_semantics.specs.Commands.{Given, OptionName, all, workers, budget, most, verb_word}
+use Rattle.oz_semantics.specs.Commands.{Given, OptionName, Verb, all, workers, budget, fit, most, verb_word}
 
 -- an option by the name that clap has for it, without the hyphens
 abbrev pub id_of : OptionName → Text
@@ -38,3 +38,7 @@ row_for g = record { id = id_of g.name; values = g.number ∷ []; count = None; 
 
 abbrev pub rows_for : List Given → List Row
 rows_for = map row_for
+
+-- clap found the command, and these options of it
+abbrev pub IsFound : Option (Text × List Row) → Verb → List Given → Type 0
+IsFound rows verb given = (rows ≡ Some (verb_word verb, rows_for given)) × (fit verb given ≡ true)

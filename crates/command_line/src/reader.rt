@@ -4,8 +4,8 @@ ghost use Rattle.std.specs.Prelude.{◌≡◌, IfOk, IfSome, List, Some, true, m
 ghost use Rattle.std.specs.String.{string_bytes};
 ghost use Rattle.std.specs.List.{list_any};
 ghost use Rattle.clap.specs.Words.{found_of, rows_of, subcommand_rows_of};
-ghost use Rattle.oz_semantics.specs.Commands.{Given, IsSpelled, OptionName, Spells, Verb, command_by, fit, verb_word};
-ghost use Rattle.command_line.specs.Table.{id_of, rows_for};
+ghost use Rattle.oz_semantics.specs.Commands.{Given, IsSpelled, OptionName, Spells, Verb, command_by, fit};
+ghost use Rattle.command_line.specs.Table.{IsFound, id_of, rows_for};
 ghost use Rattle.command_line.specs.Reading.{command_of, is_odd, number_in};
 
 use crate::commands::program;
@@ -37,10 +37,9 @@ fn number(found: &ArgMatches, id: &str) -> Option<u64>
 
 /// The command that clap found.
 fn found_command(matches: &ArgMatches) -> Option<Command>
-    requires { (verb : Verb) × (given : List Given) × (subcommand_rows_of matches.now ≡ Some (verb_word verb, rows_for given))
-        × (fit verb given ≡ true) }
-    ensures { (verb : Verb) (given : List Given) → subcommand_rows_of matches.now ≡ Some (verb_word verb, rows_for given)
-        → fit verb given ≡ true → result ≡ Some (command_by verb given) }
+    requires { (verb : Verb) × (given : List Given) × IsFound (subcommand_rows_of matches.now) verb given }
+    ensures { (verb : Verb) (given : List Given) → IsFound (subcommand_rows_of matches.now) verb given
+        → result ≡ Some (command_by verb given) }
 {
     let (name, found) = matches.subcommand()?;
     let workers = number(found, "workers").unwrap_or(1) as u32;

@@ -24,7 +24,7 @@ returns-in-Ok c =
     let odd : list_any is_odd words ≡ false = odd_map is_odd string_bytes c.args.words.now ∙ sym c.has_odd.ensures ∙ c.if-has_odd.false in
     let none : fault_of oz_app words ≡ [] = ap (λ a. fault_of a words) (sym app) ∙ c.in-Ok.ensures.kinds (ap is_simple_and_free app ∙ simple_and_free) in
     taken words c.found_command.result odd none
-    (λ v given found. c.found_command.ensures v given ((c.in-Ok.ensures.matches (ap is_simple app ∙ simple)).1 ∙ ap (λ a. subcommand_of a words) app ∙ found.0) found.1)
+    (λ v given found. c.found_command.ensures v given ((c.in-Ok.ensures.matches (ap is_simple app ∙ simple)).1 ∙ ap (λ a. subcommand_of a words) app ∙ found.0, found.1))
 
 pub returns-in-Err-2 : goal.returns-in-Err-2
 returns-in-Err-2 c =
@@ -43,4 +43,4 @@ found_command-requires c =
     let odd : list_any is_odd words ≡ false = odd_map is_odd string_bytes c.args.words.now ∙ sym c.has_odd.ensures ∙ c.if-has_odd.false in
     let none : fault_of oz_app words ≡ [] = ap (λ a. fault_of a words) (sym app) ∙ c.in-Ok.ensures.kinds (ap is_simple_and_free app ∙ simple_and_free) in
     let (v, given, found) = gives words odd none in
-    (v, given, (c.in-Ok.ensures.matches (ap is_simple app ∙ simple)).1 ∙ ap (λ a. subcommand_of a words) app ∙ found.0, found.1)
+    (v, given, ((c.in-Ok.ensures.matches (ap is_simple app ∙ simple)).1 ∙ ap (λ a. subcommand_of a words) app ∙ found.0, found.1))
