@@ -27,15 +27,16 @@ fn has_odd(words: &[String]) -> bool
     words.iter().any(|word| is_odd(word.as_str()))
 }
 
-/// The number that was given for the option of this name.
+/// The number that was given for the option of this name, if one was.
 fn number(found: &ArgMatches, id: &str) -> Option<u64>
-    ensures { (verb : Verb) (name : OptionName) (given : List Given) → id.now ≡ id_of name → rows_of (found_of found.now) ≡ rows_for given
-        → fit verb given ≡ true → result ≡ number_in given name }
+    ensures { (verb : Verb) (name : OptionName) (given : List Given) → id.now ≡ id_of name
+        → rows_of (found_of found.now) ≡ rows_for given → fit verb given ≡ true
+        → result ≡ number_in given name }
 {
     found.get_one::<u64>(id)
 }
 
-/// The command that clap found.
+/// The command that clap found, with its numbers.
 fn found_command(matches: &ArgMatches) -> Option<Command>
     requires { (verb : Verb) × (given : List Given) × IsFound (subcommand_rows_of matches.now) verb given }
     ensures { (verb : Verb) (given : List Given) → IsFound (subcommand_rows_of matches.now) verb given
@@ -68,7 +69,8 @@ fn read(alloc: Global, words: &[String]) -> Result<Option<Command>, AllocError>
 /// An error is want of memory.
 pub fn read_command(alloc: Global, words: &[String]) -> Result<Option<Command>, AllocError>
     ensures spelled { IfOk result (λ command. IsSpelled (map string_bytes words.now) command) }
-    ensures only { IfOk result (λ command. IfSome command (λ c. (d : Command) → Spells (map string_bytes words.now) d → d ≡ c)) }
+    ensures only { IfOk result (λ command. IfSome command
+        (λ c. (d : Command) → Spells (map string_bytes words.now) d → d ≡ c)) }
 {
     read(alloc, words)
 }
