@@ -20,6 +20,18 @@ pub both : (a b : Bool) → a ≡ true → b ≡ true → a && b ≡ true
 both true b h i = i
 both false b h i = absurd (cc)
 
+pub or_left : (a b : Bool) → a ≡ true → a || b ≡ true
+or_left true b h = refl
+or_left false b h = absurd (cc)
+
+pub or_true : (a : Bool) → a || true ≡ true
+or_true true = refl
+or_true false = refl
+
+pub and_false : (a b : Bool) → a ≡ false → a && b ≡ false
+and_false false b h = refl
+and_false true b h = absurd (cc)
+
 pub guard_true : {A : Type 0} (b : Bool) (o : Option A) → b ≡ true → guard b o ≡ o
 guard_true b o h = ap (λ q. guard q o) h
 

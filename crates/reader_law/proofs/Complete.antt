@@ -6,7 +6,7 @@ use Rattle.oz_semantics.specs.declared.token.Token.{Token}
 use Rattle.oz_semantics.specs.declared.token.Token.TheVariants.{Var, Int, Literal as Lit, Label, OpenBrace, CloseBrace, CloseParen, Equals, Box, Choice, End, Fail, In, Local, Proc, Skip}
 use Rattle.oz_semantics.specs.Grammar.{Phrase, Phrases, nothing, more, of_list, var, int, literal, tuple, skip, fail, equal, call, proc, local, choice, body, tokens_of, each, boxed, is_more, is_var, are_vars, expr, exprs, stmt, stmts, decl, decls, is_body, bodies}
 use Rattle.reader_law.specs.Machine.{Opener, program, declaring, of_local, of_proc, of_choice, Frame, block, have, right, fields, parts, heading, head, accepted, Stack, guard, bind, is_some_item, add, add_statement, item_again, close, enter, next, step, run, accepted_of, finish, parse}
-use Rattle.reader_law.proofs.Basics.{split, both, guard_true, list_of, of_list-list_of, some_snoc, run_append, then_run}
+use Rattle.reader_law.proofs.Basics.{split, both, or_left, guard_true, list_of, of_list-list_of, some_snoc, run_append, then_run}
 use Rattle.reader_law.proofs.Good.{Takes}
 
 -- ---- going on behind what is whole
@@ -98,10 +98,6 @@ mutual
       ∙ ap (λ w. Some (have (tuple l (of_list w)) ∷ k)) (append_assoc done (e ∷ []) (list_of es))
 
 -- ---- the parts of a call and of a procedure's head
-
-or_left : (a b : Bool) → a ≡ true → a || b ≡ true
-or_left true b h = refl
-or_left false b h = absurd (cc)
 
 reads_parts : (es : Phrases) (done : List Phrase) (k : Stack) → is_some_item done ≡ true → exprs es ≡ true
     → run (Some (parts done ∷ k)) (each es ++ CloseBrace ∷ []) ≡ add_statement (call (of_list (done ++ list_of es))) k

@@ -1,3 +1,4 @@
 pub mod Basics
 pub mod Good
 pub mod Complete
+pub mod Sound
