@@ -1,9 +1,9 @@
 -- Facts on truth values, on lists of phrases and on runs.
-use Rattle.std.proofs.Common.{◌≡◌, List, [], ◌∷◌, ◌++◌, Option, Some, None, Bool, true, false, ◌&&◌, ◌||◌, refl, sym, ap, ◌∙◌, append_assoc}
+use Rattle.std.proofs.Common.{◌≡◌, List, [], ◌∷◌, ◌++◌, Option, None, Bool, true, false, ◌&&◌, ◌||◌, refl, sym, ap, ◌∙◌, append_assoc}
 use Rattle.std.proofs.lemmas.List.{append-nil}
 use Rattle.oz_semantics.specs.declared.token.Token.{Token}
 use Rattle.oz_semantics.specs.declared.token.Token.TheVariants.{Box}
-use Rattle.oz_semantics.specs.Grammar.{Phrase, Phrases, nothing, more, of_list, tokens_of, each, boxed, more_boxed, is_more, is_var, are_vars, expr, exprs, is_call, stmt, stmts, decl, decls, is_body, bodies}
+use Rattle.oz_semantics.specs.Grammar.{Phrase, Phrases, nothing, more, of_list, tokens_of, each, boxed, is_more, is_var, are_vars, expr, exprs, stmt, stmts, decl, decls, is_body, bodies}
 use Rattle.reader_law.specs.Machine.{Stack, guard, bind, is_some_item, step, run}
 
 -- ---- truth values

@@ -1,12 +1,12 @@
 -- What is spelled is read: the steps over a phrase's tokens leave what the phrase, taken whole, leaves.
-use Rattle.std.proofs.Common.{◌≡◌, ℕ, ℤ, List, [], ◌∷◌, ◌++◌, Option, Some, None, Bool, true, false, ◌&&◌, ◌||◌, refl, sym, ap, ◌∙◌, subst, append_assoc}
+use Rattle.std.proofs.Common.{◌≡◌, ℕ, ℤ, List, [], ◌∷◌, ◌++◌, Option, Some, None, Bool, true, false, ◌&&◌, refl, sym, ap, ◌∙◌, subst, append_assoc}
 use Rattle.std.proofs.lemmas.List.{append-nil}
 use Rattle.oz_semantics.specs.declared.token.Literal.{Literal}
 use Rattle.oz_semantics.specs.declared.token.Token.{Token}
-use Rattle.oz_semantics.specs.declared.token.Token.TheVariants.{Var, Int, Literal as Lit, Label, OpenBrace, CloseBrace, CloseParen, Equals, Box, Choice, End, Fail, In, Local, Proc, Skip}
-use Rattle.oz_semantics.specs.Grammar.{Phrase, Phrases, nothing, more, of_list, var, int, literal, tuple, skip, fail, equal, call, proc, local, choice, body, tokens_of, each, boxed, is_more, is_var, are_vars, expr, exprs, stmt, stmts, decl, decls, is_body, bodies}
-use Rattle.reader_law.specs.Machine.{Opener, program, declaring, of_local, of_proc, of_choice, Frame, block, have, right, fields, parts, heading, head, accepted, Stack, guard, bind, is_some_item, add, add_statement, item_again, close, enter, next, step, run, accepted_of, finish, parse}
-use Rattle.reader_law.proofs.Basics.{split, both, or_left, guard_true, list_of, of_list-list_of, some_snoc, run_append, then_run}
+use Rattle.oz_semantics.specs.declared.token.Token.TheVariants.{Var, Int, Literal as Lit, Label, CloseBrace, CloseParen, Equals, Box, End, Fail, In, Skip}
+use Rattle.oz_semantics.specs.Grammar.{Phrase, Phrases, nothing, more, of_list, var, int, literal, tuple, skip, fail, equal, call, proc, local, choice, body, tokens_of, each, boxed, is_more, is_var, are_vars, expr, exprs, stmt, stmts, decls, is_body, bodies}
+use Rattle.reader_law.specs.Machine.{Opener, program, declaring, of_local, of_proc, of_choice, block, have, right, fields, parts, head, Stack, bind, is_some_item, add, add_statement, item_again, close, enter, next, step, run, accepted_of, finish, parse}
+use Rattle.reader_law.proofs.Basics.{split, or_left, guard_true, list_of, of_list-list_of, some_snoc, then_run}
 use Rattle.reader_law.proofs.Good.{Takes}
 
 -- ---- going on behind what is whole
@@ -156,7 +156,7 @@ record ReadsDecls (ds : Phrases) (o : Opener) (ps : List Phrase) (j k : Stack) :
 
 -- ---- statements
 
-adds : (p : Phrase) (o : Opener) (d : Bool) (ds ps : List Phrase) (k : Stack) → add_statement p (block o d true ds ps ∷ k) ≡ Some (block o (d && false) true ds (ps ++ p ∷ []) ∷ k)
+pub adds : (p : Phrase) (o : Opener) (d : Bool) (ds ps : List Phrase) (k : Stack) → add_statement p (block o d true ds ps ∷ k) ≡ Some (block o (d && false) true ds (ps ++ p ∷ []) ∷ k)
 adds p o true ds ps k = refl
 adds p o false ds ps k = refl
 

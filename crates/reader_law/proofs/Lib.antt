@@ -2,3 +2,5 @@ pub mod Basics
 pub mod Good
 pub mod Complete
 pub mod Sound
+pub mod Viable
+pub mod Exact

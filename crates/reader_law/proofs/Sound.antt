@@ -4,10 +4,10 @@ use Rattle.std.proofs.lemmas.List.{append-nil}
 use Rattle.oz_semantics.specs.declared.token.Literal.{Literal}
 use Rattle.oz_semantics.specs.declared.token.Token.{Token}
 use Rattle.oz_semantics.specs.declared.token.Token.TheVariants.{Var, Int, Literal as Lit, Label, OpenBrace, CloseBrace, CloseParen, Equals, Box, Choice, End, Fail, In, Local, Proc, Skip}
-use Rattle.oz_semantics.specs.Grammar.{Phrase, of_list, var, int, literal, tuple, skip, fail, equal, call, proc, local, choice, body, tokens_of, each, declared, is_more, is_var, are_vars, expr, exprs, is_call, stmt, stmts, decl, decls, is_body, bodies, Derives}
-use Rattle.reader_law.specs.Machine.{Opener, program, declaring, of_local, of_proc, of_choice, Frame, block, have, right, fields, parts, heading, head, accepted, Stack, guard, bind, is_some_item, operand, add, add_statement, close, enter_body, enter, item, item_again, behind, next_field, next_part, next_head, open_head, whole, next, step, run, start, accepted_of, finish, parse}
-use Rattle.reader_law.proofs.Basics.{split, both, or_left, or_true, and_false, some_snoc, more_snoc, each_snoc, vars_snoc, exprs_snoc, stmts_snoc, decls_snoc, bodies_snoc, boxes, boxes_snoc, boxed_snoc, run_none}
-use Rattle.reader_law.proofs.Good.{opener_tokens, frame_tokens, spelled, InBlock, AmongStatements, Takes, Says, IsNil, GoodItems, GoodOpener, GoodParts, GoodFrame, Good, Leads}
+use Rattle.oz_semantics.specs.Grammar.{Phrase, of_list, var, int, literal, skip, fail, equal, call, proc, local, choice, body, tokens_of, each, declared, is_more, is_var, are_vars, expr, exprs, stmt, stmts, decl, decls, is_body, Derives}
+use Rattle.reader_law.specs.Machine.{Opener, program, declaring, of_local, of_proc, of_choice, block, have, right, fields, parts, heading, head, accepted, Stack, guard, bind, is_some_item, operand, add, add_statement, close, enter_body, enter, item, item_again, behind, next_field, next_part, next_head, open_head, whole, step, run, start, accepted_of, finish, parse}
+use Rattle.reader_law.proofs.Basics.{split, both, or_left, or_true, and_false, more_snoc, each_snoc, vars_snoc, exprs_snoc, stmts_snoc, decls_snoc, bodies_snoc, boxes_snoc, boxed_snoc, run_none}
+use Rattle.reader_law.proofs.Good.{opener_tokens, spelled, Takes, Says, GoodItems, GoodOpener, GoodParts, Good, Leads}
 
 -- ---- what flags say
 
