@@ -19,4 +19,4 @@ digit_at ds i h l = digit_is (get_or ds i 0) (AllPass-from_list_all is_digit ds 
 
 -- where the first digits do not fit, the whole does not
 pub too_large : (ds : List ℕ) (i : ℕ) → i < length ds → 2 ^ 128 ≤ digits_value 10 (take i ds) * 10 + digit_value (get_or ds i 0) → 2 ^ 128 ≤ digits_value 10 ds
-too_large ds i inside large = omega (arith, digits_value_more 10 ds i inside, digits_value-take-le 10 (i + 1) ds (omega arith))
+too_large ds i inside large = omega (arith, digits_value_more 10 ds i inside, digits_value-take-le 10 ds (i + 1) (omega arith))

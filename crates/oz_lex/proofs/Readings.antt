@@ -1,6 +1,7 @@
 -- Steps of the reading of a text, and that there is one reading.
 use Rattle.std.proofs.Common.{◌≡◌, ◌≤◌, ◌<◌, ◌+◌, ◌-◌, ◌++◌, ◌∷◌, [], ℕ, zero, suc, Bool, true, false, List, length, take, drop, Option, Some, None, subst, sym, refl, ap, ◌∙◌, arith, ◌⊎◌, ⊎_elim, length-drop, append_assoc, append-nil}
 use Rattle.std.specs.List.{All}
+use Rattle.std.proofs.lemmas.List.Elements.{All-nil, All-cons}
 use Rattle.oz_semantics.specs.declared.token.Sort.{Sort}
 use Rattle.oz_semantics.specs.declared.token.Lexeme.{Lexeme}
 use Rattle.oz_semantics.specs.Tokens.{sort_of, IsLongest, NoToken, gap_length, is_broken_number, Lexes, Ending, Whole, Bad, at_end, at_bad, at_fraction, gap, token}
@@ -134,8 +135,9 @@ one_lexeme text at n s l i = record {
 }
 
 pub read_lexemes : (text : List ℕ) (at : ℕ) (ls : List Lexeme) (e : Ending) → Lexes text at ls e → All (IsLexeme text) ls
-read_lexemes text at ls e (at_end l) = tt
-read_lexemes text at ls e (at_bad l g n) = tt
-read_lexemes text at ls e (at_fraction l g i b) = tt
+read_lexemes text at ls e (at_end l) = All-nil (IsLexeme text)
+read_lexemes text at ls e (at_bad l g n) = All-nil (IsLexeme text)
+read_lexemes text at ls e (at_fraction l g i b) = All-nil (IsLexeme text)
 read_lexemes text at ls e (gap l g r) = read_lexemes text (at + gap_length (drop at text)) ls e r
-read_lexemes text at (x ∷ ls) e (token {n = n} {sort = s} l g i b r) = (one_lexeme text at n s l i, read_lexemes text (at + n) ls e r)
+read_lexemes text at (x ∷ ls) e (token {n = n} {sort = s} l g i b r) =
+    All-cons (IsLexeme text) x ls (one_lexeme text at n s l i) (read_lexemes text (at + n) ls e r)
