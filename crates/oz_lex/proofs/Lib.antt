@@ -4,3 +4,4 @@ pub mod Fronts
 pub mod Longest
 pub mod Readings
 pub mod Sorts
+pub mod TokenLaws

@@ -1,8 +1,10 @@
 //! Tokens as the grammar sees them.
-ghost use Rattle.std.specs.Prelude.{◌≡◌, ◌≤◌, ◌+◌, ℕ, List, IfOk, OnOk, OnErr, length, fold};
+ghost use Rattle.std.specs.Prelude.{◌≡◌, ◌≤◌, ◌+◌, ℕ, List, IfOk, OnOk, OnErr, length, fold, find, option_map};
 ghost use Rattle.std.specs.Ffi.{without_last};
+ghost use Rattle.oz_base.specs.Lists.{list_eq};
 ghost use Rattle.oz_semantics.specs.declared.token.Lexeme.{Lexeme};
-ghost use Rattle.oz_semantics.specs.Wording.{bytes_of, first_words, with_word, atom_word, atom_unless, joining, token_in, word_token, literal_in, constant_of, fixed_token};
+ghost use Rattle.oz_semantics.specs.declared.token.Token.{Token};
+ghost use Rattle.oz_semantics.specs.Wording.{bytes_of, first_words, with_word, atom_word, atom_unless, joining, token_in, word_token, literal_in, constant_of, fixed_token, known};
 ghost use Rattle.oz_lex.specs.Lexing.{IsLexeme, KeepsNumbers};
 
 use crate::bytes::{is_among, is_reserved, same_bytes};
@@ -107,14 +109,27 @@ fn constant_of(word: &[u8]) -> Option<Literal>
 fn fixed_token(bytes: &[u8]) -> Token
     ensures { result ≡ fixed_token bytes.now }
 {
-    for (known, token) in &KNOWN {
-        if same_bytes(bytes, known) {
-            return *token;
-        }
+    match known_token(bytes) {
+        Some(token) => token,
+        None => Token::Other {
+            deepens: is_among(bytes, &DEEPENING),
+        },
     }
-    Token::Other {
-        deepens: is_among(bytes, &DEEPENING),
-    }
+}
+
+/// The token of these bytes, where a production names it.
+fn known_token(bytes: &[u8]) -> Option<Token>
+    ensures { result ≡ option_map (λ (p : List ℕ × Token). p.1) (find (λ (p : List ℕ × Token). list_eq bytes.now p.0) known) }
+{
+    token_among(bytes, &KNOWN)
+}
+
+/// The token that stands beside these bytes.
+fn token_among(bytes: &[u8], known: &[(&[u8], Token)]) -> Option<Token>
+    ensures { result ≡ option_map (λ p. p.1) (find (λ p. list_eq bytes.now p.0.now) known.now) }
+{
+    let (_, token) = known.iter().find(|(text, _)| same_bytes(bytes, text))?;
+    Some(*token)
 }
 
 fn bytes_of(text: &[u8], lexeme: Lexeme) -> &[u8]
