@@ -8,9 +8,9 @@ use Rattle.oz_base.specs.Lists.{is_empty}
 use Rattle.oz_semantics.specs.Tokens.{is_upper, is_lower, is_digit, goes_on_word, is_small_word, is_label, is_reserved, is_digits, is_symbol, sort_of, IsLongest, NoToken}
 use Rattle.oz_semantics.specs.declared.token.Sort.{Sort}
 use Rattle.oz_semantics.specs.declared.token.Sort.TheVariants as sort
-use Rattle.oz_lex.specs.Scanning.{begins, begins_paren, is_mark}
+use Rattle.oz_lex.specs.Scanning.{begins, begins_paren, is_tilde, is_mark}
 use Rattle.oz_lex.proofs.Fronts.{all_front, past_front, some_front, begins_drop, begins_within}
-use Rattle.oz_lex.proofs.Sorts.{upper_passes, upper_fails, lower_passes, lower_labels, lower_fails, small_passes, label_front, digit_passes, digit_fails, is_tilde, tilde_passes, tilde_fails, mark_passes, mark_fails, long_no_symbol}
+use Rattle.oz_lex.proofs.Sorts.{upper_passes, upper_fails, lower_passes, lower_labels, lower_fails, small_passes, label_front, digit_passes, digit_fails, tilde_passes, tilde_fails, mark_passes, mark_fails, long_no_symbol}
 
 -- ---- tokens of one class of bytes
 
@@ -218,7 +218,3 @@ pub past_none : (p : ℕ → Bool) → p 3 ≡ false → p 2 ≡ false → p 1 �
 past_none p e d c zero l i = absurd (omega arith)
 past_none p e d c (suc zero) l i = c
 past_none p e d c (suc (suc k)) l i = past_one p e d (suc (suc k)) (omega arith) i
-
-pub no_text : NoToken []
-no_text zero i = refl
-no_text (suc m) i = absurd (omega arith)

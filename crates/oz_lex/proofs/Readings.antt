@@ -11,13 +11,6 @@ use Rattle.oz_lex.specs.Lexing.{OneReading, IsLexeme}
 abbrev pub Front : List ℕ → ℕ → List Lexeme → Type 0
 Front text at ls = (ks : List Lexeme) (e : Ending) → Lexes text at ks e → Lexes text 0 (ls ++ ks) e
 
-not_empty : (text : List ℕ) (n : ℕ) (s : Sort) → IsLongest text n s → 0 < n
-not_empty text zero s h = let e : None ≡ Some s = h.token in absurd (cc)
-not_empty text (suc n) s h = omega arith
-
-pub token_takes : (text : List ℕ) (n : ℕ) (s : Sort) → IsLongest text n s → 0 < n
-token_takes = not_empty
-
 module _ (text : List ℕ) (at : ℕ) (ls : List Lexeme) (h : Front text at ls) (lt : at < length text) where
   pub gap_step : (n : ℕ) → 0 < n → n ≡ gap_length (drop at text) → Front text (at + n) ls
   gap_step n l g ks e r =

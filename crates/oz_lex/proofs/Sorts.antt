@@ -10,7 +10,7 @@ use Rattle.oz_base.specs.ListLaws.{list_eq-decides}
 use Rattle.oz_base.specs.Paths.{last_of}
 use Rattle.oz_semantics.specs.Tokens.{is_upper, is_lower, is_digit, goes_on_word, is_var, is_small_word, is_label, is_reserved, is_digits, is_int, symbols, is_symbol, sort_of}
 use Rattle.oz_semantics.specs.declared.token.Sort.TheVariants as sort
-use Rattle.oz_lex.specs.Scanning.{begins, is_mark}
+use Rattle.oz_lex.specs.Scanning.{begins, is_tilde, is_mark}
 
 -- ---- the five tests in turn
 
@@ -180,9 +180,6 @@ digit_fails b ws u h =
     no_sort (b ∷ ws) (not_var b ws i.0) (not_small b ws i.1) (not_label b ws i.1) (rw i.2 h) (no_symbol is_digit b ws u symbols refl)
 
 -- digits behind a `~`
-abbrev pub is_tilde : ℕ → Bool
-is_tilde b = b == 126
-
 tilde_is : (b : ℕ) → is_tilde b ≡ true → (is_upper b ≡ false) × (is_lower b ≡ false)
 tilde_is b u = grind (arith, nat_tests)
 

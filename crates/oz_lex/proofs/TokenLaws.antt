@@ -57,7 +57,7 @@ last_part false y z h = absurd (cc)
 label_bytes : (bytes : List ℕ) → sort_of bytes ≡ Some sort.Label → is_reserved (without_last bytes) ≡ false
 label_bytes bytes h =
     last_part (last_of bytes == 40) (is_small_word (without_last bytes)) (is_reserved (without_last bytes))
-        (label_by (is_var bytes) (is_small_word bytes) (is_label bytes) (is_int bytes) (is_symbol bytes) h)
+    (label_by (is_var bytes) (is_small_word bytes) (is_label bytes) (is_int bytes) (is_symbol bytes) h)
 
 -- ---- the tokens
 

@@ -11,9 +11,12 @@ begins test (b ∷ bs) = test b
 abbrev pub begins_paren : List ℕ → Bool
 begins_paren text = begins (λ b. b == 40) text
 
+abbrev pub is_tilde : ℕ → Bool
+is_tilde b = b == 126
+
 -- a byte that begins neither a word nor an integer
 abbrev pub is_mark : ℕ → Bool
-is_mark b = not (is_upper b || is_lower b || is_digit b || (b == 126))
+is_mark b = not (is_upper b || is_lower b || is_digit b || is_tilde b)
 
 -- a `*/` comes first
 abbrev pub begins_close : List ℕ → Bool

@@ -1,8 +1,8 @@
 //! The longest token at the front of a text.
-ghost use Rattle.std.specs.Prelude.{◌≡◌, ◌≤◌, ◌<◌, ◌&&◌, ◌==◌, true, length, take, drop, nat_le, not};
+ghost use Rattle.std.specs.Prelude.{◌≡◌, ◌≤◌, ◌&&◌, true, length, take, nat_le};
 ghost use Rattle.std.specs.List.{prefix_len};
-ghost use Rattle.oz_semantics.specs.Tokens.{is_lower, is_digit, goes_on_word, is_symbol, is_reserved, IsLongest};
-ghost use Rattle.oz_lex.specs.Scanning.{begins, begins_paren, is_mark, IsTokenAt};
+ghost use Rattle.oz_semantics.specs.Tokens.{is_lower, is_digit, goes_on_word, is_symbol, IsLongest};
+ghost use Rattle.oz_lex.specs.Scanning.{begins, begins_paren, is_tilde, is_mark, IsTokenAt};
 
 use crate::bytes;
 use oz_semantics::Sort;
@@ -76,7 +76,7 @@ fn begins_paren(text: &[u8]) -> bool
 
 /// The integer at the front of a text that begins with `~`.
 fn negative_at(text: &[u8]) -> Option<(Sort, usize)>
-    requires { begins (λ b. b == 126) text.now ≡ true }
+    requires { begins is_tilde text.now ≡ true }
     ensures { IsTokenAt text.now result }
 {
     let digits = digit_len(&text[1..]);

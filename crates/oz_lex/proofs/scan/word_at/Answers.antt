@@ -18,7 +18,7 @@ returns c =
     let text = c.args.text.now in
     let n = c.word_len-len.result in
     let e : EndsWord text n = elim c.else-begins_paren.branch [
-      else-begins_paren-via-then-begins_paren+else-not-is_reserved w ↦ inr (sym w.is_reserved.ensures ∙ w.if-not-is_reserved.false)
+      | else-begins_paren-via-then-begins_paren+else-not-is_reserved w ↦ inr (sym w.is_reserved.ensures ∙ w.if-not-is_reserved.false)
       | else-begins_paren-via-else-begins_paren w ↦ inl (ap begins_paren (sym (tail text n)) ∙ sym c.begins_paren.ensures ∙ w.if-begins_paren.false)
     ] in
     word_longest text c.requires n c.word_len-len.ensures.value e

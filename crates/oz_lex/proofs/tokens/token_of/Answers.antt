@@ -24,4 +24,4 @@ returns-in_ok-literal_in-in-Label-clause-words c =
 pub returns-in_ok-literal_in-in-Label-clause-token : goal.returns-in_ok-literal_in-in-Label-clause-token
 returns-in_ok-literal_in-in-Label-clause-token c =
     label_token c.args.text.now c.literal_in.new.words c.args.lexeme c.bytes_of-bytes.result.now c.bytes_of-bytes.ensures c.in_ok-literal_in-in-Label.field-0 c.in-Label.is
-        (λ later k. c.in_ok-literal_in-in-Label.ensures.literal later k ∙ ap (literal_in later) c.without_last.ensures)
+    (λ later k. c.in_ok-literal_in-in-Label.ensures.literal later k ∙ ap (literal_in later) c.without_last.ensures)
