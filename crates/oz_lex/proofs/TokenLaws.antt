@@ -1,11 +1,10 @@
 -- Tokens under words that still join.
-use Rattle.std.proofs.Common.{◌≡◌, ◌==◌, ◌&&◌, ℕ, Bool, true, false, not, List, [], ◌∷◌, Option, Some, None, refl, ap, sym, ◌∙◌, subst}
+use Rattle.std.proofs.Common.{◌≡◌, ◌==◌, ◌&&◌, ℕ, Bool, true, false, not, List, [], ◌∷◌, Option, Some, None, refl, ap, sym, ◌∙◌}
 use Rattle.std.specs.Prelude.{fold, if◌then◌else◌, unwrap_or, Result, Ok, Err, IfOk}
 use Rattle.std.specs.Ffi.{without_last}
 use Rattle.oz_base.specs.Words.{number_in}
 use Rattle.oz_base.proofs.WordsLaws.{number_kept}
 use Rattle.oz_base.specs.Paths.{last_of}
-use Rattle.oz_semantics.specs.declared.token.Sort.{Sort}
 use Rattle.oz_semantics.specs.declared.token.Sort.TheVariants as sort
 use Rattle.oz_semantics.specs.declared.token.Lexeme.{Lexeme}
 use Rattle.oz_semantics.specs.declared.token.Literal.{Literal}

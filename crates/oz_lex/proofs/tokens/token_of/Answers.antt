@@ -1,4 +1,4 @@
-use Rattle.std.proofs.Common.{◌≡◌, ◌∙◌, sym, ap, Some}
+use Rattle.std.proofs.Common.{◌∙◌, ap, Some}
 use Rattle.oz_semantics.specs.Tokens.{sort_of}
 use Rattle.oz_semantics.specs.Wording.{with_word, atom_unless, constant_of, literal_in}
 use Rattle.oz_lex.proofs.TokenLaws.{int_bytes, var_token, small_tokens, label_token, label_joins}
