@@ -1,10 +1,10 @@
 -- Counts and the lists that they count.
-use Rattle.std.proofs.Common.{◌≡◌, ◌≢◌, inl, inr, ℕ, zero, suc, ◌+◌, ◌-◌, ◌<◌, ◌≤◌, arith, Bool, true, false, ◌||◌, nat_eq, nat_lt, List, [], ◌∷◌, ◌++◌, length, get_or, set, drop, reverse, refl, ap, sym, ◌∙◌, add-one}
+use Rattle.std.proofs.Common.{◌≡◌, ℕ, zero, suc, ◌+◌, ◌<◌, ◌≤◌, arith, Bool, true, false, ◌||◌, nat_eq, nat_lt, List, [], ◌∷◌, ◌++◌, length, get_or, reverse, refl, ap, ◌∙◌}
 use Rattle.std.specs.Prelude.{if◌then◌else◌}
-use Rattle.std.proofs.lemmas.Bool.Decides.{nat_tests, eqb_tells}
-use Rattle.std.proofs.lemmas.List.{get_or-set_same, get_or-set_other, reverse-append}
+use Rattle.std.proofs.lemmas.Bool.Decides.{nat_tests}
+use Rattle.std.proofs.lemmas.List.{reverse-append}
 use Rattle.oz_semantics.specs.Refusals.{contains}
-use Rattle.oz_scope.specs.Counts.{times, Counts, SameCounts}
+use Rattle.oz_scope.specs.Counts.{times, Counts}
 
 contains_step : (b r : Bool) (t : ℕ) → r ≡ nat_lt 0 t → (b || r) ≡ nat_lt 0 (if b then t + 1 else t)
 contains_step true r t h = grind (arith, nat_tests)
@@ -25,27 +25,6 @@ times-le-length (x ∷ xs) name = times_step (nat_eq name x) (times xs name) (le
 
 pub times_same : (names : List ℕ) (n k : ℕ) → n ≡ k → times (k ∷ names) n ≡ times names n + 1
 times_same names n k e = grind (arith, nat_tests)
-
-pub times_other : (names : List ℕ) (n k : ℕ) → n ≢ k → times (k ∷ names) n ≡ times names n
-times_other names n k e = grind (arith, nat_tests)
-
-pub counts_push : (counts names : List ℕ) (name c : ℕ) → name < length counts → c ≡ get_or counts name 0 + 1 → Counts counts names →
-    Counts (set counts name c) (name ∷ names)
-counts_push counts names name c lt e h k =
-    elim (eqb_tells k name) [
-      | inl same ↦ ap (λ n. get_or (set counts name c) n 0) same.1 ∙ get_or-set_same counts name c 0 lt ∙ e ∙ ap (λ n. n + 1) (h name ∙ ap (times names) (sym same.1)) ∙ sym (times_same names k name same.1)
-      | inr other ↦ get_or-set_other counts name k c 0 other.1 ∙ h k ∙ sym (times_other names k name other.1)
-    ]
-
-pub counts_pop : (counts names : List ℕ) (name c : ℕ) → name < length counts → c ≡ get_or counts name 0 - 1 → Counts counts (name ∷ names) →
-    Counts (set counts name c) names
-counts_pop counts names name c lt e h k =
-    elim (eqb_tells k name) [
-      | inl same ↦ let more : get_or counts name 0 ≡ times names name + 1 = h name ∙ times_same names name name refl in
-          let here : c ≡ times names name = omega (arith, e, more) in
-          ap (λ n. get_or (set counts name c) n 0) same.1 ∙ get_or-set_same counts name c 0 lt ∙ here ∙ ap (times names) (sym same.1)
-      | inr other ↦ get_or-set_other counts name k c 0 other.1 ∙ h k ∙ times_other names k name other.1
-    ]
 
 -- the topmost name has been counted
 pub counted_top : (counts names : List ℕ) (name : ℕ) → Counts counts (name ∷ names) → 1 ≤ get_or counts name 0

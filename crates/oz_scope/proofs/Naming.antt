@@ -1,19 +1,12 @@
--- What one phrase and the others behind it declare, repeat and use.
-use Rattle.std.proofs.Common.{◌≡◌, ℕ, ◌+◌, ◌<◌, arith, List, [], ◌∷◌, ◌++◌, length, get_or, drop, map, Some, None, refl, ap, sym, ◌∙◌}
-use Rattle.std.proofs.lemmas.List.{append-nil, drop_more}
-use Rattle.oz_semantics.specs.Grammar.{Phrase, Phrases, nothing, more, var, int, literal, tuple, skip, fail, equal, call, proc, local, choice, body, of_list}
-use Rattle.oz_semantics.specs.Refusals.{declaring, repeat_faults, faults, faults_each}
-use Rattle.oz_semantics.specs.declared.outcome.Fault.{Fault}
+-- What phrases declare, and how it is taken away again.
+use Rattle.std.proofs.Common.{◌≡◌, ℕ, ◌-◌, List, [], ◌∷◌, ◌++◌, length, drop, length-append, refl, ap, sym, ◌∙◌}
+use Rattle.std.proofs.Math.Nat.{add-sub_cancel}
+use Rattle.std.proofs.Math.Seq.{drop-append_seam}
+use Rattle.oz_semantics.specs.Grammar.{Phrase, Phrases, nothing, more, var, proc, local, body, of_list}
+use Rattle.oz_semantics.specs.Refusals.{declaring, parameters}
 use Rattle.oz_syntax.specs.declared.phrase.Phrase.{Phrase as Tree}
 use Rattle.oz_syntax.specs.View.{view, views}
-use Rattle.oz_scope.specs.declared.stop.Stop.{Stop}
-use Rattle.oz_scope.specs.declared.stop.Stop.TheVariants.{Faulty, NoMemory}
-use Rattle.oz_scope.specs.Declares.{seen_with}
-use Rattle.oz_scope.specs.Finds.{StopsAt}
-
--- what is left of a list is the next one and the others
-pub next_one : (ps : List Tree) (i : ℕ) (e : Tree) → i < length ps → e ≡ get_or ps i e → of_list (views (drop i ps)) ≡ more (view e) (of_list (views (drop (i + 1) ps)))
-next_one ps i e lt is = ap (λ es. of_list (views es)) (drop_more ps i e lt ∙ ap (λ y. y ∷ drop (i + 1) ps) (sym is))
+use Rattle.oz_scope.specs.Declares.{scope_in}
 
 declaring_head : (hs : Phrases) (b : Phrase) (ps : Phrases) (scope : List ℕ) → declaring (more (proc hs b) ps) scope ≡ declaring (more (proc hs b) nothing) (declaring ps scope)
 declaring_head nothing b ps scope = refl
@@ -32,19 +25,34 @@ declaring_last (q ∷ qs) p scope =
     ∙ ap (declaring (more (view q) nothing)) (declaring_last qs p scope)
     ∙ sym (declaring_more (view q) (of_list (views qs)) (declaring (more (view p) nothing) scope))
 
-pub repeat_more : (seen : List ℕ) (p : Phrase) (ps : Phrases) → repeat_faults seen (more p ps) ≡ repeat_faults seen (more p nothing) ++ repeat_faults (seen_with p seen) ps
-repeat_more seen (var n at) ps = simp append-nil refl
-repeat_more seen p ps = refl
+declaring_head-adds : (hs : Phrases) (b : Phrase) (ps : Phrases) (scope added : List ℕ) → declaring ps scope ≡ added ++ scope →
+    (more_added : List ℕ) × (declaring (more (proc hs b) ps) scope ≡ more_added ++ scope)
+declaring_head-adds nothing b ps scope added h = (added, h)
+declaring_head-adds (more (var n at) hs) b ps scope added h = (n ∷ added, ap (λ s. n ∷ s) h)
+declaring_head-adds (more p hs) b ps scope added h = (added, h)
 
--- a search stops at the first part that has a fault
-pub stops_before : (xs ys : List Fault) (stop : Stop) → StopsAt xs stop → StopsAt (xs ++ ys) stop
-stops_before xs ys (NoMemory e) h = tt
-stops_before [] ys (Faulty f) h = absurd (cc)
-stops_before (x ∷ xs) ys (Faulty f) h = h
+-- declarations are added to the scope
+pub declaring_adds : (ps : Phrases) (scope : List ℕ) → (added : List ℕ) × (declaring ps scope ≡ added ++ scope)
+declaring_adds nothing scope = ([], refl)
+declaring_adds (more (var n at) ps) scope = (n ∷ (declaring_adds ps scope).0, ap (λ s. n ∷ s) (declaring_adds ps scope).1)
+declaring_adds (more (proc hs b) ps) scope = declaring_head-adds hs b ps scope (declaring_adds ps scope).0 (declaring_adds ps scope).1
+declaring_adds (more p ps) scope = declaring_adds ps scope
 
--- and goes on behind a part that has none
-pub stops_behind : (xs ys : List Fault) (stop : Stop) → xs ≡ [] → StopsAt ys stop → StopsAt (xs ++ ys) stop
-stops_behind xs ys stop e h = rw e h
+parameters_adds : (hs : Phrases) (scope : List ℕ) → (added : List ℕ) × (parameters hs scope ≡ added ++ scope)
+parameters_adds nothing scope = ([], refl)
+parameters_adds (more p ps) scope = declaring_adds ps scope
 
-pub none_in_both : (xs ys : List Fault) → xs ≡ [] → ys ≡ [] → xs ++ ys ≡ []
-none_in_both xs ys e d = rw (e, d) refl
+scope_in-adds : (p : Phrase) (scope : List ℕ) → (added : List ℕ) × (scope_in p scope ≡ added ++ scope)
+scope_in-adds (proc hs b) scope = parameters_adds hs scope
+scope_in-adds (local ds b) scope = declaring_adds ds scope
+scope_in-adds (body ds ss) scope = declaring_adds ds scope
+scope_in-adds p scope = ([], refl)
+
+added_left : (added scope : List ℕ) → drop (length (added ++ scope) - length scope) (added ++ scope) ≡ scope
+added_left added scope =
+    ap (λ n. drop n (added ++ scope)) (ap (λ n. n - length scope) (length-append added scope) ∙ add-sub_cancel (length added) (length scope))
+    ∙ drop-append_seam added scope
+
+-- and taken away again
+pub scope_left : (p : Phrase) (scope : List ℕ) → drop (length (scope_in p scope) - length scope) (scope_in p scope) ≡ scope
+scope_left p scope = let adds = scope_in-adds p scope in rw adds.1 (added_left adds.0 scope)

@@ -4,6 +4,7 @@ ghost use Rattle.oz_base.specs.Lists.{first};
 ghost use Rattle.oz_semantics.specs.Grammar.{of_list};
 ghost use Rattle.oz_semantics.specs.Refusals.{use_faults, faults, faults_each, head_faults, declaring, parameters, first_scope};
 ghost use Rattle.oz_syntax.specs.View.{view, views};
+ghost use Rattle.oz_scope.specs.Declares.{scope_in};
 ghost use Rattle.oz_scope.specs.Finds.{Finds};
 
 use crate::declarations::{declare, look_for_repeats};
@@ -50,10 +51,24 @@ impl Checker {
         }))
     }
 
+    /// A phrase, behind which the scope is as before.
     #[cycle(phrases)]
+    #[tactic(auto, using(crate::proofs::Naming::scope_left))]
     fn phrase(&mut self, phrase: &Phrase) -> Result<(), Stop>
         ensures faults { Finds (faults self.old.scope (view phrase.now)) result }
         ensures scope { OnOk result (self.new.scope ≡ self.old.scope) }
+    {
+        let depth = self.scope.depth();
+        self.parts(phrase)?;
+        self.scope.leave(depth);
+        Ok(())
+    }
+
+    /// The parts of a phrase; what it declares stays in scope.
+    #[cycle(phrases)]
+    fn parts(&mut self, phrase: &Phrase) -> Result<(), Stop>
+        ensures faults { Finds (faults self.old.scope (view phrase.now)) result }
+        ensures scope { OnOk result (self.new.scope ≡ scope_in (view phrase.now) self.old.scope) }
     {
         match phrase {
             Phrase::Var { name, at } => self.variable(*name, *at),
@@ -67,13 +82,22 @@ impl Checker {
                 self.phrase(right)
             }
             Phrase::Call { parts } => self.each(parts),
-            Phrase::Proc { head, body } => self.procedure(head, body),
-            Phrase::Local { declarations, body } => self.local(declarations, body),
+            Phrase::Proc { head, body } => {
+                self.head(head)?;
+                self.phrase(body)
+            }
+            Phrase::Local { declarations, body } => {
+                self.declarations(declarations)?;
+                self.phrase(body)
+            }
             Phrase::Choice { alternatives } => self.each(alternatives),
             Phrase::Body {
                 declarations,
                 statements,
-            } => self.body(declarations, statements),
+            } => {
+                self.declarations(declarations)?;
+                self.each(statements)
+            }
         }
     }
 
@@ -105,18 +129,6 @@ impl Checker {
         }
     }
 
-    #[cycle(phrases)]
-    fn procedure(&mut self, head: &[Phrase], body: &Phrase) -> Result<(), Stop>
-        ensures faults { Finds (head_faults self.old.scope (of_list (views head.now)) ++ faults (parameters (of_list (views head.now)) self.old.scope) (view body.now)) result }
-        ensures scope { OnOk result (self.new.scope ≡ self.old.scope) }
-    {
-        let depth = self.scope.depth();
-        self.head(head)?;
-        self.phrase(body)?;
-        self.scope.leave(depth);
-        Ok(())
-    }
-
     /// Declarations, which are in scope behind it.
     #[cycle(phrases)]
     fn declarations(&mut self, declarations: &[Phrase]) -> Result<(), Stop>
@@ -125,30 +137,6 @@ impl Checker {
     {
         declare(&mut self.scope, declarations)?;
         self.each(declarations)
-    }
-
-    #[cycle(phrases)]
-    fn local(&mut self, declarations: &[Phrase], body: &Phrase) -> Result<(), Stop>
-        ensures faults { Finds (faults_each (declaring (of_list (views declarations.now)) self.old.scope) (of_list (views declarations.now)) ++ faults (declaring (of_list (views declarations.now)) self.old.scope) (view body.now)) result }
-        ensures scope { OnOk result (self.new.scope ≡ self.old.scope) }
-    {
-        let depth = self.scope.depth();
-        self.declarations(declarations)?;
-        self.phrase(body)?;
-        self.scope.leave(depth);
-        Ok(())
-    }
-
-    #[cycle(phrases)]
-    fn body(&mut self, declarations: &[Phrase], statements: &[Phrase]) -> Result<(), Stop>
-        ensures faults { Finds (faults_each (declaring (of_list (views declarations.now)) self.old.scope) (of_list (views declarations.now)) ++ faults_each (declaring (of_list (views declarations.now)) self.old.scope) (of_list (views statements.now))) result }
-        ensures scope { OnOk result (self.new.scope ≡ self.old.scope) }
-    {
-        let depth = self.scope.depth();
-        self.declarations(declarations)?;
-        self.each(statements)?;
-        self.scope.leave(depth);
-        Ok(())
     }
 }
 

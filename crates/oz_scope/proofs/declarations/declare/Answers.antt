@@ -1,4 +1,4 @@
-use Rattle.std.proofs.Common.{◌≡◌, sym, ap, ◌∙◌}
+use Rattle.std.proofs.Common.{sym, ap, ◌∙◌}
 use Rattle.oz_semantics.specs.Grammar.{of_list}
 use Rattle.oz_semantics.specs.Refusals.{declaring}
 use Rattle.oz_syntax.specs.View.{views}

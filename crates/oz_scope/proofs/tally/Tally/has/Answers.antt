@@ -1,4 +1,4 @@
-use Rattle.std.proofs.Common.{◌≡◌, ◌∙◌, sym, ap, nat_lt, get_or}
+use Rattle.std.proofs.Common.{◌∙◌, sym, ap, nat_lt, get_or}
 use Rattle.std.proofs.Math.ListN.{get_or-eq_default}
 use Rattle.oz_scope.specs.Counts.{times}
 use Rattle.oz_scope.proofs.Counting.{contains_counted}

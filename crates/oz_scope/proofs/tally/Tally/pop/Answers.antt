@@ -1,4 +1,4 @@
-use Rattle.std.proofs.Common.{◌≡◌, ◌<◌, ◌≤◌, length, get_or, reverse, arith}
+use Rattle.std.proofs.Common.{◌<◌, ◌≤◌, length, get_or, reverse, arith}
 use Rattle.std.proofs.lemmas.Grind.{get_or_default_zero}
 use Rattle.oz_scope.proofs.Counting.{counted_top, counted_place, counts_pushed}
 use Rattle.oz_scope.proofs.tally.Tally.pop.Goals as goal

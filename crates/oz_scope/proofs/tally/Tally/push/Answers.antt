@@ -1,8 +1,8 @@
-use Rattle.std.proofs.Common.{◌≡◌, ◌<◌, ◌≤◌, ◌∙◌, length, get_or, reverse, arith}
+use Rattle.std.proofs.Common.{◌≡◌, ◌∙◌, get_or, reverse, arith}
 use Rattle.std.proofs.lemmas.Grind.{get_or_default_zero}
 use Rattle.std.proofs.lemmas.List.{length-reverse}
 use Rattle.oz_scope.specs.Counts.{times}
-use Rattle.oz_scope.proofs.Counting.{times-le-length, counts_push}
+use Rattle.oz_scope.proofs.Counting.{times-le-length}
 use Rattle.oz_scope.proofs.tally.Tally.push.Goals as goal
 
 pub overflow_add-index_mut : goal.overflow_add-index_mut
