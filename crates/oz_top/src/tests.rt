@@ -1,8 +1,9 @@
 use super::{Outcome, oz_call};
 use oz_machine::{Machine, Ran};
 use oz_outside::{Gate, HoldGate, MemSink, MemSource, OpenGate, READ_LIMIT};
-use oz_reader::{read_program, translate};
-use oz_semantics::{Cause, State, Stepped};
+use oz_reader::read_program;
+use oz_semantics::{Cause, Fault, RefusalKind, State, Stepped};
+use oz_translation::translate;
 use std::alloc::{AllocError, Global};
 use std::test::Fail;
 
@@ -14,6 +15,14 @@ const TWO_LEAVES: &str = "solved 1 a\nsolved 2 b\ntotal solved=2 stuck=0 raised=
 
 const SLOT_LEAVES: &str =
     "solved 1 mon\nsolved 2 wed\nsolved 3 mon\ntotal solved=3 stuck=0 raised=0 suspended=0\n";
+
+/// One leaf of each state, and one alternative that fails.
+const ENDS: &[u8] =
+    b"Y in proc {Script R} choice R=f(R) [] {R} [] {Script} [] Y=1 [] fail end end";
+
+const END_LEAVES: &str = "solved 1 f(^1)\nstuck 2 _\nraised 3 error(kernel(arity))\nsuspended 4\ntotal solved=1 stuck=1 raised=1 suspended=1\n";
+
+const ENDLESS: &[u8] = b"proc {Script R} choice R=a [] {Script R} end end";
 
 const NO_LEAVES: &str = "total solved=0 stuck=0 raised=0 suspended=0\n";
 
@@ -33,25 +42,25 @@ fn call<G: Gate>(
 
 #[test]
 fn answers_each_text(rt: HostRuntime) -> Result<(), Fail> {
-    let cases: [(&[&str], &[u8], &str, u8); 9] = [
+    let cases: [(&[&str], &[u8], &str, u8); 19] = [
         (&["all"], TWO, TWO_LEAVES, 0),
         (&["all"], SLOTS, SLOT_LEAVES, 0),
-        (
-            &["all"],
-            b"proc {Script R} choice fail end end",
-            NO_LEAVES,
-            0,
-        ),
-        (
-            &["all"],
-            b"proc {Script R} skip end",
-            "refused syntax 0\n",
-            3,
-        ),
-        (&["all"], b"", "refused syntax 0\n", 3),
+        (&["all"], b"proc {Script R} fail end", NO_LEAVES, 0),
+        (&["all"], ENDS, END_LEAVES, 0),
+        (&["all", "--budget", "9"], TWO, TWO_LEAVES, 0),
+        (&["all", "--budget=8", "--workers=1"], TWO, "spent 8\n", 6),
+        (&["all", "--budget", "1000"], ENDLESS, "spent 1000\n", 6),
+        (&["all"], b"Script=1 Script=2", "raised failure(tell)\n", 1),
+        (&["all", "--budget", "2"], b"fail", "spent 2\n", 6),
+        (&["all"], b"", "no script\n", 9),
+        (&["all"], b"proc {Script R} skip", "refused syntax 20\n", 3),
+        (&["all"], b"X=1", "refused unbound 0\n", 3),
+        (&["all"], b"Script=1.5", "refused byte 8\n", 3),
+        (&["all"], b"proc {Script X X} skip end", "refused linear 15\n", 3),
         (&[], TWO, "usage\n", 2),
         (&["All"], TWO, "usage\n", 2),
         (&["all", "all"], TWO, "usage\n", 2),
+        (&["all", "--workers", "2"], TWO, "usage\n", 2),
         (&[""], TWO, "usage\n", 2),
     ];
     for (words, text, reply, status) in cases {
@@ -61,6 +70,19 @@ fn answers_each_text(rt: HostRuntime) -> Result<(), Fail> {
         assert_eq!(rt; sink.written(), reply.as_bytes());
         assert_eq!(rt; outcome.status, status);
     }
+    Ok(())
+}
+
+#[test]
+fn a_refusal_names_its_place(rt: HostRuntime) -> Result<(), Fail> {
+    let mut source = MemSource::new(rt.alloc(), b"proc {Script R} X=1 end", 5, &[])?;
+    let mut sink = MemSink::new(rt.alloc(), 1000, 1000, &[])?;
+    let outcome = call(rt.alloc(), &["all"], &mut source, &mut sink, &OpenGate)?;
+    let fault = Fault {
+        kind: RefusalKind::Unbound,
+        at: 16,
+    };
+    assert!(rt; matches!(outcome.cause, Cause::Refused(found) if found == fault));
     Ok(())
 }
 
@@ -110,11 +132,11 @@ fn other_words_read_nothing(rt: HostRuntime) -> Result<(), Fail> {
 #[test]
 fn one_byte_too_many(rt: HostRuntime) -> Result<(), Fail> {
     for (many, reply, status) in [
-        (READ_LIMIT, "refused syntax 0\n", 3),
+        (READ_LIMIT, "no script\n", 9),
         (READ_LIMIT + 1, "too large\n", 8),
         (READ_LIMIT + 5000, "too large\n", 8),
     ] {
-        let bytes = Vec::from_elem(rt.alloc(), b'.', many)?;
+        let bytes = Vec::from_elem(rt.alloc(), b' ', many)?;
         let mut source = MemSource::new(rt.alloc(), bytes.as_slice(), 100_000, &[])?;
         let mut sink = MemSink::new(rt.alloc(), 1000, 1000, &[])?;
         let outcome = call(rt.alloc(), &["all"], &mut source, &mut sink, &OpenGate)?;
@@ -139,8 +161,9 @@ fn a_gate_changes_no_answer(rt: HostRuntime) -> Result<(), Fail> {
 #[test]
 fn a_machine_by_hand(rt: HostRuntime) -> Result<(), Fail> {
     let alloc = rt.alloc();
-    let program = read_program(alloc, TWO)?.expect(&rt, "a program");
-    let mut machine = Machine::load(alloc, translate(alloc, &program)?)?;
+    let program = read_program(alloc, TWO).ok().ok_or("a program")?;
+    let kernel = translate(alloc, program.words(), program.phrase())?;
+    let mut machine = Machine::load(alloc, kernel)?;
     assert!(rt; matches!(machine.step(alloc)?, Stepped::Moved { cost: 1 }));
     assert!(rt; matches!(machine.step(alloc)?, Stepped::Quiescent));
     let script = machine.script(alloc).expect(&rt, "a script");

@@ -1,5 +1,5 @@
 use Rattle.std.proofs.lemmas.Result.{IfOk-weaker}
-use Rattle.oz_top.proofs.Answering.{refused_due, accepted_gives, accepted_due}
+use Rattle.oz_top.proofs.Answering.{refused_gives, refused_due, accepted_gives, accepted_due}
 use Rattle.oz_top.proofs.call.answer.Goals as goal
 
 pub returns-in_default-clause-due : goal.returns-in_default-clause-due
