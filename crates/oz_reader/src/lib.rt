@@ -7,4 +7,10 @@
 mod depth;
 mod error;
 mod frame;
+mod program;
+mod reader;
 mod steps;
+
+pub use error::ReadError;
+pub use program::Program;
+pub use reader::read_program;

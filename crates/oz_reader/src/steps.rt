@@ -9,7 +9,7 @@ use crate::error::StepError;
 use crate::frame::{Block, Frame, Opener};
 use oz_semantics::{Literal, Token};
 use oz_syntax::Phrase;
-use std::alloc::Global;
+use std::alloc::{AllocError, Global};
 
 #[tactic(auto, using(crate::proofs::Views::stack_push))]
 fn push(stack: &mut Vec<Frame>, frame: Frame) -> Result<(), StepError>
@@ -486,11 +486,11 @@ pub fn take(alloc: Global, stack: &mut Vec<Frame>, token: Option<Token>) -> Resu
 }
 
 /// Nothing is read yet.
-pub fn start(alloc: Global) -> Result<Vec<Frame>, StepError>
+pub fn start(alloc: Global) -> Result<Vec<Frame>, AllocError>
     ensures { IfOk result (λ stack. stack_of stack.items ≡ start) }
 {
     let mut stack = Vec::new(alloc);
-    push(&mut stack, Frame::Block(begun(alloc, Opener::Program)))?;
+    stack.push(Frame::Block(begun(alloc, Opener::Program)))?;
     Ok(stack)
 }
 
