@@ -1,5 +1,7 @@
 -- What is known of the tokens that were taken so far.
-use Rattle.std.proofs.Common.{◌≡◌, ◌≤◌, ◌<◌, ◌+◌, ◌||◌, ℕ, zero, suc, Bool, true, false, nat_lt, List, [], ◌∷◌, ◌++◌, length, take, drop, map, fold, get_or, Option, Some, None, Err, slice_get, refl, sym, ap, ◌∙◌, subst, arith, nat_tests}
+use Rattle.std.proofs.Common.{◌≡◌, ◌≤◌, ◌<◌, ◌+◌, ◌||◌, ℕ, zero, suc, Bool, true, false, nat_lt, List, [], ◌∷◌, ◌++◌, length, take, drop, map, fold, get_or, Option, Some, None, Result, Ok, Err, IfErr, slice_get, refl, sym, ap, ◌∙◌, subst, arith}
+use Rattle.std.specs.Result.{IsErr, IsErrAnd}
+use Rattle.std.proofs.lemmas.Bool.Decides.{nat_tests}
 use Rattle.std.proofs.lemmas.List.{take-append-drop, take_all, take_more, take-map, length-map, append-nil, map-append, length-drop}
 use Rattle.std.proofs.lemmas.List.Sums.{fold-append}
 use Rattle.std.proofs.lemmas.Option.{slice_get_within, get_or_from_slice_get, slice_get-get_or}
@@ -19,6 +21,15 @@ use Rattle.oz_reader.specs.declared.frame.Frame.{Frame as FrameKept}
 use Rattle.oz_reader.specs.Reading.{Faults, StepsAt, GivesAt}
 use Rattle.reader_law.specs.Machine.{Stack, bind, run, step, start, finish, parse}
 use Rattle.reader_law.specs.Laws.{ParsesLaw, BeginsLaw}
+
+is_below : (a b : ℕ) → a < b → nat_lt a b ≡ true
+is_below a b h = grind (arith, nat_tests, h)
+
+is_within : (a b : ℕ) → b ≤ a → nat_lt a b ≡ false
+is_within a b h = grind (arith, nat_tests, h)
+
+token_count : (text : List ℕ) (ls : List Lexeme) → length (tokens_in text ls) ≡ length ls
+token_count text ls = length-map ls (token_in (words_of text ls) text)
 
 -- ---- the machine and the depth, one token after another
 
@@ -111,12 +122,12 @@ pub lexemes_are : (text : List ℕ) (at : ℕ) (ls : List Lexeme) (e : Ending) (
 lexemes_are text at ls e n l (at_end h) there = let x : None ≡ Some l = there in absurd (cc)
 lexemes_are text at ls e n l (at_bad h g k) there = let x : None ≡ Some l = there in absurd (cc)
 lexemes_are text at ls e n l (at_fraction h g i k) there = let x : None ≡ Some l = there in absurd (cc)
-lexemes_are text at ls e n l (gap {a} {ks} {f} h g rest) there = lexemes_are text (a + gap_length (drop a text)) ks f n l rest there
-lexemes_are text at ls e zero l (token {a} {m} {s} {ks} {f} h g i k rest) there =
+lexemes_are text at ls e n l (gap {at = a} {ls = ks} {e = f} h g rest) there = lexemes_are text (a + gap_length (drop a text)) ks f n l rest there
+lexemes_are text at ls e zero l (token {at = a} {n = m} {sort = s} {ls = ks} {e = f} h g i k rest) there =
     let same : Some (record { sort = s; at = a; len = m }) ≡ Some l = there in
     let is : record { sort = s; at = a; len = m } ≡ l = cc in
     subst (IsLexeme text) is (at_place text a m s h i)
-lexemes_are text at ls e (suc n) l (token {a} {m} {s} {ks} {f} h g i k rest) there = lexemes_are text (a + m) ks f n l rest there
+lexemes_are text at ls e (suc n) l (token {at = a} {n = m} {sort = s} {ls = ks} {e = f} h g i k rest) there = lexemes_are text (a + m) ks f n l rest there
 
 -- ---- what is said where reading ends
 
@@ -155,6 +166,41 @@ module _ (parses : ParsesLaw) (ts : List Token) (n d : ℕ) (k : Stack) (g : Goe
     derived_by_none = λ p derived. let e : None ≡ Some p = sym h ∙ (sym parsed ∙ (parses ts p).0 derived) in absurd (cc);
   }
 
+-- ---- one more token of a text
+
+module _ (begins : BeginsLaw) (text : List ℕ) (ls : List Lexeme) (lexed : Lexes text 0 ls Whole) (n : ℕ) (l : Lexeme) (there : slice_get ls n ≡ Some l)
+    (words new : List (List ℕ)) (t : Token) (old : fold (joining text) first_words (take n ls) ≡ words) (joined : new ≡ joining text words l)
+    (told : (more : List Lexeme) → t ≡ token_in (fold (joining text) new more) text l) (d : ℕ) (k : Stack) (g : Goes (take n (tokens_in text ls)) d k) where
+  more_tokens : take (n + 1) (tokens_in text ls) ≡ take n (tokens_in text ls) ++ t ∷ []
+  more_tokens = tokens_next text ls n l t there (token_is text ls n l words new t there old joined told)
+
+  pub deep_refused : depth_limit < depth_with d t → IsRefused text (record { kind = kind.Deep; at = l.at })
+  deep_refused h = deep lexed there (deep_at begins (tokens_in text ls) n d k g t more_tokens (is_below depth_limit (depth_with d t) h))
+
+  pub syntax_refused : depth_with d t ≤ depth_limit → step t k ≡ None → IsRefused text (record { kind = kind.Syntax; at = l.at })
+  syntax_refused h s =
+      let within = slice_get_within ls n l there in
+      let count = token_count text ls in
+      syntax lexed there (syntax_at begins (tokens_in text ls) n d k g t more_tokens (omega (arith, within, count)) (is_within depth_limit (depth_with d t) h) s)
+
+  pub went : (j : Stack) → depth_with d t ≤ depth_limit → step t k ≡ Some j → Goes (take (n + 1) (tokens_in text ls)) (depth_with d t) j
+  went j h s = subst (λ (ts : List Token). Goes ts (depth_with d t) j) (sym more_tokens) (goes_more (take n (tokens_in text ls)) d k j t g (is_within depth_limit (depth_with d t) h) s)
+
+-- the whole text is read
+module _ (begins : BeginsLaw) (parses : ParsesLaw) (text : List ℕ) (ls : List Lexeme) (lexed : Lexes text 0 ls Whole) (n d : ℕ) (k : Stack)
+    (g : Goes (take n (tokens_in text ls)) d k) (all : length ls ≤ n) where
+  all_tokens : length (tokens_in text ls) ≤ n
+  all_tokens = let count = token_count text ls in omega (arith, all, count)
+
+  pub end_refused : finish k ≡ None → IsRefused text (record { kind = kind.Syntax; at = length text })
+  end_refused h = ends_early lexed (ends_at parses (tokens_in text ls) n d k g all_tokens begins h)
+
+  pub all_derived : (p : Phrase) → finish k ≡ Some p → Derives (tokens_in text ls) p
+  all_derived p h = derived_at parses (tokens_in text ls) n d k g all_tokens p h
+
+  pub all_shallow : too_deep 0 (tokens_in text ls) ≡ false
+  all_shallow = shallow_at parses (tokens_in text ls) n d k g all_tokens
+
 -- ---- refusals of steps
 
 pub step_refused : (text : List ℕ) (at : ℕ) (e : ReadError) (new : List FrameKept) (next : Option Stack) → StepsAt at (Err e) new next
@@ -166,3 +212,7 @@ pub value_refused : {X Y : Type 0} (text : List ℕ) (at : ℕ) (e : ReadError) 
     → (next ≡ None → IsRefused text (record { kind = kind.Syntax; at = at })) → Faults (IsRefused text) e
 value_refused text at Memory see next h f = tt
 value_refused text at (Refused fault) see next h f = subst (IsRefused text) (sym h.1) (f h.0)
+
+pub err_is : {X E : Type 0} (r : Result X E) (e : E) (P : E → Type 0) → IsErr r × IsErrAnd r (λ y. y ≡ e) → P e → IfErr r P
+err_is (Ok x) e P h p = tt
+err_is (Err y) e P h p = subst P (sym h.1) p

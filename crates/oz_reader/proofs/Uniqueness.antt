@@ -101,22 +101,22 @@ module _ (law : ParsesLaw) (ls : List Lexeme) (ts : List Token) (len : ℕ) (sam
       let lists : f ∷ fs ≡ g ∷ gs = sym h ∙ (ap (faults first_scope) e ∙ k) in
       cc
 
-  pub one_verdict : (f g : Fault) → Verdict ls ts len f → Verdict ls ts len g → g ≡ f
-  one_verdict f g (stopped {m} {k} a s) (stopped {n} {l} b t) = one_stopped m n k l a b (one_stop ts m n s t)
-  one_verdict f g (stopped {m} {k} a s) (ended e) = absurd (stops_whole ts m (within m k a) s e.before)
-  one_verdict f g (stopped {m} {k} a s) (misnamed {x} e) = absurd (stops_whole ts m (within m k a) s (faulty_fine ts x e))
-  one_verdict f g (ended e) (stopped {m} {k} a s) = absurd (stops_whole ts m (within m k a) s e.before)
+  one_verdict : (f g : Fault) → Verdict ls ts len f → Verdict ls ts len g → g ≡ f
+  one_verdict f g (stopped {n = m} {l = k} a s) (stopped {n = n} {l = l} b t) = one_stopped m n k l a b (one_stop ts m n s t)
+  one_verdict f g (stopped {n = m} {l = k} a s) (ended e) = absurd (stops_whole ts m (within m k a) s e.before)
+  one_verdict f g (stopped {n = m} {l = k} a s) (misnamed {fault = x} e) = absurd (stops_whole ts m (within m k a) s (faulty_fine ts x e))
+  one_verdict f g (ended e) (stopped {n = m} {l = k} a s) = absurd (stops_whole ts m (within m k a) s e.before)
   one_verdict f g (ended e) (ended d) = refl
   one_verdict f g (ended e) (misnamed d) = absurd (e.derived_by_none d.program d.derived)
-  one_verdict f g (misnamed {x} e) (stopped {m} {k} a s) = absurd (stops_whole ts m (within m k a) s (faulty_fine ts x e))
+  one_verdict f g (misnamed {fault = x} e) (stopped {n = m} {l = k} a s) = absurd (stops_whole ts m (within m k a) s (faulty_fine ts x e))
   one_verdict f g (misnamed d) (ended e) = absurd (e.derived_by_none d.program d.derived)
-  one_verdict f g (misnamed {x} d) (misnamed {y} e) = first_same d.others e.others x y d.program e.program (one_phrase law ts d.program e.program d.derived e.derived) d.first e.first
+  one_verdict f g (misnamed {fault = x} d) (misnamed {fault = y} e) = first_same d.others e.others x y d.program e.program (one_phrase law ts d.program e.program d.derived e.derived) d.first e.first
 
   -- a program is not refused
   no_verdict : (f : Fault) (p : Phrase) → Derives ts p → too_deep 0 ts ≡ false → faults first_scope p ≡ [] → Verdict ls ts len f → ⊥
-  no_verdict f p d h none (stopped {m} {k} a s) = stops_whole ts m (within m k a) s (derived_fine ts p d h)
+  no_verdict f p d h none (stopped {n = m} {l = k} a s) = stops_whole ts m (within m k a) s (derived_fine ts p d h)
   no_verdict f p d h none (ended e) = e.derived_by_none p d
-  no_verdict f p d h none (misnamed {x} e) =
+  no_verdict f p d h none (misnamed {fault = x} e) =
       let lists : [] ≡ x ∷ e.others = sym none ∙ (ap (faults first_scope) (one_phrase law ts p e.program d e.derived) ∙ e.first) in
       absurd (cc)
 
@@ -141,8 +141,8 @@ stopped_as text ls n l b lexed there s e = subst (λ (b : Bool). Reading text (r
 
 reading_of : (text : List ℕ) (f : Fault) → IsRefused text f → Reading text f
 reading_of text f (bad_byte lexed) = bad lexed
-reading_of text f (deep {ls} {n} {l} lexed there d) = stopped_as text ls n l true lexed there (deep_stops (tokens_in text ls) n d) d.deep
-reading_of text f (syntax {ls} {n} {l} lexed there s) = stopped_as text ls n l false lexed there (syntax_stops (tokens_in text ls) n s) s.shallow
+reading_of text f (deep {ls = ls} {n = n} {l = l} lexed there d) = stopped_as text ls n l true lexed there (deep_stops (tokens_in text ls) n d) d.deep
+reading_of text f (syntax {ls = ls} {n = n} {l = l} lexed there s) = stopped_as text ls n l false lexed there (syntax_stops (tokens_in text ls) n s) s.shallow
 reading_of text f (ends_early lexed e) = whole lexed (ended e)
 reading_of text f (faulty lexed e) = whole lexed (misnamed e)
 
@@ -157,13 +157,13 @@ module _ (one : OneReading) (law : ParsesLaw) (text : List ℕ) where
   same_whole ls ks h k = (one text 0 ls ks Whole Whole h k).0
 
   one_reading_of : (f g : Fault) → Reading text f → Reading text g → g ≡ f
-  one_reading_of f g (bad {ls} {m} h) (bad {ks} {n} k) =
+  one_reading_of f g (bad {ls = ls} {at = m} h) (bad {ls = ks} {at = n} k) =
       let e : Bad m ≡ Bad n = (one text 0 ls ks (Bad m) (Bad n) h k).1 in
       let same : m ≡ n = cc in
       ap (λ (at : ℕ). record { kind = kind.Byte; at = at }) (sym same)
-  one_reading_of f g (bad {ls} {m} h) (whole {ks} k v) = absurd (bad_whole ls ks m h k)
-  one_reading_of f g (whole {ls} h v) (bad {ks} {m} k) = absurd (bad_whole ks ls m k h)
-  one_reading_of f g (whole {ls} {x} h v) (whole {ks} {y} k w) =
+  one_reading_of f g (bad {ls = ls} {at = m} h) (whole {ls = ks} k v) = absurd (bad_whole ls ks m h k)
+  one_reading_of f g (whole {ls = ls} h v) (bad {ls = ks} {at = m} k) = absurd (bad_whole ks ls m k h)
+  one_reading_of f g (whole {ls = ls} {fault = x} h v) (whole {ls = ks} {fault = y} k w) =
       one_verdict law ks (tokens_in text ks) (length text) (token_count text ks) x y
       (subst (λ (js : List Lexeme). Verdict js (tokens_in text js) (length text) x) (same_whole ls ks h k) v) w
 
@@ -171,8 +171,8 @@ module _ (one : OneReading) (law : ParsesLaw) (text : List ℕ) where
   one_fault f g h k = one_reading_of f g (reading_of text f h) (reading_of text g k)
 
   no_reading : (f : Fault) (p : Program) → Accepts text p → Reading text f → ⊥
-  no_reading f p a (bad {ls} {m} h) = bad_whole ls a.lexemes m h a.lexed
-  no_reading f p a (whole {ls} {x} h v) =
+  no_reading f p a (bad {ls = ls} {at = m} h) = bad_whole ls a.lexemes m h a.lexed
+  no_reading f p a (whole {ls = ls} {fault = x} h v) =
       no_verdict law a.lexemes (tokens_in text a.lexemes) (length text) (token_count text a.lexemes) x p.phrase a.derived a.shallow a.in_scope
       (subst (λ (js : List Lexeme). Verdict js (tokens_in text js) (length text) x) (same_whole ls a.lexemes h a.lexed) v)
 
