@@ -8,17 +8,20 @@ use Rattle.std.proofs.lemmas.Option.{slice_get_within, get_or_from_slice_get, sl
 use Rattle.oz_semantics.specs.Tokens.{Lexes, Ending, Whole, at_end, at_bad, at_fraction, gap, token, IsLongest, gap_length}
 use Rattle.oz_semantics.specs.Wording.{bytes_of, first_words, joining, words_of, token_in, tokens_in}
 use Rattle.oz_semantics.specs.Grammar.{Phrase, Derives, Begins}
-use Rattle.oz_semantics.specs.Refusals.{depth_limit, depth_with, too_deep, Program, Accepts, IsFineBefore, DeepAt, SyntaxAt, EndsEarly, FaultyAt, IsRefused, deep, syntax, ends_early, faulty}
+use Rattle.oz_semantics.specs.Refusals.{depth_limit, depth_with, too_deep, Program, Accepts, IsFineBefore, DeepAt, SyntaxAt, EndsEarly, FaultyAt, IsRefused, faults, first_scope, bad_byte, deep, syntax, ends_early, faulty}
 use Rattle.oz_semantics.specs.declared.token.Lexeme.{Lexeme}
 use Rattle.oz_semantics.specs.declared.token.Sort.{Sort}
 use Rattle.oz_semantics.specs.declared.token.Token.{Token}
 use Rattle.oz_semantics.specs.declared.outcome.RefusalKind.TheVariants as kind
 use Rattle.oz_semantics.specs.declared.outcome.Fault.{Fault}
-use Rattle.oz_lex.specs.Lexing.{IsLexeme}
+use Rattle.oz_base.specs.Lists.{first}
+use Rattle.oz_lex.specs.declared.lexer.LexError.{LexError}
+use Rattle.oz_lex.specs.declared.lexer.LexError.TheVariants as lex
+use Rattle.oz_lex.specs.Lexing.{IsBad, IsLexeme}
 use Rattle.oz_reader.specs.declared.error.ReadError.{ReadError}
 use Rattle.oz_reader.specs.declared.error.ReadError.TheVariants.{Memory, Refused}
 use Rattle.oz_reader.specs.declared.frame.Frame.{Frame as FrameKept}
-use Rattle.oz_reader.specs.Reading.{Faults, StepsAt, GivesAt}
+use Rattle.oz_reader.specs.Reading.{Faults, IsRead, error_of, StepsAt, GivesAt}
 use Rattle.reader_law.specs.Machine.{Stack, bind, run, step, start, finish, parse}
 use Rattle.reader_law.specs.Laws.{ParsesLaw, BeginsLaw}
 
@@ -216,3 +219,18 @@ value_refused text at (Refused fault) see next h f = subst (IsRefused text) (sym
 pub err_is : {X E : Type 0} (r : Result X E) (e : E) (P : E → Type 0) → IsErr r × IsErrAnd r (λ y. y ≡ e) → P e → IfErr r P
 err_is (Ok x) e P h p = tt
 err_is (Err y) e P h p = subst P (sym h.1) p
+
+pub lex_refused : (text : List ℕ) (e : LexError) → IsBad text e → Faults (IsRefused text) (error_of e)
+lex_refused text lex.Memory h = tt
+lex_refused text (lex.BadByte at) h = bad_byte h.1
+
+-- ---- the names of what was read
+
+first_is : (fs : List Fault) (f : Fault) → first fs ≡ Some f → (others : List Fault) × (fs ≡ f ∷ others)
+first_is [] f h = absurd (cc)
+first_is (g ∷ fs) f h = (fs, cc)
+
+pub names_refused : (text : List ℕ) (ls : List Lexeme) (p : Program) (f : Fault) → Lexes text 0 ls Whole → IsRead text ls p → first (faults first_scope p.phrase) ≡ Some f → IsRefused text f
+names_refused text ls p f lexed read h =
+    let more = first_is (faults first_scope p.phrase) f h in
+    faulty lexed (record { program = p.phrase; derived = read.derived; shallow = read.shallow; others = more.0; first = more.1 })

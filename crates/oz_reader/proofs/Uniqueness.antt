@@ -14,7 +14,9 @@ use Rattle.oz_semantics.specs.declared.outcome.Fault.{Fault}
 use Rattle.oz_lex.specs.Lexing.{OneReading}
 use Rattle.reader_law.specs.Machine.{parse}
 use Rattle.reader_law.specs.Laws.{ParsesLaw}
-use Rattle.oz_reader.specs.Reading.{IsOnlyRefused}
+use Rattle.oz_reader.specs.declared.error.ReadError.{ReadError}
+use Rattle.oz_reader.specs.declared.error.ReadError.TheVariants.{Memory, Refused}
+use Rattle.oz_reader.specs.Reading.{Faults, IsOnlyRefused, Refuses}
 
 -- ---- what is fine stays so without its last tokens
 
@@ -188,3 +190,7 @@ module _ (one : OneReading) (law : ParsesLaw) (text : List ℕ) where
 
   pub refuses : (f : Fault) → IsRefused text f → IsOnlyRefused text f
   refuses f h = record { refused = h; only = λ g k. one_fault f g h k; unaccepted = λ p a. not_both f p h a }
+
+pub refuses_err : OneReading → ParsesLaw → (text : List ℕ) (e : ReadError) → Faults (IsRefused text) e → Refuses text e
+refuses_err one law text Memory h = tt
+refuses_err one law text (Refused f) h = refuses one law text f h
