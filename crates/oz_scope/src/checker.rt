@@ -17,7 +17,7 @@ use std::alloc::{AllocError, Global};
 /// The name `Script`, which is always in scope.
 const SCRIPT: u32 = 0;
 
-/// Goes through a phrase with the names in scope.
+/// Goes through a phrase with the names in scope, up to the first fault. Once it has stopped, its scope means nothing.
 #[derive(Drop)]
 struct Checker {
     scope: Tally,
@@ -101,6 +101,7 @@ impl Checker {
         }
     }
 
+    /// Phrases one behind the other, in the same scope.
     #[cycle(phrases)]
     fn each(&mut self, phrases: &[Phrase]) -> Result<(), Stop>
         ensures faults { Finds (faults_each self.old.scope (of_list (views phrases.now))) result }

@@ -5,5 +5,7 @@ mod checker;
 mod declarations;
 mod stop;
 mod tally;
+#[cfg(test)]
+mod tests;
 
 pub use checker::first_fault;

@@ -7,6 +7,7 @@ use std::alloc::AllocError;
 
 #[derive(Drop)]
 pub enum Stop {
+    /// The first fault is found.
     Faulty(Fault),
     NoMemory(AllocError),
 }
