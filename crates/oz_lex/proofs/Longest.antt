@@ -1,10 +1,9 @@
 -- The longest token at the front of a text.
-use Rattle.std.proofs.Common.{◌≡◌, ◌≤◌, ◌<◌, ◌+◌, ◌-◌, ◌==◌, ◌&&◌, ◌⊎◌, inl, inr, ⊎_elim, ℕ, zero, suc, List, [], ◌∷◌, length, take, drop, get_or, Bool, true, false, not, Some, None, refl, ap, sym, ◌∙◌, subst, arith, add-one}
+use Rattle.std.proofs.Common.{◌≡◌, ◌≤◌, ◌<◌, ◌+◌, ◌==◌, ◌&&◌, ◌⊎◌, inl, inr, ℕ, zero, suc, List, [], ◌∷◌, length, take, drop, get_or, Bool, true, false, Some, None, refl, ap, sym, ◌∙◌, subst, arith, add-one}
 use Rattle.std.specs.Prelude.{nat_le}
 use Rattle.std.specs.List.{list_all, prefix_len}
 use Rattle.std.proofs.lemmas.Bool.Decides.{nat_tests}
 use Rattle.std.proofs.lemmas.List.Sums.{prefix_len-le-length}
-use Rattle.oz_base.specs.Lists.{is_empty}
 use Rattle.oz_semantics.specs.Tokens.{is_upper, is_lower, is_digit, goes_on_word, is_small_word, is_label, is_reserved, is_digits, is_symbol, sort_of, IsLongest, NoToken}
 use Rattle.oz_semantics.specs.declared.token.Sort.{Sort}
 use Rattle.oz_semantics.specs.declared.token.Sort.TheVariants as sort

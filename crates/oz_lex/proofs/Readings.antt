@@ -1,5 +1,5 @@
 -- Steps of the reading of a text, and that there is one reading.
-use Rattle.std.proofs.Common.{◌≡◌, ◌≤◌, ◌<◌, ◌+◌, ◌-◌, ◌++◌, ◌∷◌, [], ℕ, zero, suc, Bool, true, false, List, length, take, drop, Option, Some, None, subst, sym, refl, ap, ◌∙◌, arith, ◌⊎◌, ⊎_elim, length-drop, append_assoc, append-nil}
+use Rattle.std.proofs.Common.{◌≡◌, ◌≤◌, ◌<◌, ◌+◌, ◌++◌, ◌∷◌, [], ℕ, Bool, true, false, List, length, take, drop, Option, Some, None, subst, sym, refl, ap, ◌∙◌, arith, ◌⊎◌, ⊎_elim, length-drop, append_assoc, append-nil}
 use Rattle.std.specs.List.{All}
 use Rattle.std.proofs.lemmas.List.Elements.{All-nil, All-cons}
 use Rattle.oz_semantics.specs.declared.token.Sort.{Sort}

@@ -1,11 +1,11 @@
 -- What bytes are as a token, by the first of them.
-use Rattle.std.proofs.Common.{◌≡◌, ◌≤◌, ◌<◌, ◌+◌, ◌-◌, ◌==◌, ◌&&◌, ◌||◌, ℕ, zero, suc, List, [], ◌∷◌, ◌++◌, length, take, drop, get_or, Bool, true, false, not, Some, None, refl, ap, sym, ◌∙◌, subst, arith, length-append}
-use Rattle.std.specs.Prelude.{nat_le, if◌then◌else◌}
+use Rattle.std.proofs.Common.{◌≡◌, ◌<◌, ◌+◌, ◌-◌, ◌==◌, ◌&&◌, ◌||◌, ℕ, zero, suc, List, [], ◌∷◌, ◌++◌, length, take, get_or, Bool, true, false, not, Some, None, refl, ap, sym, ◌∙◌, arith, length-append}
+use Rattle.std.specs.Prelude.{nat_le}
 use Rattle.std.specs.List.{list_all, list_any}
 use Rattle.std.specs.Ffi.{without_last}
 use Rattle.std.proofs.lemmas.Bool.Decides.{nat_tests}
 use Rattle.std.proofs.lemmas.List.{take_more}
-use Rattle.oz_base.specs.Lists.{list_eq, is_empty}
+use Rattle.oz_base.specs.Lists.{list_eq}
 use Rattle.oz_base.specs.ListLaws.{list_eq-decides}
 use Rattle.oz_base.specs.Paths.{last_of}
 use Rattle.oz_semantics.specs.Tokens.{is_upper, is_lower, is_digit, goes_on_word, is_var, is_small_word, is_label, is_reserved, is_digits, is_int, symbols, is_symbol, sort_of}

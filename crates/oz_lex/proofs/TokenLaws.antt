@@ -1,11 +1,10 @@
 -- Tokens under words that still join.
-use Rattle.std.proofs.Common.{◌≡◌, ◌==◌, ◌&&◌, ℕ, Bool, true, false, not, List, [], ◌∷◌, Option, Some, None, refl, ap, sym, ◌∙◌, subst}
-use Rattle.std.specs.Prelude.{fold, if◌then◌else◌, unwrap_or, Result, Ok, Err, IfOk}
+use Rattle.std.proofs.Common.{◌≡◌, ◌==◌, ◌&&◌, ℕ, Bool, true, false, not, List, [], ◌∷◌, Option, Some, None, refl, ap, sym, ◌∙◌}
+use Rattle.std.specs.Prelude.{fold, if◌then◌else◌, unwrap_or, Result, Ok, Err, IfOk, OnErr}
 use Rattle.std.specs.Ffi.{without_last}
 use Rattle.oz_base.specs.Words.{number_in}
 use Rattle.oz_base.proofs.WordsLaws.{number_kept}
 use Rattle.oz_base.specs.Paths.{last_of}
-use Rattle.oz_semantics.specs.declared.token.Sort.{Sort}
 use Rattle.oz_semantics.specs.declared.token.Sort.TheVariants as sort
 use Rattle.oz_semantics.specs.declared.token.Lexeme.{Lexeme}
 use Rattle.oz_semantics.specs.declared.token.Literal.{Literal}
@@ -75,9 +74,9 @@ module _ (text : List ℕ) (words : List (List ℕ)) (l : Lexeme) (bytes : List 
       → (more : List Lexeme) → token.Label t ≡ token_in (fold (joining text) words more) text l
   label_token t s h more = rw s (rw (sym e) (ap token.Label (h (fold (joining text) words more) (joined_keep text words more))))
 
-  -- the word of a label joins
-  pub label_joins : sort_of (bytes_of text l) ≡ Some l.sort → l.sort ≡ sort.Label → with_word words (atom_unless (without_last bytes) (constant_of (without_last bytes))) ≡ joining text words l
-  label_joins h s =
+  -- the word of a label
+  pub label_word : sort_of (bytes_of text l) ≡ Some l.sort → l.sort ≡ sort.Label → atom_unless (without_last bytes) (constant_of (without_last bytes)) ≡ word_in l.sort (bytes_of text l)
+  label_word h s =
       let r : is_reserved (without_last bytes) ≡ false = label_bytes bytes (ap sort_of e ∙ h ∙ ap Some s) in
       rw s (rw (sym e) (rw r refl))
 
@@ -85,3 +84,7 @@ module _ (text : List ℕ) (words : List (List ℕ)) (l : Lexeme) (bytes : List 
       → IfOk r (λ t. (more : List Lexeme) → t ≡ token_in (fold (joining text) words more) text l)
   small_tokens (Ok t) s h = small_token t s h
   small_tokens (Err x) s h = h
+
+pub on_err : {T E P : Type 0} (r : Result T E) → P → OnErr r P
+on_err (Ok t) p = tt
+on_err (Err x) p = p

@@ -1,5 +1,5 @@
 -- What is said of the tokens of a whole text.
-use Rattle.std.specs.Prelude.{◌≡◌, ℕ, ◌+◌, ◌≤◌, Some, List, length}
+use Rattle.std.specs.Prelude.{◌≡◌, ℕ, ◌+◌, ◌≤◌, Option, Some, None, List, length}
 use Rattle.oz_base.specs.Words.{number_in}
 use Rattle.oz_semantics.specs.Tokens.{sort_of, Lexes, Ending, Bad}
 use Rattle.oz_semantics.specs.Wording.{bytes_of}
@@ -24,3 +24,8 @@ pub record IsLexeme (text : List ℕ) (l : Lexeme) : Type 0 where
 -- the words that are there keep their numbers
 abbrev pub KeepsNumbers : List (List ℕ) → List (List ℕ) → Type 0
 KeepsNumbers words later = (word : List ℕ) (n : ℕ) → number_in words word ≡ Some n → number_in later word ≡ Some n
+
+-- there is a word, and it is not among these yet
+abbrev pub IsNew : List (List ℕ) → Option (List ℕ) → Type 0
+IsNew words None = ⊥
+IsNew words (Some word) = number_in words word ≡ None

@@ -4,8 +4,8 @@ ghost use Rattle.std.specs.Ffi.{without_last};
 ghost use Rattle.oz_base.specs.Lists.{list_eq};
 ghost use Rattle.oz_semantics.specs.declared.token.Lexeme.{Lexeme};
 ghost use Rattle.oz_semantics.specs.declared.token.Token.{Token};
-ghost use Rattle.oz_semantics.specs.Wording.{bytes_of, first_words, with_word, atom_word, atom_unless, joining, token_in, word_token, literal_in, constant_of, fixed_token, known};
-ghost use Rattle.oz_lex.specs.Lexing.{IsLexeme, KeepsNumbers};
+ghost use Rattle.oz_semantics.specs.Wording.{bytes_of, first_words, word_in, with_word, atom_word, atom_unless, joining, token_in, word_token, literal_in, constant_of, fixed_token, known};
+ghost use Rattle.oz_lex.specs.Lexing.{IsLexeme, IsNew, KeepsNumbers};
 
 use crate::bytes::{is_among, is_reserved, same_bytes};
 use crate::integers::int_token;
@@ -52,6 +52,7 @@ pub fn token_of(words: &mut Words, text: &[u8], lexeme: Lexeme) -> Result<Token,
     ensures words { OnOk result (words.new ≡ joining text.now words.old lexeme) }
     ensures token { IfOk result (λ token. (more : List Lexeme) → token ≡ token_in (fold (joining text.now) words.new more) text.now lexeme) }
     ensures err { OnErr result (words.new ≡ words.old) }
+    ensures refused { OnErr result (IsNew words.old (word_in lexeme.sort (bytes_of text.now lexeme))) }
 {
     let bytes = bytes_of(text, lexeme);
     match lexeme.sort {
@@ -71,6 +72,7 @@ fn word_token(words: &mut Words, word: &[u8]) -> Result<Token, AllocError>
     ensures words { OnOk result (words.new ≡ with_word words.old (atom_word word.now)) }
     ensures token { IfOk result (λ token. (later : List (List ℕ)) → KeepsNumbers words.new later → token ≡ word_token later word.now) }
     ensures err { OnErr result (words.new ≡ words.old) }
+    ensures refused { OnErr result (IsNew words.old (atom_word word.now)) }
 {
     if is_reserved(word) {
         return Ok(fixed_token(word));
@@ -83,6 +85,7 @@ fn literal_in(words: &mut Words, word: &[u8]) -> Result<Literal, AllocError>
     ensures words { OnOk result (words.new ≡ with_word words.old (atom_unless word.now (constant_of word.now))) }
     ensures literal { IfOk result (λ literal. (later : List (List ℕ)) → KeepsNumbers words.new later → literal ≡ literal_in later word.now) }
     ensures err { OnErr result (words.new ≡ words.old) }
+    ensures refused { OnErr result (IsNew words.old (atom_unless word.now (constant_of word.now))) }
 {
     if let Some(literal) = constant_of(word) {
         return Ok(literal);

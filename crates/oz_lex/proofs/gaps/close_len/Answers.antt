@@ -1,6 +1,5 @@
-use Rattle.std.proofs.Common.{arith, length, drop, ◌-◌, ◌≡◌, sym, ap, ◌∙◌, take, length-drop, false, true}
-use Rattle.std.proofs.lemmas.List.{take_all}
-use Rattle.oz_lex.proofs.Closings.{next, here, short, tail}
+use Rattle.std.proofs.Common.{arith, drop, ◌≡◌, sym, ap, ◌∙◌, false}
+use Rattle.oz_lex.proofs.Closings.{next, short, tail}
 use Rattle.oz_lex.specs.Scanning.{begins_close}
 use Rattle.oz_lex.proofs.gaps.close_len.Goals as goal
 

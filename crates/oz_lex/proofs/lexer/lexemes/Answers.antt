@@ -1,4 +1,4 @@
-use Rattle.std.proofs.Common.{◌≡◌, ◌≤◌, ◌+◌, ◌++◌, ℕ, List, length, drop, subst, sym, ap, ◌∙◌, arith, length-drop, true, false}
+use Rattle.std.proofs.Common.{◌≡◌, ◌≤◌, ◌+◌, length, drop, subst, sym, ap, ◌∙◌, arith, length-drop, true, false}
 use Rattle.std.proofs.lemmas.List.{drop-drop}
 use Rattle.oz_semantics.specs.Tokens.{gap_length, IsLongest, NoToken, is_broken_number}
 use Rattle.oz_lex.proofs.Readings.{Front, gap_step, token_step, bad_byte, bad_fraction, finished}

@@ -1,4 +1,4 @@
-use Rattle.std.proofs.Common.{◌≡◌, ◌∙◌, sym, arith}
+use Rattle.std.proofs.Common.{◌∙◌, sym, arith}
 use Rattle.oz_lex.proofs.Longest.{fits, symbol_longest, symbol_none, past_two, past_one, past_none}
 use Rattle.oz_lex.proofs.scan.symbol_at.Goals as goal
 

@@ -1,4 +1,4 @@
-use Rattle.std.proofs.Common.{◌≡◌, ◌∙◌, sym, ap, arith, rules, true}
+use Rattle.std.proofs.Common.{◌≡◌, rules, true}
 use Rattle.oz_semantics.specs.Tokens.{is_upper, is_digit}
 use Rattle.oz_lex.specs.Scanning.{begins}
 use Rattle.oz_lex.proofs.Longest.{var_longest, int_longest}

@@ -1,5 +1,4 @@
-use Rattle.std.proofs.Common.{◌≡◌, ◌+◌, ◌∙◌, sym, ap, arith, inl, inr, drop, take, true, false}
-use Rattle.oz_semantics.specs.Tokens.{is_reserved}
+use Rattle.std.proofs.Common.{◌≡◌, ◌∙◌, sym, ap, inl, inr, drop, true}
 use Rattle.oz_lex.specs.Scanning.{begins_paren}
 use Rattle.oz_lex.proofs.Closings.{tail}
 use Rattle.oz_lex.proofs.Longest.{word_longest, label_longest, EndsWord}

@@ -1,7 +1,8 @@
-use Rattle.std.proofs.Common.{◌≡◌, ◌∙◌, sym, ap, Some}
+use Rattle.std.proofs.Common.{◌∙◌, ap, Some, subst}
 use Rattle.oz_semantics.specs.Tokens.{sort_of}
 use Rattle.oz_semantics.specs.Wording.{with_word, atom_unless, constant_of, literal_in}
-use Rattle.oz_lex.proofs.TokenLaws.{int_bytes, var_token, small_tokens, label_token, label_joins}
+use Rattle.oz_lex.specs.Lexing.{IsNew}
+use Rattle.oz_lex.proofs.TokenLaws.{int_bytes, var_token, small_tokens, label_token, label_word, on_err}
 use Rattle.oz_lex.proofs.tokens.token_of.Goals as goal
 
 pub int_token-requires : goal.int_token-requires
@@ -19,7 +20,13 @@ pub returns-in_ok-literal_in-in-Label-clause-words : goal.returns-in_ok-literal_
 returns-in_ok-literal_in-in-Label-clause-words c =
     let words = c.args.words.now in
     c.in_ok-literal_in-in-Label.ensures.words ∙ ap (λ w. with_word words (atom_unless w (constant_of w))) c.without_last.ensures
-    ∙ label_joins c.args.text.now words c.args.lexeme c.bytes_of-bytes.result.now c.bytes_of-bytes.ensures c.requires.token c.in-Label.is
+    ∙ ap (with_word words) (label_word c.args.text.now words c.args.lexeme c.bytes_of-bytes.result.now c.bytes_of-bytes.ensures c.requires.token c.in-Label.is)
+
+pub returns-in_err-literal_in-in-Label-clause-refused : goal.returns-in_err-literal_in-in-Label-clause-refused
+returns-in_err-literal_in-in-Label-clause-refused c =
+    let words = c.args.words.now in
+    let word = ap (λ w. atom_unless w (constant_of w)) c.without_last.ensures ∙ label_word c.args.text.now words c.args.lexeme c.bytes_of-bytes.result.now c.bytes_of-bytes.ensures c.requires.token c.in-Label.is in
+    on_err c.from_residual-in_err-literal_in-in-Label.result (subst (IsNew words) word c.in_err-literal_in-in-Label.ensures.refused)
 
 pub returns-in_ok-literal_in-in-Label-clause-token : goal.returns-in_ok-literal_in-in-Label-clause-token
 returns-in_ok-literal_in-in-Label-clause-token c =
