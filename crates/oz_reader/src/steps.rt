@@ -338,20 +338,13 @@ fn next_part(
     ensures { Steps result stack.new.items (next_part next (views parts.items) (stack_of stack.old.items)) }
 {
     match next {
-        Some(Token::CloseBrace) => {
-            if !is_some_item(&parts) {
-                return Err(StepError::Refused);
-            }
-            add_statement(stack, Phrase::Call { parts })
-        }
         Some(Token::Var { name, at }) => {
             push(stack, Frame::Parts(parts))?;
             have(stack, Phrase::Var { name, at })
         }
+        _ if !is_some_item(&parts) => Err(StepError::Refused),
+        Some(Token::CloseBrace) => add_statement(stack, Phrase::Call { parts }),
         _ => {
-            if !is_some_item(&parts) {
-                return Err(StepError::Refused);
-            }
             push(stack, Frame::Parts(parts))?;
             operand(alloc, stack, next)
         }

@@ -53,14 +53,14 @@ returns-in_err-take_at-clause-refused c =
 pub loop-lexeme-preserved : goal.loop-lexeme-preserved
 loop-lexeme-preserved c = record {
   words =
-    words_next c.args.text.now c.args.lexemes.now c.loop-lexeme.lexeme-index (slice_index_or c.args.lexemes.now c.loop-lexeme.lexeme-index none) c.loop-lexeme.words c.token_of.new.words
-    (there c.args.lexemes.now c.loop-lexeme.lexeme-index (omega arith)) c.loop-lexeme.invariant.words c.in_ok-token.ensures.words;
+      words_next c.args.text.now c.args.lexemes.now c.loop-lexeme.lexeme-index (slice_index_or c.args.lexemes.now c.loop-lexeme.lexeme-index none) c.loop-lexeme.words c.token_of.new.words
+      (there c.args.lexemes.now c.loop-lexeme.lexeme-index (omega arith)) c.loop-lexeme.invariant.words c.in_ok-token.ensures.words;
   goes =
-    subst (λ (d : ℕ). Goes (take (c.loop-lexeme.lexeme-index + 1) (tokens_in c.args.text.now c.args.lexemes.now)) d (stack_of c.take_at.new.stack.items)) (sym c.depth_with-depth.ensures)
-    (went c.begins_law.ensures c.args.text.now c.args.lexemes.now c.requires c.loop-lexeme.lexeme-index (slice_index_or c.args.lexemes.now c.loop-lexeme.lexeme-index none)
-    (there c.args.lexemes.now c.loop-lexeme.lexeme-index (omega arith)) c.loop-lexeme.words c.token_of.new.words c.in_ok-token.token c.loop-lexeme.invariant.words
-    c.in_ok-token.ensures.words c.in_ok-token.ensures.token c.loop-lexeme.depth (stack_of c.loop-lexeme.stack.items) c.loop-lexeme.invariant.goes
-    (stack_of c.take_at.new.stack.items) (omega arith) c.in_ok-take_at.ensures);
+      subst (λ (d : ℕ). Goes (take (c.loop-lexeme.lexeme-index + 1) (tokens_in c.args.text.now c.args.lexemes.now)) d (stack_of c.take_at.new.stack.items)) (sym c.depth_with-depth.ensures)
+      (went c.begins_law.ensures c.args.text.now c.args.lexemes.now c.requires c.loop-lexeme.lexeme-index (slice_index_or c.args.lexemes.now c.loop-lexeme.lexeme-index none)
+      (there c.args.lexemes.now c.loop-lexeme.lexeme-index (omega arith)) c.loop-lexeme.words c.token_of.new.words c.in_ok-token.token c.loop-lexeme.invariant.words
+      c.in_ok-token.ensures.words c.in_ok-token.ensures.token c.loop-lexeme.depth (stack_of c.loop-lexeme.stack.items) c.loop-lexeme.invariant.goes
+      (stack_of c.take_at.new.stack.items) (omega arith) c.in_ok-take_at.ensures);
   shallow = omega arith;
 }
 
@@ -75,10 +75,10 @@ pub returns-clause-read : goal.returns-clause-read
 returns-clause-read c = record {
   words = c.new.ensures.words ∙ (sym c.loop-lexeme.invariant.words ∙ words_all c.args.text.now c.args.lexemes.now c.loop-lexeme.lexeme-index (omega arith));
   derived =
-    subst (λ (p : Phrase). Derives (tokens_in c.args.text.now c.args.lexemes.now) p) (sym c.new.ensures.phrase)
-    (all_derived c.begins_law.ensures c.parses_law.ensures c.args.text.now c.args.lexemes.now c.requires c.loop-lexeme.lexeme-index c.loop-lexeme.depth (stack_of c.loop-lexeme.stack.items)
-    c.loop-lexeme.invariant.goes (omega arith) (view c.in_ok-phrase.phrase) c.in_ok-phrase.ensures);
+      subst (λ (p : Phrase). Derives (tokens_in c.args.text.now c.args.lexemes.now) p) (sym c.new.ensures.phrase)
+      (all_derived c.begins_law.ensures c.parses_law.ensures c.args.text.now c.args.lexemes.now c.requires c.loop-lexeme.lexeme-index c.loop-lexeme.depth (stack_of c.loop-lexeme.stack.items)
+      c.loop-lexeme.invariant.goes (omega arith) (view c.in_ok-phrase.phrase) c.in_ok-phrase.ensures);
   shallow =
-    all_shallow c.begins_law.ensures c.parses_law.ensures c.args.text.now c.args.lexemes.now c.requires c.loop-lexeme.lexeme-index c.loop-lexeme.depth (stack_of c.loop-lexeme.stack.items)
-    c.loop-lexeme.invariant.goes (omega arith);
+      all_shallow c.begins_law.ensures c.parses_law.ensures c.args.text.now c.args.lexemes.now c.requires c.loop-lexeme.lexeme-index c.loop-lexeme.depth (stack_of c.loop-lexeme.stack.items)
+      c.loop-lexeme.invariant.goes (omega arith);
 }
