@@ -1,14 +1,14 @@
 -- What is known of the tokens that were taken so far.
-use Rattle.std.proofs.Common.{◌≡◌, ◌≤◌, ◌<◌, ◌+◌, ◌||◌, ℕ, zero, suc, Bool, true, false, nat_lt, List, [], ◌∷◌, ◌++◌, length, take, drop, map, fold, get_or, Option, Some, None, Result, Ok, Err, IfErr, slice_get, refl, sym, ap, ◌∙◌, subst, arith}
+use Rattle.std.proofs.Common.{◌≡◌, ◌≤◌, ◌<◌, ◌+◌, ◌||◌, ℕ, zero, suc, Bool, true, false, nat_lt, List, [], ◌∷◌, ◌++◌, length, take, drop, map, fold, Option, Some, None, Result, Ok, Err, IfErr, slice_get, refl, sym, ap, ◌∙◌, subst, arith}
 use Rattle.std.specs.Result.{IsErr, IsErrAnd}
 use Rattle.std.proofs.lemmas.Bool.Decides.{nat_tests}
-use Rattle.std.proofs.lemmas.List.{take-append-drop, take_all, take_more, take-map, length-map, append-nil, map-append, length-drop}
+use Rattle.std.proofs.lemmas.List.{take-append-drop, take_all, take_more, take-map, length-map, map-append, length-drop}
 use Rattle.std.proofs.lemmas.List.Sums.{fold-append}
-use Rattle.std.proofs.lemmas.Option.{slice_get_within, get_or_from_slice_get, slice_get-get_or}
+use Rattle.std.proofs.lemmas.Option.{slice_get_within, get_or_from_slice_get}
 use Rattle.oz_semantics.specs.Tokens.{Lexes, Ending, Whole, at_end, at_bad, at_fraction, gap, token, IsLongest, gap_length}
-use Rattle.oz_semantics.specs.Wording.{bytes_of, first_words, joining, words_of, token_in, tokens_in}
-use Rattle.oz_semantics.specs.Grammar.{Phrase, Derives, Begins}
-use Rattle.oz_semantics.specs.Refusals.{depth_limit, depth_with, too_deep, Program, Accepts, IsFineBefore, DeepAt, SyntaxAt, EndsEarly, FaultyAt, IsRefused, faults, first_scope, bad_byte, deep, syntax, ends_early, faulty}
+use Rattle.oz_semantics.specs.Wording.{first_words, joining, words_of, token_in, tokens_in}
+use Rattle.oz_semantics.specs.Grammar.{Phrase, Derives}
+use Rattle.oz_semantics.specs.Refusals.{depth_limit, depth_with, too_deep, Program, IsFineBefore, DeepAt, SyntaxAt, EndsEarly, IsRefused, faults, first_scope, bad_byte, deep, syntax, ends_early, faulty}
 use Rattle.oz_semantics.specs.declared.token.Lexeme.{Lexeme}
 use Rattle.oz_semantics.specs.declared.token.Sort.{Sort}
 use Rattle.oz_semantics.specs.declared.token.Token.{Token}

@@ -2,7 +2,7 @@
 use Rattle.std.proofs.Common.{◌≡◌, ◌≤◌, ◌<◌, ◌+◌, ◌||◌, ℕ, Bool, true, false, nat_lt, List, [], ◌∷◌, ◌++◌, length, take, drop, Some, slice_get, refl, sym, ap, ◌∙◌, subst, arith}
 use Rattle.std.proofs.lemmas.List.{take-take, take-append-drop, take_all, append_assoc, append-nil, length-map}
 use Rattle.std.proofs.lemmas.Option.{slice_get_within}
-use Rattle.oz_semantics.specs.Tokens.{Lexes, Ending, Whole, Bad}
+use Rattle.oz_semantics.specs.Tokens.{Lexes, Whole, Bad}
 use Rattle.oz_semantics.specs.Wording.{words_of, token_in, tokens_in}
 use Rattle.oz_semantics.specs.Grammar.{Phrase, Derives, Begins}
 use Rattle.oz_semantics.specs.Refusals.{depth_limit, depth_with, too_deep, faults, first_scope, Program, Accepts, IsFineBefore, DeepAt, SyntaxAt, EndsEarly, FaultyAt, IsRefused, bad_byte, deep, syntax, ends_early, faulty}
@@ -12,7 +12,6 @@ use Rattle.oz_semantics.specs.declared.outcome.RefusalKind.{RefusalKind}
 use Rattle.oz_semantics.specs.declared.outcome.RefusalKind.TheVariants as kind
 use Rattle.oz_semantics.specs.declared.outcome.Fault.{Fault}
 use Rattle.oz_lex.specs.Lexing.{OneReading}
-use Rattle.reader_law.specs.Machine.{parse}
 use Rattle.reader_law.specs.Laws.{ParsesLaw}
 use Rattle.oz_reader.specs.declared.error.ReadError.{ReadError}
 use Rattle.oz_reader.specs.declared.error.ReadError.TheVariants.{Memory, Refused}

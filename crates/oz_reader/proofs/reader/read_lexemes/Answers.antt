@@ -1,4 +1,4 @@
-use Rattle.std.proofs.Common.{◌≡◌, ◌<◌, ◌≤◌, ◌+◌, ℕ, List, [], take, length, slice_index_or, slice_get, Some, sym, ◌∙◌, subst, refl, arith}
+use Rattle.std.proofs.Common.{◌≡◌, ◌<◌, ◌+◌, ℕ, List, [], take, length, slice_index_or, slice_get, Some, sym, ◌∙◌, subst, arith}
 use Rattle.std.proofs.lemmas.Option.{slice_get-get_or}
 use Rattle.oz_semantics.specs.Grammar.{Phrase, Derives}
 use Rattle.oz_semantics.specs.Refusals.{IsRefused}
@@ -7,7 +7,7 @@ use Rattle.oz_semantics.specs.Wording.{tokens_in}
 use Rattle.oz_semantics.specs.declared.token.Lexeme.{Lexeme}
 use Rattle.oz_semantics.specs.declared.token.Sort.TheVariants as sort
 use Rattle.oz_syntax.specs.View.{view}
-use Rattle.reader_law.specs.Machine.{Stack, step, start, finish}
+use Rattle.reader_law.specs.Machine.{Stack, step, finish}
 use Rattle.oz_reader.specs.Reading.{Faults}
 use Rattle.oz_reader.specs.View.{stack_of}
 use Rattle.oz_reader.proofs.Progress.{Goes, goes_start, lexemes_are, words_next, words_all, deep_refused, syntax_refused, went, end_refused, all_derived, all_shallow, step_refused, value_refused, err_is}
