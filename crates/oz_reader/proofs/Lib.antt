@@ -1,7 +1,3 @@
-pub mod Spellings
-pub mod LexingLaws
-pub mod Parts
-pub mod Alternatives
-pub mod Programs
-pub mod ReaderLaws
-pub mod Translations
+pub mod Views
+pub mod Progress
+pub mod Uniqueness

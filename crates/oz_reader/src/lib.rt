@@ -1,17 +1,19 @@
-//! Reads the program of a text, and translates it into the kernel.
+//! Reads the program of a text.
 //!
-//! A text is split into tokens (`lexer`), which are read by the grammar (`parser`); `translation` numbers the words and
-//! the statements of what was read. Each goes over its input once.
+//! `frame` has the constructs that are open while a text is read, `steps` what one more token does to them, and `reader` goes over
+//! the tokens of a text once.
 #![tactic(auto)]
 
-mod bytes;
-mod lexer;
-mod parser;
+mod depth;
+mod error;
+mod frame;
+mod program;
 mod reader;
-mod translation;
+mod steps;
 
+pub use error::ReadError;
+pub use program::Program;
 pub use reader::read_program;
-pub use translation::translate;
 
 #[cfg(test)]
 mod tests;

@@ -1,24 +1,101 @@
 //! Reads the program of a text.
-ghost use Rattle.std.specs.Prelude.{◌≡◌, ◌≤◌, IfOk, IfSome, IfNone, length};
-ghost use Rattle.oz_semantics.specs.Grammar.{Accepts, IsRefused};
-ghost use Rattle.oz_semantics.specs.declared.syntax.Program.{Program};
+ghost use Rattle.std.specs.Prelude.{◌≡◌, IfOk, IfErr};
+ghost use Rattle.oz_semantics.specs.Refusals.{Program, Accepts, IsRefused};
+ghost use Rattle.oz_semantics.specs.Tokens.{Lexes, Whole};
+ghost use Rattle.oz_semantics.specs.declared.outcome.Fault.{Fault};
+ghost use Rattle.oz_syntax.specs.View.{view};
+ghost use Rattle.reader_law.specs.Machine.{step, finish};
+ghost use Rattle.oz_reader.specs.Reading.{Faults, Refuses, IsRead, StepsAt, GivesAt, refusal};
+ghost use Rattle.oz_reader.specs.View.{stack_of};
 
-use crate::lexer::tokens;
-use crate::parser::program_at;
-use oz_semantics::Program;
-use std::alloc::{AllocError, Global};
+use crate::depth::{DEPTH_LIMIT, depth_with};
+use crate::error::{ReadError, StepError};
+use crate::frame::Frame;
+use crate::program::Program;
+use crate::steps;
+use oz_lex::{first_words, lexemes, one_reading, token_of};
+use oz_scope::first_fault;
+use oz_semantics::{Fault, Lexeme, RefusalKind, Token};
+use oz_syntax::Phrase;
+use reader_law::{begins_law, parses_law};
+use std::alloc::Global;
 
 /// Reads the program of a text.
 ///
-/// The answer is `None` exactly where no program has the text. An error is want of memory.
-pub fn read_program(alloc: Global, text: &[u8]) -> Result<Option<Program>, AllocError>
-    ensures found { IfOk result (λ found. IfSome found (Accepts text.now)) }
-    ensures only { IfOk result (λ found. IfSome found (λ p. (q : Program) → Accepts text.now q → q ≡ p)) }
-    ensures none { IfOk result (λ found. IfNone found (IsRefused text.now)) }
-    ensures fewer { IfOk result (λ found. IfSome found (λ p. length p.alternatives ≤ length text.now)) }
+/// A text has one program at most. Where it has none it is refused with one fault, and with nothing else: the first byte at which
+/// no token begins; else the first token that lies in more than 200 open constructs, or with which the tokens begin no program,
+/// whichever comes first, where one that is both counts as too deep; else, at its length, a text that ends before its program does;
+/// else the first fault of its names, in the order of the text. It takes the time of going over the text once.
+pub fn read_program(alloc: Global, text: &[u8]) -> Result<Program, ReadError>
+    ensures accepted { IfOk result (Accepts text.now) }
+    ensures only { IfOk result (λ p. (q : Program) → Accepts text.now q → q ≡ p) }
+    ensures unrefused { IfOk result (λ p. (fault : Fault) → IsRefused text.now fault → ⊥) }
+    ensures refused { IfErr result (Refuses text.now) }
 {
-    let Some(tokens) = tokens(alloc, text)? else {
-        return Ok(None);
-    };
-    program_at(alloc, tokens.as_slice())
+    one_reading();
+    parses_law();
+    read_text(alloc, text)
+}
+
+fn read_text(alloc: Global, text: &[u8]) -> Result<Program, ReadError>
+    ensures accepted { IfOk result (Accepts text.now) }
+    ensures refused { IfErr result (Faults (IsRefused text.now)) }
+{
+    let lexemes = lexemes(alloc, text)?;
+    let program = read_lexemes(alloc, text, lexemes.as_slice())?;
+    match first_fault(alloc, program.phrase())? {
+        Some(fault) => Err(ReadError::Refused(fault)),
+        None => Ok(program),
+    }
+}
+
+/// Reads all tokens of a text.
+fn read_lexemes(alloc: Global, text: &[u8], lexemes: &[Lexeme]) -> Result<Program, ReadError>
+    requires { Lexes text.now 0 lexemes.now Whole }
+    ensures read { IfOk result (IsRead text.now lexemes.now) }
+    ensures refused { IfErr result (Faults (IsRefused text.now)) }
+{
+    begins_law();
+    parses_law();
+    let mut words = first_words(alloc)?;
+    let mut stack = steps::start(alloc)?;
+    let mut depth = 0;
+    for lexeme in lexemes {
+        let token = token_of(&mut words, text, *lexeme)?;
+        depth = depth_with(depth, token);
+        if depth > DEPTH_LIMIT {
+            return Err(refusal(RefusalKind::Deep, lexeme.at));
+        }
+        take_at(alloc, &mut stack, token, lexeme.at)?;
+    }
+    let phrase = finish_at(alloc, stack, text.len())?;
+    Ok(Program::new(words, phrase))
+}
+
+fn refusal(kind: RefusalKind, at: usize) -> ReadError
+    ensures { result ≡ refusal kind at }
+{
+    ReadError::Refused(Fault { kind, at })
+}
+
+/// Takes the token that stands at this place.
+fn take_at(alloc: Global, stack: &mut Vec<Frame>, token: Token, at: usize) -> Result<(), ReadError>
+    ensures { StepsAt at result stack.new.items (step token (stack_of stack.old.items)) }
+{
+    match steps::take(alloc, stack, Some(token)) {
+        Ok(()) => Ok(()),
+        Err(StepError::Memory) => Err(ReadError::Memory),
+        Err(StepError::Refused) => Err(refusal(RefusalKind::Syntax, at)),
+    }
+}
+
+/// The program, if the text may end, at this place.
+fn finish_at(alloc: Global, stack: Vec<Frame>, at: usize) -> Result<Phrase, ReadError>
+    ensures { GivesAt view at result (finish (stack_of stack.items)) }
+{
+    match steps::finish(alloc, stack) {
+        Ok(program) => Ok(program),
+        Err(StepError::Memory) => Err(ReadError::Memory),
+        Err(StepError::Refused) => Err(refusal(RefusalKind::Syntax, at)),
+    }
 }

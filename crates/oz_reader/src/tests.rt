@@ -1,54 +1,182 @@
 use super::*;
-use oz_semantics::Statement;
-use std::test::Fail;
+use oz_semantics::{Literal, RefusalKind};
+use oz_syntax::Phrase;
+use std::alloc::{AllocError, Global};
+use std::test::*;
 
-#[test]
-fn texts_that_have_a_program(rt: HostRuntime) -> Result<(), Fail> {
-    let cases: [(&[u8], bool); 12] = [
-        (b"proc {Script R} choice R=a [] R=b end end", true),
-        (b"proc{Script R}choice\tR = a[]fail end\r\nend\n", true),
-        // a token is the longest that fits
-        (b"proc {Script Out_1} choice Out_1=selfish end end", true),
-        (b"proc {Script R} choice R=a endend", false),
-        (b"proc {Script R} choice R=self end end", false),
-        (b"proc {Script R} choice S=a end end", false),
-        (b"proc {Script R} choice end end", false),
-        (b"proc {Script R} choice fail [] end end", false),
-        (b"proc {Script R} choice fail end end end", false),
-        (b"proc {Script R} skip end", false),
-        (b"proc {Script Script} choice fail end end", false),
-        (b"", false),
-    ];
-    for (text, accepted) in cases {
-        assert_eq!(rt; read_program(rt.alloc(), text)?.is_some(), accepted);
+fn fault_of(alloc: Global, text: &[u8]) -> Option<(RefusalKind, usize)> {
+    match read_program(alloc, text) {
+        Err(ReadError::Refused(fault)) => Some((fault.kind, fault.at)),
+        _ => None,
+    }
+}
+
+fn is_accepted(alloc: Global, text: &[u8]) -> bool {
+    read_program(alloc, text).is_ok()
+}
+
+// So many times the text.
+fn repeat(bytes: &mut Vec<u8>, text: &[u8], count: u32) -> Result<(), AllocError> {
+    for _ in 0..count {
+        for byte in text {
+            bytes.push(*byte)?;
+        }
     }
     Ok(())
 }
 
-// The name and the atom of `X=a`.
-fn bound(statement: &Statement) -> Option<(u32, u32)> {
-    match statement {
-        Statement::BindAtom { name, atom } => Some((*name, *atom)),
+#[test]
+fn refuses_at_the_first_fault(rt: HostRuntime) {
+    let cases: [(&[u8], RefusalKind, usize); 26] = [
+        (b"Script=1.5", RefusalKind::Byte, 8),
+        (b"X X ! end", RefusalKind::Byte, 4),
+        (b"end end /* ", RefusalKind::Byte, 8),
+        (b"proc {Script R} skip", RefusalKind::Syntax, 20),
+        (b"proc {Script R} skip ", RefusalKind::Syntax, 21),
+        (b"Script", RefusalKind::Syntax, 6),
+        (b"Script=", RefusalKind::Syntax, 7),
+        (b"Script=1 1", RefusalKind::Syntax, 10),
+        (b"in skip", RefusalKind::Syntax, 0),
+        (b"skip in skip", RefusalKind::Syntax, 5),
+        (b"{}", RefusalKind::Syntax, 1),
+        (b"{1 Script}", RefusalKind::Syntax, 1),
+        (b"X=1 in skip", RefusalKind::Syntax, 4),
+        (b"X skip", RefusalKind::Syntax, 2),
+        (b"proc {} skip end", RefusalKind::Syntax, 6),
+        (b"local in skip end", RefusalKind::Syntax, 6),
+        (b"skip [] skip", RefusalKind::Syntax, 5),
+        (b"skip end", RefusalKind::Syntax, 5),
+        (b"Script=f(Script=1)", RefusalKind::Syntax, 15),
+        (
+            b"Script=170141183460469231731687303715884105728",
+            RefusalKind::Syntax,
+            7,
+        ),
+        (b"if Script then", RefusalKind::Syntax, 0),
+        (b"X=1", RefusalKind::Unbound, 0),
+        (b"X in X=Y", RefusalKind::Unbound, 7),
+        (b"local X in skip end X=1", RefusalKind::Unbound, 20),
+        (b"proc {Script X X} skip end", RefusalKind::Linear, 15),
+        (
+            b"proc {Script X} Y=X end proc {Script Y Y} skip end",
+            RefusalKind::Unbound,
+            16,
+        ),
+    ];
+    for (text, kind, at) in cases {
+        assert_eq!(rt;
+            fault_of(rt.alloc(), text),
+            Some((kind, at)),
+            "of {kind:?} at {at}"
+        );
+    }
+}
+
+#[test]
+fn accepts_programs(rt: HostRuntime) {
+    let cases: [&[u8]; 13] = [
+        b"",
+        b" % nothing\n",
+        b"skip fail",
+        b"local X in X=f(a 1 ~2 g()) end",
+        b"proc {P X} X=1 end in {P 1}",
+        b"X Y in X=Y",
+        b"X proc {P} skip end in {P X 1 a f(X)}",
+        b"proc {Script R} choice R=a [] R=true [] X in X=R end end",
+        b"choice end",
+        b"local X in Y in X=Y end",
+        b"Script=~170141183460469231731687303715884105728",
+        b"1=1 a=a f()=f()",
+        b"proc {Script Script} Script=1 end",
+    ];
+    for (at, text) in cases.iter().enumerate() {
+        assert!(rt; is_accepted(rt.alloc(), text), "text {at}");
+    }
+}
+
+// The parts of `X=l(..)`: the variable, where it stands, the label and the number of fields.
+fn tuple_equation(phrase: &Phrase) -> Option<(u32, usize, Literal, usize)> {
+    match phrase {
+        Phrase::Equal { left, right } => match (&**left, &**right) {
+            (Phrase::Var { name, at }, Phrase::Tuple { label, fields }) => {
+                Some((*name, *at, *label, fields.len()))
+            }
+            _ => None,
+        },
         _ => None,
     }
 }
 
 #[test]
-fn a_repeated_atom_has_one_number(rt: HostRuntime) -> Result<(), Fail> {
-    let text = b"proc {Script R} choice R=b [] R=a [] fail [] R=b end end";
-    let program = read_program(rt.alloc(), text)?.expect(&rt, "a program");
-    let kernel = translate(rt.alloc(), &program)?;
-    let mut words = Vec::new(rt.alloc());
-    for word in kernel.words.as_slice() {
-        words.push(word.as_slice())?;
+fn a_phrase_says_what_the_text_says(rt: HostRuntime) -> Result<(), Fail> {
+    let program = read_program(rt.alloc(), b"X in X=f(a f ~2)")
+        .ok()
+        .ok_or("a program")?;
+    let (words, phrase) = program.into_parts();
+    let expected: [&[u8]; 4] = [b"Script", b"X", b"f", b"a"];
+    for (number, word) in expected.iter().enumerate() {
+        assert_eq!(rt; words.text(number as u32), Some(*word));
     }
-    let expected: [&[u8]; 4] = [b"Script", b"R", b"b", b"a"];
-    assert!(rt; words.as_slice() == expected.as_slice());
-    let mut pairs = Vec::new(rt.alloc());
-    for statement in kernel.statements.as_slice() {
-        pairs.push(bound(statement))?;
+    assert_eq!(rt; words.len(), 4);
+    match &phrase {
+        Phrase::Body {
+            declarations,
+            statements,
+        } => {
+            assert_eq!(rt; declarations.len(), 1);
+            assert_eq!(rt; statements.len(), 1);
+            let found = statements.iter().next().and_then(tuple_equation);
+            assert_eq!(rt; found, Some((1, 5, Literal::Atom(2), 3)));
+        }
+        _ => assert!(rt; false),
     }
-    let expected = [None, None, Some((1, 2)), Some((1, 3)), None, Some((1, 2))];
-    assert!(rt; pairs.as_slice() == expected.as_slice());
+    Ok(())
+}
+
+#[test]
+fn constructs_may_be_200_deep(rt: HostRuntime) -> Result<(), Fail> {
+    let mut text = Vec::new(rt.alloc());
+    repeat(&mut text, b"Script=", 1)?;
+    repeat(&mut text, b"f(", 200)?;
+    assert_eq!(rt;
+        fault_of(rt.alloc(), &text),
+        Some((RefusalKind::Syntax, 407))
+    );
+    repeat(&mut text, b")", 200)?;
+    assert!(rt; is_accepted(rt.alloc(), &text));
+
+    let mut text = Vec::new(rt.alloc());
+    repeat(&mut text, b"Script=", 1)?;
+    repeat(&mut text, b"f(", 201)?;
+    assert_eq!(rt; fault_of(rt.alloc(), &text), Some((RefusalKind::Deep, 407)));
+
+    // a token that is too deep and out of place is too deep
+    let mut text = Vec::new(rt.alloc());
+    repeat(&mut text, b"Script=", 1)?;
+    repeat(&mut text, b"f(", 200)?;
+    repeat(&mut text, b"{", 1)?;
+    assert_eq!(rt; fault_of(rt.alloc(), &text), Some((RefusalKind::Deep, 407)));
+    Ok(())
+}
+
+#[test]
+fn long_texts_take_little_time(rt: HostRuntime) -> Result<(), Fail> {
+    let mut text = Vec::new(rt.alloc());
+    repeat(&mut text, b"X in ", 1)?;
+    repeat(&mut text, b"X=1 ", 250_000)?;
+    assert!(rt; is_accepted(rt.alloc(), &text));
+
+    let mut text = Vec::new(rt.alloc());
+    for _ in 0..700 {
+        repeat(&mut text, b"local X in ", 100)?;
+        repeat(&mut text, b"end ", 100)?;
+    }
+    assert!(rt; is_accepted(rt.alloc(), &text));
+
+    let mut text = Vec::new(rt.alloc());
+    repeat(&mut text, b"Script=f(", 1)?;
+    repeat(&mut text, b"a ", 500_000)?;
+    repeat(&mut text, b")", 1)?;
+    assert!(rt; is_accepted(rt.alloc(), &text));
     Ok(())
 }

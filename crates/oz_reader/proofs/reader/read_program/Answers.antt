@@ -1,25 +1,15 @@
-use Rattle.std.proofs.Common.{◌∙◌, ap}
-use Rattle.std.proofs.lemmas.Result.{IfOk-weaker}
-use Rattle.oz_reader.specs.Parsing.{program_at}
-use Rattle.oz_reader.proofs.ReaderLaws.{some_accepts, some_only, none_refused, some_fewer}
+use Rattle.std.proofs.lemmas.Result.{IfOk-weaker, IfErr-weaker}
+use Rattle.oz_reader.proofs.Uniqueness.{one_program, not_both, refuses_err}
 use Rattle.oz_reader.proofs.reader.read_program.Goals as goal
-
-pub returns-clause-found : goal.returns-clause-found
-returns-clause-found c =
-    let h = rw c.in-Some.is at c.in_ok-tokens.ensures in
-    IfOk-weaker c.program_at.result _ _ (λ o e. some_accepts c.args.text.now c.in-Some.tokens.items o h.found (e ∙ ap program_at c.as_slice.ensures.value)) c.program_at.ensures
 
 pub returns-clause-only : goal.returns-clause-only
 returns-clause-only c =
-    let h = rw c.in-Some.is at c.in_ok-tokens.ensures in
-    IfOk-weaker c.program_at.result _ _ (λ o e. some_only c.args.text.now c.in-Some.tokens.items o h.only (e ∙ ap program_at c.as_slice.ensures.value)) c.program_at.ensures
+    IfOk-weaker c.read_text.result _ _ (λ p h q k. one_program c.one_reading.ensures c.parses_law.ensures c.args.text.now p q h k) c.read_text.ensures.accepted
 
-pub returns-clause-none : goal.returns-clause-none
-returns-clause-none c =
-    let h = rw c.in-Some.is at c.in_ok-tokens.ensures in
-    IfOk-weaker c.program_at.result _ _ (λ o e. none_refused c.args.text.now c.in-Some.tokens.items o h.only (e ∙ ap program_at c.as_slice.ensures.value)) c.program_at.ensures
+pub returns-clause-unrefused : goal.returns-clause-unrefused
+returns-clause-unrefused c =
+    IfOk-weaker c.read_text.result _ _ (λ p h f k. not_both c.one_reading.ensures c.parses_law.ensures c.args.text.now f p k h) c.read_text.ensures.accepted
 
-pub returns-clause-fewer : goal.returns-clause-fewer
-returns-clause-fewer c =
-    let h = rw c.in-Some.is at c.in_ok-tokens.ensures in
-    IfOk-weaker c.program_at.result _ _ (λ o e. some_fewer c.args.text.now c.in-Some.tokens.items o h.found (e ∙ ap program_at c.as_slice.ensures.value)) c.program_at.ensures
+pub returns-clause-refused : goal.returns-clause-refused
+returns-clause-refused c =
+    IfErr-weaker c.read_text.result _ _ (λ e h. refuses_err c.one_reading.ensures c.parses_law.ensures c.args.text.now e h) c.read_text.ensures.refused

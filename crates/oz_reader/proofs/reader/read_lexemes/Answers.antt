@@ -1,0 +1,84 @@
+use Rattle.std.proofs.Common.{◌≡◌, ◌<◌, ◌+◌, ℕ, List, [], take, length, slice_index_or, slice_get, Some, sym, ◌∙◌, subst, arith}
+use Rattle.std.proofs.lemmas.Option.{slice_get-get_or}
+use Rattle.oz_semantics.specs.Grammar.{Phrase, Derives}
+use Rattle.oz_semantics.specs.Refusals.{IsRefused}
+use Rattle.oz_semantics.specs.Tokens.{Whole}
+use Rattle.oz_semantics.specs.Wording.{tokens_in}
+use Rattle.oz_semantics.specs.declared.token.Lexeme.{Lexeme}
+use Rattle.oz_semantics.specs.declared.token.Sort.TheVariants as sort
+use Rattle.oz_syntax.specs.View.{view}
+use Rattle.reader_law.specs.Machine.{Stack, step, finish}
+use Rattle.oz_reader.specs.Reading.{Faults}
+use Rattle.oz_reader.specs.View.{stack_of}
+use Rattle.oz_reader.proofs.Progress.{Goes, goes_start, lexemes_are, words_next, words_all, deep_refused, syntax_refused, went, end_refused, all_derived, all_shallow, step_refused, value_refused, err_is}
+use Rattle.oz_reader.proofs.reader.read_lexemes.Goals as goal
+
+abbrev none : Lexeme
+none = record { sort = sort.Var; at = 0; len = 0 }
+
+there : (ls : List Lexeme) (n : ℕ) → n < length ls → slice_get ls n ≡ Some (slice_index_or ls n none)
+there ls n h = slice_get-get_or ls n none h
+
+pub loop-lexeme-init : goal.loop-lexeme-init
+loop-lexeme-init c = record {
+  words = sym c.in_ok-words.ensures;
+  goes = subst (λ (k : Stack). Goes [] 0 k) (sym c.in_ok-stack.ensures) goes_start;
+  shallow = omega arith;
+}
+
+pub token_of-requires : goal.token_of-requires
+token_of-requires c =
+    lexemes_are c.args.text.now 0 c.args.lexemes.now Whole c.loop-lexeme.lexeme-index (slice_index_or c.args.lexemes.now c.loop-lexeme.lexeme-index none) c.requires
+    (there c.args.lexemes.now c.loop-lexeme.lexeme-index (omega arith))
+
+pub depth_with-depth-requires : goal.depth_with-depth-requires
+depth_with-depth-requires c = c.loop-lexeme.invariant.shallow
+
+pub returns-then-depth-gt-DEPTH_LIMIT-clause-refused :
+    goal.returns-then-depth-gt-DEPTH_LIMIT-clause-refused
+returns-then-depth-gt-DEPTH_LIMIT-clause-refused c =
+    subst (Faults (IsRefused c.args.text.now)) (sym c.refusal.ensures)
+    (deep_refused c.begins_law.ensures c.args.text.now c.args.lexemes.now c.requires c.loop-lexeme.lexeme-index (slice_index_or c.args.lexemes.now c.loop-lexeme.lexeme-index none)
+    (there c.args.lexemes.now c.loop-lexeme.lexeme-index (omega arith)) c.loop-lexeme.words c.token_of.new.words c.in_ok-token.token c.loop-lexeme.invariant.words
+    c.in_ok-token.ensures.words c.in_ok-token.ensures.token c.loop-lexeme.depth (stack_of c.loop-lexeme.stack.items) c.loop-lexeme.invariant.goes (omega arith))
+
+pub returns-in_err-take_at-clause-refused : goal.returns-in_err-take_at-clause-refused
+returns-in_err-take_at-clause-refused c =
+    err_is c.from_residual-in_err-take_at.result c.in_err-take_at.field-0.0 (Faults (IsRefused c.args.text.now)) c.from_residual-in_err-take_at.ensures
+    (step_refused c.args.text.now _ c.in_err-take_at.field-0.0 c.take_at.new.stack.items (step c.in_ok-token.token (stack_of c.loop-lexeme.stack.items)) c.in_err-take_at.ensures
+    (syntax_refused c.begins_law.ensures c.args.text.now c.args.lexemes.now c.requires c.loop-lexeme.lexeme-index (slice_index_or c.args.lexemes.now c.loop-lexeme.lexeme-index none)
+    (there c.args.lexemes.now c.loop-lexeme.lexeme-index (omega arith)) c.loop-lexeme.words c.token_of.new.words c.in_ok-token.token c.loop-lexeme.invariant.words
+    c.in_ok-token.ensures.words c.in_ok-token.ensures.token c.loop-lexeme.depth (stack_of c.loop-lexeme.stack.items) c.loop-lexeme.invariant.goes (omega arith)))
+
+pub loop-lexeme-preserved : goal.loop-lexeme-preserved
+loop-lexeme-preserved c = record {
+  words =
+      words_next c.args.text.now c.args.lexemes.now c.loop-lexeme.lexeme-index (slice_index_or c.args.lexemes.now c.loop-lexeme.lexeme-index none) c.loop-lexeme.words c.token_of.new.words
+      (there c.args.lexemes.now c.loop-lexeme.lexeme-index (omega arith)) c.loop-lexeme.invariant.words c.in_ok-token.ensures.words;
+  goes =
+      subst (λ (d : ℕ). Goes (take (c.loop-lexeme.lexeme-index + 1) (tokens_in c.args.text.now c.args.lexemes.now)) d (stack_of c.take_at.new.stack.items)) (sym c.depth_with-depth.ensures)
+      (went c.begins_law.ensures c.args.text.now c.args.lexemes.now c.requires c.loop-lexeme.lexeme-index (slice_index_or c.args.lexemes.now c.loop-lexeme.lexeme-index none)
+      (there c.args.lexemes.now c.loop-lexeme.lexeme-index (omega arith)) c.loop-lexeme.words c.token_of.new.words c.in_ok-token.token c.loop-lexeme.invariant.words
+      c.in_ok-token.ensures.words c.in_ok-token.ensures.token c.loop-lexeme.depth (stack_of c.loop-lexeme.stack.items) c.loop-lexeme.invariant.goes
+      (stack_of c.take_at.new.stack.items) (omega arith) c.in_ok-take_at.ensures);
+  shallow = omega arith;
+}
+
+pub returns-in_err-phrase-clause-refused : goal.returns-in_err-phrase-clause-refused
+returns-in_err-phrase-clause-refused c =
+    err_is c.from_residual-in_err-phrase.result c.in_err-phrase.field-0.0 (Faults (IsRefused c.args.text.now)) c.from_residual-in_err-phrase.ensures
+    (value_refused c.args.text.now (length c.args.text.now) c.in_err-phrase.field-0.0 view (finish (stack_of c.loop-lexeme.stack.items)) c.in_err-phrase.ensures
+    (end_refused c.begins_law.ensures c.parses_law.ensures c.args.text.now c.args.lexemes.now c.requires c.loop-lexeme.lexeme-index c.loop-lexeme.depth (stack_of c.loop-lexeme.stack.items)
+    c.loop-lexeme.invariant.goes (omega arith)))
+
+pub returns-clause-read : goal.returns-clause-read
+returns-clause-read c = record {
+  words = c.new.ensures.words ∙ (sym c.loop-lexeme.invariant.words ∙ words_all c.args.text.now c.args.lexemes.now c.loop-lexeme.lexeme-index (omega arith));
+  derived =
+      subst (λ (p : Phrase). Derives (tokens_in c.args.text.now c.args.lexemes.now) p) (sym c.new.ensures.phrase)
+      (all_derived c.begins_law.ensures c.parses_law.ensures c.args.text.now c.args.lexemes.now c.requires c.loop-lexeme.lexeme-index c.loop-lexeme.depth (stack_of c.loop-lexeme.stack.items)
+      c.loop-lexeme.invariant.goes (omega arith) (view c.in_ok-phrase.phrase) c.in_ok-phrase.ensures);
+  shallow =
+      all_shallow c.begins_law.ensures c.parses_law.ensures c.args.text.now c.args.lexemes.now c.requires c.loop-lexeme.lexeme-index c.loop-lexeme.depth (stack_of c.loop-lexeme.stack.items)
+      c.loop-lexeme.invariant.goes (omega arith);
+}

@@ -1,0 +1,19 @@
+use Rattle.std.proofs.Common.{List, sym, ap, ◌∙◌, subst}
+use Rattle.oz_base.specs.Lists.{first}
+use Rattle.oz_semantics.specs.Grammar.{Phrase}
+use Rattle.oz_semantics.specs.Refusals.{IsRefused, faults, first_scope}
+use Rattle.oz_semantics.specs.declared.token.Lexeme.{Lexeme}
+use Rattle.oz_reader.specs.Reading.{Faults, IsRead, error_of}
+use Rattle.oz_reader.proofs.Progress.{err_is, lex_refused, names_refused}
+use Rattle.oz_reader.proofs.reader.read_text.Goals as goal
+
+pub returns-in_err-lexemes-clause-refused : goal.returns-in_err-lexemes-clause-refused
+returns-in_err-lexemes-clause-refused c =
+    err_is c.from_residual.result (error_of c.in_err-lexemes.field-0.0) (Faults (IsRefused c.args.text.now)) c.from_residual.ensures
+    (lex_refused c.args.text.now c.in_err-lexemes.field-0.0 c.in_err-lexemes.ensures.bad)
+
+pub returns-in-Some-clause-refused : goal.returns-in-Some-clause-refused
+returns-in-Some-clause-refused c =
+    names_refused c.args.text.now c.in_ok-lexemes.lexemes.items c.in_ok-program.program c.in-Some.fault c.in_ok-lexemes.ensures.found
+    (subst (λ (ls : List Lexeme). IsRead c.args.text.now ls c.in_ok-program.program) c.as_slice.ensures.value c.in_ok-program.ensures.read)
+    (ap (λ (p : Phrase). first (faults first_scope p)) (sym c.phrase.ensures) ∙ (sym c.in_ok-fault.ensures ∙ c.in-Some.is))
