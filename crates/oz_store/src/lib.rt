@@ -1,0 +1,10 @@
+//! The single-assignment store: which variables the tells that a space sees make equal, the values that they give, and whether
+//! they are consistent.
+#![tactic(auto)]
+
+mod closing;
+mod seen;
+mod values;
+
+pub use seen::{Seen, seen_by};
+pub use values::{is_like, literal_eq};
