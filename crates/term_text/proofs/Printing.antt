@@ -1,6 +1,6 @@
 -- Facts on printing that the functions' proofs cite.
-use Rattle.std.proofs.Common.{◌≡◌, ℕ, zero, suc, ◌+◌, ◌≤◌, Bool, cond, not, nat_lt, List, [], ◌∷◌, Option, Some, None, length, position, ap, refl, arith}
-use Rattle.std.specs.List.{prefix_len, position_or_len}
+use Rattle.std.proofs.Common.{◌≡◌, ℕ, zero, suc, ◌+◌, ◌≤◌, Bool, cond, not, List, [], ◌∷◌, Option, Some, None, length, position, ap, refl, arith}
+use Rattle.std.specs.List.{prefix_len}
 use Rattle.oz_base.specs.declared.names.Ident.{Ident}
 use Rattle.oz_semantics.specs.Store.{same, value_of}
 use Rattle.oz_semantics.specs.Texts.{Printed, printed, value_printed, tuple_or_up}

@@ -1,11 +1,10 @@
 -- What is left to print while some tuples are open.
-use Rattle.std.specs.Prelude.{ℕ, suc, ◌+◌, ◌≡◌, List, [], ◌∷◌, ◌++◌, Option, Some, None, map, codes}
+use Rattle.std.specs.Prelude.{ℕ, ◌+◌, ◌≡◌, List, [], ◌∷◌, ◌++◌, Option, Some, None, map, codes}
 use Rattle.oz_base.specs.declared.names.Ident.{Ident}
 use Rattle.oz_semantics.specs.Texts.{Printed, printed, spaced, count_nodes}
 use Rattle.oz_semantics.specs.declared.configuration.Tell.{Tell}
 use Rattle.term_text.specs.declared.printer.Open.{Open}
 use Rattle.term_text.specs.declared.printer.Term.{Term}
-use Rattle.term_text.specs.declared.printer.Printer.{Printer}
 
 -- the classes that are open
 abbrev pub variables_of : List Open → List Ident

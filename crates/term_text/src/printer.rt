@@ -3,7 +3,6 @@ ghost use Rattle.std.specs.Prelude.{◌≡◌, ℕ, ◌+◌, ◌<◌, ◌^◌, �
 ghost use Rattle.std.specs.Fmt.{decimal};
 ghost use Rattle.oz_semantics.specs.Store.{same, value_of};
 ghost use Rattle.oz_semantics.specs.Texts.{printed, value_printed, tuple_or_up, tuple_printed, literal_text};
-
 ghost use Rattle.oz_semantics.specs.declared.configuration.Tell.{Tell};
 ghost use Rattle.term_text.specs.Pending.{variables_of, beside, pending, with_term, after_node, after_move, Writes};
 
@@ -81,7 +80,8 @@ impl<'a> Printer<'a> {
     ) -> Result<Option<Term<'a>>, AllocError>
         ensures { IfOk result (λ next. (view : List Tell) → Writes 1 self.old.bytes.items (beside (tuple_printed (literal_text words.now tuple.now.label) (map (printed words.now view bound (variable.now ∷ variables_of self.old.open)) tuple.now.fields)) (pending words.now view self.old.open)) self.new.bytes.items (after_node words.now view self.new.open next)) }
     {
-        self.bytes.extend_from_slice(literal_text(words, tuple.label))?;
+        self.bytes
+            .extend_from_slice(literal_text(words, tuple.label))?;
         self.bytes.push(b'(')?;
         match tuple.fields.as_slice().split_first() {
             None => {

@@ -1,5 +1,3 @@
-use Rattle.std.proofs.Common.{◌∙◌, sym, ap, position}
-use Rattle.oz_semantics.specs.Store.{same}
 use Rattle.term_text.proofs.Printing.{position_variables}
 use Rattle.term_text.proofs.printer.Printer.place.Goals as goal
 
