@@ -1,10 +1,9 @@
 //! Printing a term node by node, with the tuples that are open on a stack of its own.
-ghost use Rattle.std.specs.Prelude.{◌≡◌, ℕ, ◌+◌, ◌<◌, ◌^◌, ◌∷◌, ◌++◌, List, [], length, map, position, reverse, codes, suc, option_copied, OnOk, IfOk, MatchOption};
+ghost use Rattle.std.specs.Prelude.{◌≡◌, ℕ, suc, ◌∷◌, ◌++◌, List, [], position, reverse, codes, OnOk, IfOk, MatchOption};
 ghost use Rattle.std.specs.Fmt.{decimal};
-ghost use Rattle.oz_semantics.specs.Store.{same, value_of};
-ghost use Rattle.oz_semantics.specs.Texts.{printed, value_printed, tuple_or_up, tuple_printed, literal_text};
+ghost use Rattle.oz_semantics.specs.Store.{same};
 ghost use Rattle.oz_semantics.specs.declared.configuration.Tell.{Tell};
-ghost use Rattle.term_text.specs.Pending.{variables_of, beside, pending, with_term, after_node, after_move, Writes};
+ghost use Rattle.term_text.specs.Pending.{variables_of, pending, with_term, with_fields, with_tuple, with_value, after_node, after_move, Prints};
 
 use crate::constants::{add_constant, add_decimal, literal_text};
 use oz_base::{Ident, Sequence, Stack};
@@ -78,7 +77,7 @@ impl<'a> Printer<'a> {
         tuple: &'a Tuple,
         bound: usize,
     ) -> Result<Option<Term<'a>>, AllocError>
-        ensures { IfOk result (λ next. (view : List Tell) → Writes 1 self.old.bytes.items (beside (tuple_printed (literal_text words.now tuple.now.label) (map (printed words.now view bound (variable.now ∷ variables_of self.old.open)) tuple.now.fields)) (pending words.now view self.old.open)) self.new.bytes.items (after_node words.now view self.new.open next)) }
+        ensures { IfOk result (λ next. (view : List Tell) → Prints 1 self.old (with_fields words.now view self.old.open bound variable.now tuple.now) self.new (after_node words.now view self.new.open next)) }
     {
         self.bytes
             .extend_from_slice(literal_text(words, tuple.label))?;
@@ -112,7 +111,7 @@ impl<'a> Printer<'a> {
         tuple: &'a Tuple,
         bound: usize,
     ) -> Result<Option<Term<'a>>, AllocError>
-        ensures { IfOk result (λ next. Writes 1 self.old.bytes.items (beside (tuple_or_up words.now (printed words.now seen.now bound (variable.now ∷ variables_of self.old.open)) tuple.now (position (same seen.now variable.now) (variables_of self.old.open))) (pending words.now seen.now self.old.open)) self.new.bytes.items (after_node words.now seen.now self.new.open next)) }
+        ensures { IfOk result (λ next. Prints 1 self.old (with_tuple words.now seen.now self.old.open bound variable.now tuple.now) self.new (after_node words.now seen.now self.new.open next)) }
     {
         match self.place(seen, variable) {
             None => self.open_tuple(words, variable, tuple, bound),
@@ -131,7 +130,7 @@ impl<'a> Printer<'a> {
         variable: &'a Ident,
         bound: usize,
     ) -> Result<Option<Term<'a>>, AllocError>
-        ensures { IfOk result (λ next. Writes 1 self.old.bytes.items (beside (value_printed words.now (printed words.now seen.now bound (variable.now ∷ variables_of self.old.open)) (position (same seen.now variable.now) (variables_of self.old.open)) (value_of seen.now variable.now)) (pending words.now seen.now self.old.open)) self.new.bytes.items (after_node words.now seen.now self.new.open next)) }
+        ensures { IfOk result (λ next. Prints 1 self.old (with_value words.now seen.now self.old.open bound variable.now) self.new (after_node words.now seen.now self.new.open next)) }
     {
         match seen.value(variable) {
             None => {
@@ -160,7 +159,7 @@ impl<'a> Printer<'a> {
         seen: &'a Seen,
         term: &Term<'a>,
     ) -> Result<Option<Term<'a>>, AllocError>
-        ensures { IfOk result (λ next. Writes 1 self.old.bytes.items (with_term words.now seen.now self.old.open term.now) self.new.bytes.items (after_node words.now seen.now self.new.open next)) }
+        ensures { IfOk result (λ next. Prints 1 self.old (with_term words.now seen.now self.old.open term.now) self.new (after_node words.now seen.now self.new.open next)) }
     {
         let Some(bound) = term.bound.checked_sub(1) else {
             return Ok(None);
@@ -170,7 +169,7 @@ impl<'a> Printer<'a> {
 
     // The next field of a tuple, which stays open; or its end.
     fn go_on(&mut self, innermost: Open<'a>) -> Result<Option<Term<'a>>, AllocError>
-        ensures written { IfOk result (λ next. (words : List (List ℕ)) (view : List Tell) → Writes 0 self.old.bytes.items (pending words view (innermost.entry ∷ self.old.open)) self.new.bytes.items (after_node words view self.new.open next)) }
+        ensures written { IfOk result (λ next. (words : List (List ℕ)) (view : List Tell) → Prints 0 self.old (pending words view (innermost.entry ∷ self.old.open)) self.new (after_node words view self.new.open next)) }
         ensures closed { IfOk result (λ next. MatchOption next (self.new.open ≡ self.old.open) (λ term. Unit {0})) }
     {
         match innermost.fields.split_first() {
@@ -196,7 +195,7 @@ impl<'a> Printer<'a> {
 
     // Closes the tuples that have no field left, up to one that has. There is none at the end of the text.
     fn next_term(&mut self) -> Result<Option<Term<'a>>, AllocError>
-        ensures { IfOk result (λ next. (words : List (List ℕ)) (view : List Tell) → Writes 0 self.old.bytes.items (pending words view self.old.open) self.new.bytes.items (after_move words view self.new.open next)) }
+        ensures { IfOk result (λ next. (words : List (List ℕ)) (view : List Tell) → Prints 0 self.old (pending words view self.old.open) self.new (after_move words view self.new.open next)) }
     {
         while let Some(innermost) = self.open.pop() {
             if let Some(term) = self.go_on(innermost)? {
@@ -214,7 +213,7 @@ impl<'a> Printer<'a> {
         seen: &'a Seen,
         term: &Term<'a>,
     ) -> Result<Option<Term<'a>>, AllocError>
-        ensures { IfOk result (λ next. Writes 1 self.old.bytes.items (with_term words.now seen.now self.old.open term.now) self.new.bytes.items (after_move words.now seen.now self.new.open next)) }
+        ensures { IfOk result (λ next. Prints 1 self.old (with_term words.now seen.now self.old.open term.now) self.new (after_move words.now seen.now self.new.open next)) }
     {
         match self.print(alloc, words, seen, term)? {
             Some(first) => Ok(Some(first)),
