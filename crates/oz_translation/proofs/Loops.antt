@@ -1,15 +1,15 @@
 -- One turn of a loop over phrases, on plain variables.
-use Rattle.std.proofs.Common.{◌≡◌, ℕ, ◌+◌, ◌<◌, ◌≤◌, List, [], ◌∷◌, ◌++◌, length, get_or, drop, append_assoc, ap, sym, ◌∙◌}
+use Rattle.std.proofs.Common.{◌≡◌, ℕ, ◌+◌, ◌<◌, ◌≤◌, List, [], ◌∷◌, ◌++◌, length, get_or, drop, append_assoc, ap, sym, ◌∙◌, arith}
 use Rattle.std.proofs.lemmas.List.{drop_more, drop_all, append-nil}
 use Rattle.oz_semantics.specs.Grammar.{nothing, more, of_list}
 use Rattle.oz_semantics.specs.Kernels.{Stmts, Bodies, numbers, numbers_each, count}
 use Rattle.oz_semantics.specs.Kernels as k
-use Rattle.oz_semantics.specs.Translation.{variable_of, name_or, next_after, valued, filled, unless_variable, behind, behind_each, translated, translated_each, alternatives, behind_statement, behind_statements, declared}
+use Rattle.oz_semantics.specs.Translation.{variable_of, name_or, next_after, valued, filled, unless_variable, behind, behind_each, translated, translated_each, alternatives, behind_statement, behind_statements, declared, or_skip}
 use Rattle.oz_semantics.specs.declared.kernel.Name.{Name}
 use Rattle.oz_syntax.specs.declared.phrase.Phrase.{Phrase as Tree}
 use Rattle.oz_syntax.specs.View.{view, views}
 use Rattle.oz_translation.specs.declared.output.Output.{Output}
-use Rattle.oz_translation.specs.Outputs.{with_all, with_inside, with_bodies}
+use Rattle.oz_translation.specs.Outputs.{with_all, with_inside, with_bodies, in_local, in_declarations}
 use Rattle.oz_translation.specs.Declares.{declares, first_time, seen_with}
 use Rattle.oz_translation.proofs.Writing.{with_nothing, with_both, no_bodies, bodies_both, behind_inside}
 use Rattle.oz_translation.proofs.Naming.{declared_more}
@@ -116,3 +116,14 @@ bodies_end o f ps i n le h = sym (no_bodies o) ∙ sym (ap (λ es. with_bodies o
 pub numbers_end : (bs f : List (List ℕ)) (ps : List Tree) (i m n : ℕ) → length ps ≤ i →
     bs ++ numbers_each m (alternatives n (of_list (views (drop i ps)))) ≡ f → bs ≡ f
 numbers_end bs f ps i m n le h = sym (append-nil bs) ∙ sym (ap (λ es. bs ++ numbers_each m (alternatives n es)) (none_left ps i le)) ∙ h
+
+-- Where there are some
+
+pub or_skip_some : (ps : List Tree) (ss : Stmts) → 1 ≤ length ps → or_skip (of_list (views ps)) ss ≡ ss
+or_skip_some [] ss h = absurd (omega (arith, h))
+or_skip_some (p ∷ ps) ss h = λ i. ss
+
+pub declarations_some : (outer : List ℕ) (ps : List Tree) (o : Output) → 1 ≤ length ps →
+    in_local outer (declared [] (of_list (views ps))) o ≡ in_declarations outer (of_list (views ps)) o
+declarations_some outer [] o h = absurd (omega (arith, h))
+declarations_some outer (p ∷ ps) o h = λ i. in_local outer (declared [] (of_list (views (p ∷ ps)))) o

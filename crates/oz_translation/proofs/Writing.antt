@@ -1,15 +1,16 @@
 -- What the output comes to, piece by piece.
 use Rattle.std.proofs.Common.{◌≡◌, ℕ, suc, ◌+◌, List, [], ◌∷◌, ◌++◌, length, length-append, append_assoc, refl, ap, sym, ◌∙◌}
 use Rattle.std.proofs.lemmas.List.{append-nil}
-use Rattle.oz_semantics.specs.Grammar.{Phrases, nothing, more}
+use Rattle.oz_semantics.specs.Grammar.{Phrase, Phrases, nothing, more}
 use Rattle.oz_semantics.specs.declared.token.Literal.{Literal}
 use Rattle.oz_semantics.specs.declared.kernel.Name.{Name}
 use Rattle.oz_semantics.specs.declared.kernel.Constant.{Constant}
+use Rattle.oz_semantics.specs.declared.kernel.Kernel.{Kernel}
 use Rattle.oz_semantics.specs.declared.kernel.Statement.{Statement}
 use Rattle.oz_semantics.specs.declared.kernel.Statement.TheVariants as numbered
 use Rattle.oz_semantics.specs.Kernels.{Stmt, Stmts, none, followed, Bodies, no_body, just, ◌⨾◌, inside, count, numbers, numbers_each, statement_at, listed_inside, listed_all, listed_bodies}
 use Rattle.oz_semantics.specs.Kernels as k
-use Rattle.oz_semantics.specs.Translation.{scoped, declaring, declared, tuple_or_label}
+use Rattle.oz_semantics.specs.Translation.{scoped, declaring, declared, tuple_or_label, translated, kernel_of}
 use Rattle.oz_translation.specs.declared.output.Output.{Output}
 use Rattle.oz_translation.specs.Outputs.{with_statement, with_all, with_inside, with_bodies, opened, joined, in_local, in_scope, in_declarations}
 use Rattle.oz_translation.proofs.Numbering.{numbers_both, listed_both, length-listed_all, length-listed_inside, length-listed_bodies}
@@ -75,24 +76,32 @@ tuple_written o x l (y ∷ ys) = with_plain o (tuple_or_label x l (y ∷ ys)) _ 
 
 -- Bodies inside statements
 
-pub inside_written : (o o1 o2 : Output) (ss : Stmts) → o1 ≡ opened o → o2 ≡ with_all o1 ss →
-    ◌≡◌ {A = Output} (record { statements = o2.statements; body = o.body }) (with_inside o ss)
+pub inside_written : (o o1 o2 o3 : Output) (outer : List ℕ) (ss : Stmts) → o1 ≡ opened o → outer ≡ o.body → o2 ≡ with_all o1 ss →
+    o3 ≡ record { statements = o2.statements; body = outer } → o3 ≡ with_inside o ss
 unfolding with_all with_inside
-inside_written o o1 o2 ss e1 e2 = ap (λ q. record { statements = q.statements; body = o.body }) (e2 ∙ ap (λ q. with_all q ss) e1)
+inside_written o o1 o2 o3 outer ss e1 eo e2 e3 =
+    e3 ∙ ap (λ q. record { statements = o2.statements; body = q }) eo
+    ∙ ap (λ q. record { statements = q.statements; body = o.body }) (e2 ∙ ap (λ q. with_all q ss) e1)
 
-pub inside_numbers : (o o1 o2 : Output) (ss : Stmts) → o1 ≡ opened o → o2 ≡ with_all o1 ss → o2.body ≡ numbers (length o.statements) ss
+pub inside_numbers : (o o1 o2 : Output) (b : List ℕ) (ss : Stmts) → o1 ≡ opened o → o2 ≡ with_all o1 ss → b ≡ o2.body → b ≡ numbers (length o.statements) ss
 unfolding with_all
-inside_numbers o o1 o2 ss e1 e2 = ap (λ q. q.body) (e2 ∙ ap (λ q. with_all q ss) e1)
+inside_numbers o o1 o2 b ss e1 e2 eb = eb ∙ ap (λ q. q.body) (e2 ∙ ap (λ q. with_all q ss) e1)
 
-pub procedure_written : (o : Output) (x : Name) (xs : List Name) (ss : Stmts) →
-    with_statement (with_inside o ss) (numbered.BindProcedure x xs (numbers (length o.statements) ss)) ≡ with_all o (just (k.bind_procedure x xs ss))
+pub procedure_written : (o o1 o2 : Output) (x : Name) (xs : List Name) (b : List ℕ) (ss : Stmts) →
+    o1 ≡ with_inside o ss → b ≡ numbers (length o.statements) ss → o2 ≡ with_statement o1 (numbered.BindProcedure x xs b) →
+    o2 ≡ with_all o (just (k.bind_procedure x xs ss))
 unfolding with_inside
-procedure_written o x xs ss = with_outer o (k.bind_procedure x xs ss)
+procedure_written o o1 o2 x xs b ss e1 eb e2 =
+    e2 ∙ ap (λ q. with_statement q (numbered.BindProcedure x xs b)) e1 ∙ ap (λ q. with_statement (with_inside o ss) (numbered.BindProcedure x xs q)) eb
+    ∙ with_outer o (k.bind_procedure x xs ss)
 
-pub choice_written : (o : Output) (bs : Bodies) →
-    with_statement (with_bodies o bs) (numbered.Choice (numbers_each (length o.statements) bs)) ≡ with_all o (just (k.choice bs))
+pub choice_written : (o o1 o2 : Output) (ns : List (List ℕ)) (bs : Bodies) →
+    o1 ≡ with_bodies o bs → ns ≡ numbers_each (length o.statements) bs → o2 ≡ with_statement o1 (numbered.Choice ns) →
+    o2 ≡ with_all o (just (k.choice bs))
 unfolding with_bodies
-choice_written o bs = with_outer o (k.choice bs)
+choice_written o o1 o2 ns bs e1 en e2 =
+    e2 ∙ ap (λ q. with_statement q (numbered.Choice ns)) e1 ∙ ap (λ q. with_statement (with_bodies o bs) (numbered.Choice q)) en
+    ∙ with_outer o (k.choice bs)
 
 pub no_bodies : (o : Output) → with_bodies o no_body ≡ o
 unfolding with_bodies
@@ -148,3 +157,14 @@ pub declarations_written : (o o1 o2 o3 o4 : Output) (outer : List ℕ) (ds : Phr
     o4 ≡ with_all o (declaring ds (a ⨾ b))
 declarations_written o o1 o2 o3 o4 outer ds a b e1 eo e2 e3 e4 =
     e4 ∙ ap (λ q. in_declarations q ds o3) eo ∙ ap (in_declarations o.body ds) (both_inside o o1 o2 o3 a b e1 e2 e3) ∙ declarations_closed o ds (a ⨾ b)
+
+-- A whole program
+
+pub kernel_written : (w w' : List (List ℕ)) (o o' : Output) (p : Phrase) (n : ℕ) →
+    w' ≡ w → o ≡ record { statements = []; body = [] } → n ≡ 1 → o' ≡ with_all o (translated n p) →
+    ◌≡◌ {A = Kernel} (record { words = w'; statements = o'.statements; body = o'.body }) (kernel_of (record { words = w; phrase = p }))
+unfolding with_all kernel_of
+kernel_written w w' o o' p n ew eo en e =
+    let all : o' ≡ with_all (record { statements = []; body = [] }) (translated 1 p) =
+    e ∙ ap (λ q. with_all q (translated n p)) eo ∙ ap (λ m. with_all (record { statements = []; body = [] }) (translated m p)) en in
+    λ i. record { words = ew i; statements = (all i).statements; body = (all i).body }

@@ -28,8 +28,7 @@ pub struct Writer {
 
 impl Writer {
     pub fn new(alloc: Global) -> Writer
-        ensures statements { result.output.statements ≡ [] }
-        ensures body { result.output.body ≡ [] }
+        ensures output { result.output ≡ record { statements = []; body = [] } }
         ensures next { result.numbers.next ≡ 1 }
     {
         Writer {

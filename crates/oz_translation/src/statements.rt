@@ -1,7 +1,7 @@
 //! The translation of statements, declarations and bodies.
 ghost use Rattle.std.specs.Prelude.{◌≡◌, length, Some, OnOk, IfOk};
 ghost use Rattle.oz_semantics.specs.Grammar.{choice, of_list};
-ghost use Rattle.oz_semantics.specs.Kernels.{numbers, numbers_each};
+ghost use Rattle.oz_semantics.specs.Kernels.{none, numbers, numbers_each};
 ghost use Rattle.oz_semantics.specs.Translation.{translated, translated_each, alternatives, behind_statement, behind_statements, or_skip, kernel_of};
 ghost use Rattle.oz_syntax.specs.View.{view, views};
 ghost use Rattle.oz_translation.specs.Declares.{parameters, bound};
@@ -125,8 +125,9 @@ impl Writer {
 
     /// Writes nothing; the identifiers that the phrase would take are used up.
     #[cycle(statements)]
+    #[tactic(auto, using(crate::proofs::Writing::with_nothing))]
     fn pass_over(&mut self, phrase: &Phrase) -> Result<(), AllocError>
-        ensures output { OnOk result (self.new.output ≡ self.old.output) }
+        ensures output { OnOk result (self.new.output ≡ with_all self.old.output none) }
         ensures next { OnOk result (self.new.numbers.next ≡ behind_statement self.old.numbers.next (view phrase.now)) }
     {
         let output = mem::replace(&mut self.output, Output::new(self.alloc));
@@ -148,7 +149,8 @@ impl Writer {
             [] => self.output.join(outer),
             [_, ..] => {
                 let names = declared(self.alloc, &mut self.declared, declarations)?;
-                self.output.close_local(outer, names)
+                self.output.close_local(outer, names)?;
+                Ok(())
             }
         }
     }
