@@ -2,8 +2,7 @@
 use Rattle.std.proofs.Common.{◌≡◌, ℕ, ◌+◌, ◌<◌, ◌≤◌, List, [], ◌∷◌, ◌++◌, length, get_or, drop, append_assoc, ap, sym, ◌∙◌, arith}
 use Rattle.std.proofs.lemmas.List.{drop_more, drop_all, append-nil}
 use Rattle.oz_semantics.specs.Grammar.{nothing, more, of_list}
-use Rattle.oz_semantics.specs.Kernels.{Stmts, Bodies, numbers, numbers_each, count}
-use Rattle.oz_semantics.specs.Kernels as k
+use Rattle.oz_semantics.specs.Kernels.{Stmts, numbers, numbers_each, count}
 use Rattle.oz_semantics.specs.Translation.{variable_of, name_or, next_after, valued, filled, unless_variable, behind, behind_each, translated, translated_each, alternatives, behind_statement, behind_statements, declared, or_skip}
 use Rattle.oz_semantics.specs.declared.kernel.Name.{Name}
 use Rattle.oz_syntax.specs.declared.phrase.Phrase.{Phrase as Tree}

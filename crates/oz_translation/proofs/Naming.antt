@@ -3,7 +3,7 @@ use Rattle.std.proofs.Common.{◌≡◌, ℕ, Bool, true, false, List, [], ◌�
 use Rattle.std.specs.Prelude.{if◌then◌else◌}
 use Rattle.oz_semantics.specs.Grammar.{Phrase, Phrases, nothing, more, var, proc}
 use Rattle.oz_semantics.specs.Kernels.{Stmts}
-use Rattle.oz_semantics.specs.Translation.{declared, once, is_among, proc_bound}
+use Rattle.oz_semantics.specs.Translation.{declared, is_among, proc_bound}
 use Rattle.oz_semantics.specs.declared.kernel.Name.{Name}
 use Rattle.oz_semantics.specs.declared.kernel.Name.TheVariants.{Word}
 use Rattle.oz_translation.specs.Declares.{declares, first_time, seen_with, head_name, parameters, bound}

@@ -1,6 +1,5 @@
 -- The numbers of statements behind other statements.
-use Rattle.std.proofs.Common.{◌≡◌, ℕ, suc, ◌+◌, arith, List, [], ◌∷◌, ◌++◌, length, length-append, append_assoc, refl, ap, sym, ◌∙◌}
-use Rattle.oz_semantics.specs.declared.kernel.Statement.{Statement}
+use Rattle.std.proofs.Common.{◌≡◌, ℕ, suc, ◌+◌, arith, ◌∷◌, ◌++◌, length, length-append, append_assoc, refl, ap, sym, ◌∙◌}
 use Rattle.oz_semantics.specs.Kernels.{Stmt, Stmts, none, followed, Bodies, no_body, ◌⨾◌, inside, count, count_bodies, numbers, statement_at, listed_inside, listed_all, listed_bodies}
 use Rattle.oz_semantics.specs.Kernels as k
 

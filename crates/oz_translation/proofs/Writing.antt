@@ -1,5 +1,5 @@
 -- What the output comes to, piece by piece.
-use Rattle.std.proofs.Common.{◌≡◌, ℕ, suc, ◌+◌, List, [], ◌∷◌, ◌++◌, length, length-append, append_assoc, refl, ap, sym, ◌∙◌}
+use Rattle.std.proofs.Common.{◌≡◌, ℕ, ◌+◌, List, [], ◌∷◌, ◌++◌, length, length-append, append_assoc, refl, ap, sym, ◌∙◌}
 use Rattle.std.proofs.lemmas.List.{append-nil}
 use Rattle.oz_semantics.specs.Grammar.{Phrase, Phrases, nothing, more}
 use Rattle.oz_semantics.specs.declared.token.Literal.{Literal}
@@ -13,7 +13,7 @@ use Rattle.oz_semantics.specs.Kernels as k
 use Rattle.oz_semantics.specs.Translation.{scoped, declaring, declared, tuple_or_label, translated, kernel_of}
 use Rattle.oz_translation.specs.declared.output.Output.{Output}
 use Rattle.oz_translation.specs.Outputs.{with_statement, with_all, with_inside, with_bodies, opened, joined, in_local, in_scope, in_declarations}
-use Rattle.oz_translation.proofs.Numbering.{numbers_both, listed_both, length-listed_all, length-listed_inside, length-listed_bodies}
+use Rattle.oz_translation.proofs.Numbering.{numbers_both, listed_both, length-listed_all, length-listed_inside}
 
 -- the same statements and the same body
 same : (s t : List Statement) (a b : List ℕ) → s ≡ t → a ≡ b →

@@ -1,11 +1,10 @@
-use Rattle.std.proofs.Common.{◌≡◌, ◌∙◌, ap, sym, rules}
+use Rattle.std.proofs.Common.{◌≡◌, ◌∙◌, ap}
 use Rattle.oz_semantics.specs.Grammar.{of_list}
-use Rattle.oz_semantics.specs.Kernels.{just, none}
-use Rattle.oz_semantics.specs.Translation.{names_of, behind_names, fresh_among, tuple_or_label, filled, valued}
-use Rattle.oz_syntax.specs.View.{view, views}
-use Rattle.oz_translation.specs.Outputs.{with_all}
+use Rattle.oz_semantics.specs.Kernels.{just}
+use Rattle.oz_semantics.specs.Translation.{names_of, behind_names, fresh_among, tuple_or_label, filled}
+use Rattle.oz_syntax.specs.View.{views}
 use Rattle.oz_translation.proofs.Loops.{fill_loop, fill_next, fill_end}
-use Rattle.oz_translation.proofs.Writing.{scope_written, with_nothing}
+use Rattle.oz_translation.proofs.Writing.{scope_written}
 use Rattle.oz_translation.proofs.expressions.Writer.+values.Goals as goal
 
 pub fill_each-parts-preserved : goal.fill_each-parts-preserved
