@@ -1,8 +1,8 @@
 //! The steps over what is open, the newest last. Each takes constant time.
 ghost use Rattle.std.specs.Prelude.{◌≡◌, ◌∷◌, ◌++◌, [], Some, None, true, false, IfSome, IfNone, IfOk, option_map};
-ghost use Rattle.oz_semantics.specs.Grammar.{is_var, of_list, var, equal, body};
+ghost use Rattle.oz_semantics.specs.Grammar.{is_var, equal};
 ghost use Rattle.oz_syntax.specs.View.{view, views};
-ghost use Rattle.reader_law.specs.Machine.{declaring, guard, bind, operand, add, add_statement, close, enter_body, enter, item, item_again, behind, next_field, next_part, next_head, open_head, whole, next, start, accepted_of, finish, is_some_item, block, have, right, fields, parts, head};
+ghost use Rattle.reader_law.specs.Machine.{declaring, guard, bind, operand, add, add_statement, close, enter, item, item_again, behind, next_field, next_part, next_head, open_head, whole, next, start, accepted_of, finish, is_some_item, block, have, right};
 ghost use Rattle.oz_reader.specs.View.{Steps, Gives, stack_of, opener_of, frame_of};
 
 use crate::error::StepError;
