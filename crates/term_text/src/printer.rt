@@ -30,14 +30,15 @@ pub struct Open<'a> {
 #[derive(Drop)]
 pub struct Printer<'a> {
     pub bytes: Vec<u8>,
-    pub open: Stack<Open<'a>>,
+    pub opened: Stack<Open<'a>>,
 }
 
 // How many tuples are open inside the one of this variable's class.
-fn place(open: &[Open], seen: &Seen, variable: &Ident) -> Option<usize>
-    ensures { result ≡ position (λ tuple. same seen.now variable.now tuple.variable.now) (reverse open.now) }
+fn place(tuples: &[Open], seen: &Seen, variable: &Ident) -> Option<usize>
+    ensures { result ≡ position (λ tuple. same seen.now variable.now tuple.variable.now) (reverse tuples.now) }
 {
-    open.iter()
+    tuples
+        .iter()
         .rev()
         .position(|tuple| seen.same(variable, tuple.variable))
 }
@@ -46,24 +47,24 @@ impl<'a> Printer<'a> {
     /// Nothing is printed yet. It takes no memory.
     pub fn new(alloc: Global) -> Printer<'a>
         ensures bytes { result.bytes.items ≡ [] }
-        ensures open { result.open ≡ [] }
+        ensures opened { result.opened ≡ [] }
     {
         Printer {
             bytes: Vec::new(alloc),
-            open: Stack::new(alloc),
+            opened: Stack::new(alloc),
         }
     }
 
     fn place(&self, seen: &Seen, variable: &Ident) -> Option<usize>
-        ensures { result ≡ position (same seen.now variable.now) (variables_of self.now.open) }
+        ensures { result ≡ position (same seen.now variable.now) (variables_of self.now.opened) }
     {
-        place(self.open.from_bottom(), seen, variable)
+        place(self.opened.from_bottom(), seen, variable)
     }
 
     // `^K`: the enclosing tuple itself is 1.
     fn print_up(&mut self, alloc: Global, place: usize) -> Result<(), AllocError>
         ensures bytes { OnOk result (self.new.bytes.items ≡ self.old.bytes.items ++ codes "^" ++ decimal (suc place)) }
-        ensures open { OnOk result (self.new.open ≡ self.old.open) }
+        ensures opened { OnOk result (self.new.opened ≡ self.old.opened) }
     {
         self.bytes.push(b'^')?;
         add_decimal(alloc, place as u128 + 1, &mut self.bytes)
@@ -77,7 +78,7 @@ impl<'a> Printer<'a> {
         tuple: &'a Tuple,
         bound: usize,
     ) -> Result<Option<Term<'a>>, AllocError>
-        ensures { IfOk result (λ next. (view : List Tell) → Prints 1 self.old (with_fields words.now view self.old.open bound variable.now tuple.now) self.new (after_node words.now view self.new.open next)) }
+        ensures { IfOk result (λ next. (view : List Tell) → Prints 1 self.old (with_fields words.now view self.old.opened bound variable.now tuple.now) self.new (after_node words.now view self.new.opened next)) }
     {
         self.bytes
             .extend_from_slice(literal_text(words, tuple.label))?;
@@ -88,7 +89,7 @@ impl<'a> Printer<'a> {
                 Ok(None)
             }
             Some((first, fields)) => {
-                self.open.push(Open {
+                self.opened.push(Open {
                     variable,
                     fields,
                     bound,
@@ -111,7 +112,7 @@ impl<'a> Printer<'a> {
         tuple: &'a Tuple,
         bound: usize,
     ) -> Result<Option<Term<'a>>, AllocError>
-        ensures { IfOk result (λ next. Prints 1 self.old (with_tuple words.now seen.now self.old.open bound variable.now tuple.now) self.new (after_node words.now seen.now self.new.open next)) }
+        ensures { IfOk result (λ next. Prints 1 self.old (with_tuple words.now seen.now self.old.opened bound variable.now tuple.now) self.new (after_node words.now seen.now self.new.opened next)) }
     {
         match self.place(seen, variable) {
             None => self.open_tuple(words, variable, tuple, bound),
@@ -130,7 +131,7 @@ impl<'a> Printer<'a> {
         variable: &'a Ident,
         bound: usize,
     ) -> Result<Option<Term<'a>>, AllocError>
-        ensures { IfOk result (λ next. Prints 1 self.old (with_value words.now seen.now self.old.open bound variable.now) self.new (after_node words.now seen.now self.new.open next)) }
+        ensures { IfOk result (λ next. Prints 1 self.old (with_value words.now seen.now self.old.opened bound variable.now) self.new (after_node words.now seen.now self.new.opened next)) }
     {
         match seen.value(variable) {
             None => {
@@ -159,7 +160,7 @@ impl<'a> Printer<'a> {
         seen: &'a Seen,
         term: &Term<'a>,
     ) -> Result<Option<Term<'a>>, AllocError>
-        ensures { IfOk result (λ next. Prints 1 self.old (with_term words.now seen.now self.old.open term.now) self.new (after_node words.now seen.now self.new.open next)) }
+        ensures { IfOk result (λ next. Prints 1 self.old (with_term words.now seen.now self.old.opened term.now) self.new (after_node words.now seen.now self.new.opened next)) }
     {
         let Some(bound) = term.bound.checked_sub(1) else {
             return Ok(None);
@@ -169,8 +170,8 @@ impl<'a> Printer<'a> {
 
     // The next field of a tuple, which stays open; or its end.
     fn go_on(&mut self, innermost: Open<'a>) -> Result<Option<Term<'a>>, AllocError>
-        ensures written { IfOk result (λ next. (words : List (List ℕ)) (view : List Tell) → Prints 0 self.old (pending words view (innermost.entry ∷ self.old.open)) self.new (after_node words view self.new.open next)) }
-        ensures closed { IfOk result (λ next. MatchOption next (self.new.open ≡ self.old.open) (λ term. Unit {0})) }
+        ensures written { IfOk result (λ next. (words : List (List ℕ)) (view : List Tell) → Prints 0 self.old (pending words view (innermost.entry ∷ self.old.opened)) self.new (after_node words view self.new.opened next)) }
+        ensures closed { IfOk result (λ next. MatchOption next (self.new.opened ≡ self.old.opened) (λ term. Unit {0})) }
     {
         match innermost.fields.split_first() {
             None => {
@@ -180,7 +181,7 @@ impl<'a> Printer<'a> {
             Some((field, fields)) => {
                 let bound = innermost.bound;
                 self.bytes.push(b' ')?;
-                self.open.push(Open {
+                self.opened.push(Open {
                     variable: innermost.variable,
                     fields,
                     bound,
@@ -195,9 +196,9 @@ impl<'a> Printer<'a> {
 
     // Closes the tuples that have no field left, up to one that has. There is none at the end of the text.
     fn next_term(&mut self) -> Result<Option<Term<'a>>, AllocError>
-        ensures { IfOk result (λ next. (words : List (List ℕ)) (view : List Tell) → Prints 0 self.old (pending words view self.old.open) self.new (after_move words view self.new.open next)) }
+        ensures { IfOk result (λ next. (words : List (List ℕ)) (view : List Tell) → Prints 0 self.old (pending words view self.old.opened) self.new (after_move words view self.new.opened next)) }
     {
-        while let Some(innermost) = self.open.pop() {
+        while let Some(innermost) = self.opened.pop() {
             if let Some(term) = self.go_on(innermost)? {
                 return Ok(Some(term));
             }
@@ -213,7 +214,7 @@ impl<'a> Printer<'a> {
         seen: &'a Seen,
         term: &Term<'a>,
     ) -> Result<Option<Term<'a>>, AllocError>
-        ensures { IfOk result (λ next. Prints 1 self.old (with_term words.now seen.now self.old.open term.now) self.new (after_move words.now seen.now self.new.open next)) }
+        ensures { IfOk result (λ next. Prints 1 self.old (with_term words.now seen.now self.old.opened term.now) self.new (after_move words.now seen.now self.new.opened next)) }
     {
         match self.print(alloc, words, seen, term)? {
             Some(first) => Ok(Some(first)),

@@ -6,5 +6,5 @@ use Rattle.term_text.proofs.terms.term_text.Goals as goal
 -- the term that comes next has a node at least, for which there is no fuel
 pub returns : goal.returns
 returns c =
-    let more = term_node c.args.words.now c.args.seen.now c.loop-nodes.term.bound (variables_of c.loop-nodes.printer.open) c.loop-nodes.term.variable.now in
+    let more = term_node c.args.words.now c.args.seen.now c.loop-nodes.term.bound (variables_of c.loop-nodes.printer.opened) c.loop-nodes.term.variable.now in
     omega (arith, more, c.loop-nodes.invariant.1)

@@ -3,4 +3,4 @@ use Rattle.term_text.specs.Pending.{with_term, MakesUp}
 use Rattle.term_text.proofs.terms.term_text.Given as goal
 
 abbrev pub invariant-loop-nodes : goal.invariant-loop-nodes
-invariant-loop-nodes l = MakesUp l.nodes l.printer (with_term l.words l.seen l.printer.open l.term) (term_text l.words l.seen l.variable)
+invariant-loop-nodes l = MakesUp l.nodes l.printer (with_term l.words l.seen l.printer.opened l.term) (term_text l.words l.seen l.variable)

@@ -6,7 +6,7 @@ use Rattle.term_text.proofs.printer.Printer.next_term.Given as goal
 abbrev pub invariant-loop-innermost : goal.invariant-loop-innermost
 invariant-loop-innermost l =
     (words : List (List ℕ)) (view : List Tell)
-    → Prints 0 l.initial.self (pending words view l.initial.self.open) l.self (pending words view l.self.open)
+    → Prints 0 l.initial.self (pending words view l.initial.self.opened) l.self (pending words view l.self.opened)
 
 abbrev pub decreases-loop-innermost : goal.decreases-loop-innermost
-decreases-loop-innermost l = length l.self.open
+decreases-loop-innermost l = length l.self.opened

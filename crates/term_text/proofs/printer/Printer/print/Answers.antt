@@ -6,9 +6,9 @@ use Rattle.term_text.proofs.printer.Printer.print.Goals as goal
 pub returns-in_default : goal.returns-in_default
 returns-in_default c =
     let e : c.args.term.now.bound ≡ 0 = omega arith in
-    rw (printed_zero c.args.words.now c.args.seen.now c.args.term.now.bound (variables_of c.args.self.now.open) c.args.term.now.variable.now e) (refl, refl)
+    rw (printed_zero c.args.words.now c.args.seen.now c.args.term.now.bound (variables_of c.args.self.now.opened) c.args.term.now.variable.now e) (refl, refl)
 
 pub returns : goal.returns
 returns c =
     let e : c.args.term.now.bound ≡ suc c.in-Some.bound = omega arith in
-    rw (printed_suc c.args.words.now c.args.seen.now c.args.term.now.bound c.in-Some.bound (variables_of c.args.self.now.open) c.args.term.now.variable.now e) c.print_value.ensures
+    rw (printed_suc c.args.words.now c.args.seen.now c.args.term.now.bound c.in-Some.bound (variables_of c.args.self.now.opened) c.args.term.now.variable.now e) c.print_value.ensures
