@@ -1,10 +1,10 @@
 //! The translation of expressions, of equations and of calls.
 ghost use Rattle.std.specs.Prelude.{◌≡◌, suc, [], ◌∷◌, OnOk};
 ghost use Rattle.oz_semantics.specs.Grammar.{tuple, of_list};
+ghost use Rattle.oz_semantics.specs.Grammar as g;
 ghost use Rattle.oz_semantics.specs.Kernels.{just, ◌⨾◌};
 ghost use Rattle.oz_semantics.specs.Kernels as k;
 ghost use Rattle.oz_semantics.specs.Translation.{variable_of, behind_names, behind, behind_each, unless_variable, valued, filled, equated, behind_equated, translated, behind_statement};
-ghost use Rattle.oz_semantics.specs.Grammar as g;
 ghost use Rattle.oz_semantics.specs.declared.kernel.Name.TheVariants.{Fresh};
 ghost use Rattle.oz_syntax.specs.View.{view, views};
 ghost use Rattle.oz_translation.specs.Outputs.{with_all};

@@ -182,7 +182,8 @@ impl Writer {
     }
 }
 
-/// The kernel of a program: its words, its statements numbered, and its body. An error is want of memory.
+/// The kernel of a program: its words, its statements numbered, and its body. An error is want of memory, or of numbers: 2^32
+/// statements have one each, and so have 2^32 - 2 identifiers that the translation makes.
 #[tactic(auto, unfolding(oz_semantics::specs::Translation::kernel_of))]
 pub fn translate(alloc: Global, words: &Words, phrase: &Phrase) -> Result<Kernel, AllocError>
     ensures { IfOk result (λ kernel. kernel ≡ kernel_of (record { words = words.now; phrase = view phrase.now })) }
