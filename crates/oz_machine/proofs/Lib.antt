@@ -1,8 +1,8 @@
 mod Firsts
 mod Edits
-mod Views
+mod Sights
 mod Readies
+mod PlanLaws
 mod StateLaws
-mod Makes
 mod RunLaws
 mod TurnLaws
