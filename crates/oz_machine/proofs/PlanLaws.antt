@@ -1,6 +1,7 @@
 -- What the moves of statements stand for, at a place in a layer.
 use Rattle.std.proofs.Common.{◌≡◌, ℕ, ◌==◌, Bool, true, false, if◌then◌else◌, List, [], ◌∷◌, ◌++◌, map, length, Option, Some, None, sym, ap, ap₂, ◌∙◌, refl}
 use Rattle.std.specs.List.{range_with_len}
+use Rattle.std.proofs.lemmas.List.FromFn.{length-map-range_with_len}
 use Rattle.oz_base.specs.declared.names.Ident.{Ident}
 use Rattle.oz_semantics.specs.Names.{named}
 use Rattle.oz_semantics.specs.Store.{value_of, is_consistent}
@@ -41,7 +42,7 @@ pub calls_in : (view : List Tell) (p : Place) → p.view ≡ view → (x : Ident
 calls_in view p e x arguments = ap (λ (v : List Tell). call_effect p (value_of v x) arguments) e
 
 pub length_fresh : (l : Layer) (n : ℕ) → length (fresh_variables l n) ≡ n
-length_fresh l n = length-map (named l.space) (range_with_len l.next.variable n) ∙ length-range_with_len l.next.variable n
+length_fresh l n = length-map-range_with_len (named l.space) l.next.variable n
 
 -- Refusals
 

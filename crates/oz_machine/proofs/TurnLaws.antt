@@ -1,14 +1,16 @@
 -- How the parts of a step make up the turn.
 use Rattle.std.proofs.Common.{◌≡◌, ℕ, ◌==◌, Bool, true, false, cond, List, [], ◌∷◌, Option, Some, None, slice_set, refl, sym, subst, ap, ap₂, ◌∙◌}
 use Rattle.oz_base.specs.declared.names.Ident.{Ident}
-use Rattle.oz_semantics.specs.Configurations.{view, is_of, thread_at, in_layer, in_thread, with_frames, without_gone}
+use Rattle.oz_semantics.specs.Configurations.{ending, view, is_of, thread_at, in_layer, in_thread, with_frames, without_gone}
 use Rattle.oz_semantics.specs.Statements.{Place, Effect, Becomes, Raises, code_effect}
-use Rattle.oz_semantics.specs.Schedule.{settled, raised, after_effect, place_of, stepped_thread, stepped_layer, stepped, frames_in}
+use Rattle.oz_semantics.specs.Names.{is_top}
+use Rattle.oz_semantics.specs.Schedule.{status_by, settled, raised, after_effect, place_of, stepped_thread, stepped_layer, stepped, frames_in}
 use Rattle.oz_semantics.specs.Runs.{left_by}
 use Rattle.oz_semantics.specs.declared.kernel.Statement.{Statement}
 use Rattle.oz_semantics.specs.declared.configuration.Frame.{Frame}
 use Rattle.oz_semantics.specs.declared.configuration.Thread.{Thread}
 use Rattle.oz_semantics.specs.declared.configuration.Tell.{Tell}
+use Rattle.oz_semantics.specs.declared.configuration.Status.{Status}
 use Rattle.oz_semantics.specs.declared.configuration.Layer.{Layer}
 use Rattle.oz_semantics.specs.declared.configuration.Configuration.{Configuration}
 use Rattle.oz_semantics.specs.declared.outcome.Raise.{Raise}
@@ -92,3 +94,17 @@ plan_as st v v' l l' n o o' h e k m =
 -- and its refusal
 pub refuses_as : (v v' : List Tell) (m : Move) (o o' : Option Raise) → Refuses v m o → v ≡ v' → o ≡ o' → Refuses v' m o'
 refuses_as v v' m o o' h e k = subst (λ (p : Option Raise). Refuses v' m p) k (subst (λ (xs : List Tell). Refuses xs m o) e h)
+
+-- what follows an edit of a configuration that is known by equations
+pub opened : (st st' : List Statement) (ls ls' : List Layer) (q q' : List Ident) (d : Configuration) → left_by (settled st None 0 (record { layers = ls; queue = q })) ≡ d
+    → st ≡ st' → ls ≡ ls' → q ≡ q' → d ≡ left_by (settled st' None 0 (record { layers = ls'; queue = q' }))
+opened st st' ls ls' q q' d h e k m =
+    sym h ∙ ap (λ (s : List Statement). left_by (settled s None 0 (record { layers = ls; queue = q }))) e
+    ∙ ap₂ (λ (l : List Layer) (r : List Ident). left_by (settled st' None 0 (record { layers = l; queue = r }))) k m
+
+-- an exception below the top ends its space
+pub raised_below : (st : List Statement) (id : Ident) (raise : Raise) (c : Configuration) (layers : List Layer) (s : Status) → is_top id.space ≡ false
+    → layers ≡ ending id.space s c.layers → s ≡ status_by raise → settled st (Some id) 1 (record { layers = layers; queue = c.queue }) ≡ raised st id raise c
+raised_below st id raise c layers s below e k =
+    let ends : raised st id raise c ≡ settled st (Some id) 1 (record c { layers = ending id.space (status_by raise) c.layers }) = rw below refl in
+    ap (λ (ls : List Layer). settled st (Some id) 1 (record { layers = ls; queue = c.queue })) (e ∙ ap (λ (t : Status). ending id.space t c.layers) k) ∙ sym ends

@@ -261,8 +261,12 @@ fn run(
         if left == 0 {
             return Ok(Ran::OutOfFuel);
         }
-        let stepped = step(alloc, statements, configuration, &mut views)?;
-        if let Stepped::TopEnded { raise, .. } = stepped {
+        if let Stepped::TopEnded { raise, .. } = step(
+            alloc,
+            statements,
+            configuration,
+            &mut views,
+        )? {
             let steps = fuel - left + 1;
             return Ok(Ran::TopEnded { raise, steps });
         }

@@ -10,8 +10,8 @@ use crate::environments::{bound, extended, nowhere};
 use crate::moves::Move;
 use oz_base::{Copies, Ident, Sequence};
 use oz_semantics::{
-    Code, Constant, Environment, Frame, Layer, Literal, Name, Procedure, Raise, Statement,
-    Tell, Tuple, Value,
+    Code, Constant, Environment, Frame, Layer, Literal, Name, Procedure, Raise, Statement, Tell,
+    Tuple, Value,
 };
 use oz_store::Seen;
 use std::alloc::{AllocError, Global};
@@ -74,7 +74,12 @@ fn plan_local(
 {
     let fresh = counted(names)?;
     let variables = fresh_variables(alloc, layer, fresh)?;
-    let environment = extended(alloc, environment.get(), names.as_slice(), variables.as_slice())?;
+    let environment = extended(
+        alloc,
+        environment.get(),
+        names.as_slice(),
+        variables.as_slice(),
+    )?;
     let body = body.copied(alloc)?;
     Ok(Move::Opens {
         fresh,
@@ -251,12 +256,8 @@ fn plan_statement(
     match statement {
         Statement::Skip | Statement::Choice { .. } => Ok(Move::Stays),
         Statement::Fail => Ok(Move::Fails(Raise::FailureFail)),
-        Statement::Local { names, body } => {
-            plan_local(alloc, layer, environment, names, body)
-        }
-        Statement::Equate { left, right } => {
-            plan_equate(alloc, environment, *left, *right)
-        }
+        Statement::Local { names, body } => { plan_local(alloc, layer, environment, names, body) }
+        Statement::Equate { left, right } => { plan_equate(alloc, environment, *left, *right) }
         Statement::Bind { name, value } => plan_bind(alloc, environment, *name, *value),
         Statement::BindTuple {
             name,

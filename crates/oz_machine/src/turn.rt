@@ -158,7 +158,6 @@ fn step_of(
 }
 
 /// One turn: the head of the queue makes one step. The views are those of the layers, before and after it.
-#[tactic(auto, using(crate::proofs::RunLaws::turn_costs))]
 pub fn step(
     alloc: Global,
     statements: &[Statement],
