@@ -1,6 +1,5 @@
+pub mod SameLaws
+pub mod AlikeLaws
 mod BoundLaws
-pub mod Budget
-mod LeafLaws
 mod StoreLaws
-mod Tops
 pub mod Trees

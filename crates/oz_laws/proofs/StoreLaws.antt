@@ -1,71 +1,45 @@
--- The tests of the store agree with its definitions.
-use Rattle.std.proofs.Common.{◌≡◌, ◌==◌, ◌&&◌, ℕ, zero, suc, Bool, true, false, if◌then◌else◌, List, [], ◌∷◌, Contains, Option, Some, None, refl, sym, ap, subst, arith, ◌∙◌}
+-- The test of consistency agrees with its definition.
+use Rattle.std.proofs.Common.{◌≡◌, ◌&&◌, zero, suc, Bool, true, false, if◌then◌else◌, List, [], ◌∷◌, Contains, Option, Some, None, refl, sym, ap, subst, arith, ◌∙◌}
 use Rattle.std.specs.List.{list_all}
-use Rattle.std.proofs.lemmas.Bool.Decides.{nat_tests}
-use Rattle.oz_base.specs.Lists.{list_eq, given_or, first_given, holds_of}
-use Rattle.oz_base.specs.ListLaws.{list_eq-equivalence, list_eq-decides}
-use Rattle.oz_base.specs.Names.{ident_eq}
+use Rattle.oz_base.specs.Lists.{given_or, first_given, holds_of}
 use Rattle.oz_base.specs.declared.names.Ident.{Ident}
 use Rattle.oz_semantics.specs.Values.{is_like}
-use Rattle.oz_semantics.specs.Store.{Same, itself, reversed, joined, IsConsistent, same, value_given, value_of, fits, TestsSame, TestsConsistent}
+use Rattle.oz_semantics.specs.Store.{Same, itself, reversed, joined, IsConsistent, same, value_given, value_of, fits, TestsConsistent}
 use Rattle.oz_semantics.specs.declared.configuration.Value.{Value}
-use Rattle.oz_semantics.specs.declared.configuration.Value.TheVariants.{Atom, Procedure}
 use Rattle.oz_semantics.specs.declared.configuration.Tell.{Tell}
-use Rattle.oz_semantics.specs.declared.configuration.Tell.TheVariants.{Is}
+use Rattle.oz_semantics.specs.declared.configuration.Tell.TheVariants.{Equal, Is}
+use Rattle.oz_laws.proofs.SameLaws.{tests_same}
+use Rattle.oz_laws.proofs.AlikeLaws.{alike-sym, alike-trans}
 
 both : (a b : Bool) → (a && b) ≡ true → (a ≡ true) × (b ≡ true)
 both true b e = (refl, e)
 both false b e = cc
 
--- Names
+-- One class has one value
 
-number_equal : (m n : ℕ) → (m == n) ≡ true → m ≡ n
-number_equal m n e = grind (arith, nat_tests, e)
+same_row : (ts : List Tell) (x y z : Ident) → Same ts x y → same ts z x ≡ same ts z y
+same_row ts x y z s = by (same ts z x) (same ts z y) refl refl
+  where
+    by : (a b : Bool) → same ts z x ≡ a → same ts z y ≡ b → a ≡ b
+    by true true e f = refl
+    by false false e f = refl
+    by true false e f = sym ((tests_same ts z y).1 (joined ((tests_same ts z x).0 e) s)) ∙ f
+    by false true e f = sym e ∙ (tests_same ts z x).1 (joined ((tests_same ts z y).0 f) (reversed s))
 
-number_itself : (n : ℕ) → (n == n) ≡ true
-number_itself n = grind (arith, nat_tests)
+given_row : (ts : List Tell) (x y : Ident) → Same ts x y → (t : Tell) → value_given (λ z. same ts z x) t ≡ value_given (λ z. same ts z y) t
+given_row ts x y s (Is z w) = ap (λ (b : Bool). if b then Some w else None) (same_row ts x y z s)
+given_row ts x y s (Equal a b) = refl
 
-ident_equal : (x y : Ident) → ident_eq x y ≡ true → x ≡ y
-ident_equal x y e =
-    let parts = both (list_eq x.space y.space) (x.number == y.number) e in
-    let space : x.space ≡ y.space = (list_eq-decides x.space y.space).0 parts.0 in
-    let number : x.number ≡ y.number = number_equal x.number y.number parts.1 in
-    λ i. record { space = space i; number = number i }
+first_same : {A B : Type 0} (f g : A → Option B) → ((x : A) → f x ≡ g x) → (xs : List A) → first_given f xs ≡ first_given g xs
+first_same f g h [] = refl
+first_same f g h (x ∷ xs) = ap (λ o. given_or o (first_given f xs)) (h x) ∙ ap (given_or (g x)) (first_same f g h xs)
 
-ident_itself : (x : Ident) → ident_eq x x ≡ true
-ident_itself x = rw (list_eq-equivalence.refl x.space, number_itself x.number) refl
-
--- Equality of variables
-
-same_equal : (ts : List Tell) (x y : Ident) → Same ts x y → x ≡ y
-same_equal ts x y itself = refl
-same_equal ts x y (reversed h) = sym (same_equal ts y x h)
-same_equal ts x y (joined {y = z} h k) = same_equal ts x z h ∙ same_equal ts z y k
-
-pub tests_same : TestsSame
-tests_same ts x y = (
-  λ e. subst (Same ts x) (ident_equal x y e) itself,
-  λ h. subst (λ z. ident_eq x z ≡ true) (same_equal ts x y h) (ident_itself x),
-)
-
--- Values that are alike
-
-like_itself : (v : Value) → is_like v v ≡ true
-like_itself (Atom a) = number_itself a
-like_itself (Procedure p) = ident_itself p.name
-
-like_joined : (u v w : Value) → is_like v u ≡ true → is_like w u ≡ true → is_like v w ≡ true
-like_joined (Atom a) (Atom b) (Atom c) e f = grind (arith, nat_tests, e, f)
-like_joined (Procedure p) (Procedure q) (Procedure r) e f =
-    subst (λ z. ident_eq q.name z ≡ true) (sym (ident_equal r.name p.name f)) e
-like_joined (Atom a) (Atom b) (Procedure r) e f = cc
-like_joined (Atom a) (Procedure q) w e f = cc
-like_joined (Procedure p) (Procedure q) (Atom c) e f = cc
-like_joined (Procedure p) (Atom b) w e f = cc
+value_row : (ts : List Tell) (x y : Ident) → Same ts x y → value_of ts x ≡ value_of ts y
+value_row ts x y s = first_same (value_given (λ z. same ts z x)) (value_given (λ z. same ts z y)) (given_row ts x y s) ts
 
 both_like : (o : Option Value) (v w : Value) → holds_of (is_like v) o ≡ true → holds_of (is_like w) o ≡ true → is_like v w ≡ true
 both_like None v w e f = cc
-both_like (Some u) v w e f = like_joined u v w e f
+both_like (Some u) v w e f = alike-trans v u w e (alike-sym w u f)
 
 -- Members of lists
 
@@ -102,6 +76,7 @@ given_by f (s ∷ ts) u e = by (f s) refl e (given_by f ts u)
     by (Some w) q e rest = (s, (0, omega arith, refl), q ∙ e)
 
 likened : (ts : List Tell) → IsConsistent ts → (x : Ident) (v u : Value) (t : Tell) → Contains ts (Is x v) → Contains ts t → value_given (λ y. same ts y x) t ≡ Some u → is_like v u ≡ true
+likened ts h x v u (Equal a b) c d e = cc
 likened ts h x v u (Is y w) c d e = by (same ts y x) refl e
   where
     by : (b : Bool) → same ts y x ≡ b → (if b then Some w else None) ≡ Some u → is_like v u ≡ true
@@ -109,8 +84,9 @@ likened ts h x v u (Is y w) c d e = by (same ts y x) refl e
     by false k q = cc
 
 fits_itself : (ts : List Tell) → IsConsistent ts → (t : Tell) → Contains ts t → fits ts t ≡ true
+fits_itself ts h (Equal a b) c = refl
 fits_itself ts h (Is x v) c =
-    let given = given_some (value_given (λ y. same ts y x)) ts (Is x v) v c (ap (λ b. if b then Some v else None) (ident_itself x)) in
+    let given = given_some (value_given (λ y. same ts y x)) ts (Is x v) v c (ap (λ (b : Bool). if b then Some v else None) ((tests_same ts x x).1 itself)) in
     let told = given_by (value_given (λ y. same ts y x)) ts given.0 given.1 in
     ap (holds_of (is_like v)) given.1 ∙ likened ts h x v given.0 told.0 c told.1 told.2
 
@@ -120,7 +96,7 @@ tests_consistent ts = (
     agree = λ x y v w s c d.
         let f : holds_of (is_like v) (value_of ts x) ≡ true = all_pass (fits ts) ts (Is x v) e c in
         let g : holds_of (is_like w) (value_of ts y) ≡ true = all_pass (fits ts) ts (Is y w) e d in
-        both_like (value_of ts x) v w f (subst (λ z. holds_of (is_like w) (value_of ts z) ≡ true) (sym (same_equal ts x y s)) g);
+        both_like (value_of ts x) v w f (subst (λ o. holds_of (is_like w) o ≡ true) (sym (value_row ts x y s)) g);
   },
   λ h. passes_all (fits ts) ts (fits_itself ts h),
 )

@@ -93,7 +93,16 @@ pub record Spells (words : List Word) (c : Command) : Type 0 where
   pub distinct : are_distinct given ≡ true
   pub meant : command_by verb given ≡ c
 
+-- the words spell no command
+abbrev pub IsUsage : List Word → Type 0
+IsUsage words = (c : Command) → Spells words c → ⊥
+
+-- the words spell `all` with this budget
+pub record AsksAll (words : List Word) (budget : ℕ) : Type 0 where
+  pub workers : ℕ
+  pub spelled : Spells words (command.All workers budget)
+
 -- the words spell this command, or none
 abbrev pub IsSpelled : List Word → Option Command → Type 0
-IsSpelled words None = (c : Command) → Spells words c → ⊥
+IsSpelled words None = IsUsage words
 IsSpelled words (Some c) = Spells words c

@@ -5,17 +5,16 @@ use Rattle.oz_semantics.specs.Texts.{Printed, raise_text}
 use Rattle.oz_semantics.specs.Runs.{Ran, Ended, TopRaised, Over, run, opening}
 use Rattle.oz_semantics.specs.Search.{Found, depth_first, has_script, script_variable, search_space, with_root}
 use Rattle.oz_semantics.specs.Refusals.{Program, Accepts, IsRefused}
-use Rattle.oz_semantics.specs.Commands.{Spells}
+use Rattle.oz_semantics.specs.Commands.{IsUsage, AsksAll}
 use Rattle.oz_semantics.specs.Translation.{kernel_of}
 use Rattle.oz_semantics.specs.declared.kernel.Kernel.{Kernel}
+use Rattle.oz_semantics.specs.declared.configuration.Configuration.{Configuration}
 use Rattle.oz_semantics.specs.declared.outcome.State.{State}
 use Rattle.oz_semantics.specs.declared.outcome.State.TheVariants as states
 use Rattle.oz_semantics.specs.declared.outcome.Leaf.{Leaf}
 use Rattle.oz_semantics.specs.declared.outcome.RefusalKind.{RefusalKind}
 use Rattle.oz_semantics.specs.declared.outcome.RefusalKind.TheVariants.{Byte, Deep, Syntax, Unbound, Linear}
 use Rattle.oz_semantics.specs.declared.outcome.Fault.{Fault}
-use Rattle.oz_semantics.specs.declared.command.Command.TheVariants as command
-use Rattle.oz_semantics.specs.declared.command.Command.{Command}
 use Rattle.oz_semantics.specs.declared.outcome.Cause.{Cause}
 use Rattle.oz_semantics.specs.declared.outcome.Cause.TheVariants as causes
 
@@ -96,6 +95,16 @@ answer_of_top k budget (Ended c left) =
 unfoldable pub answer_to : Kernel → ℕ → Answer
 answer_to k budget = answer_of_top k budget (run k.statements [] (opening k) budget)
 
+-- The top of a kernel becomes quiescent with a script, and the search of its tree finds this with what is left of the budget.
+pub record Searches (k : Kernel) (budget : ℕ) (found : Found) : Type 0 where
+  pub top : Configuration
+  pub left : ℕ
+  pub ended : run k.statements [] (opening k) budget ≡ Ended top left
+  pub script : has_script top ≡ true
+  pub searched : depth_first k (search_space top) (with_root k.statements script_variable top) left ≡ found
+
+-- Texts
+
 -- a text has at most so many bytes
 abbrev pub text_limit : ℕ
 text_limit = 1048576
@@ -124,8 +133,8 @@ pub record IsTextReply (bytes : List ℕ) (budget : ℕ) (answer : Answer) : Typ
 
 -- What the program answers to its words, where the source has these bytes: a cause, and what is written.
 pub record IsReply (words : List (List ℕ)) (bytes : List ℕ) (answer : Answer) : Type 0 where
-  pub usage : ((c : Command) → Spells words c → ⊥) → answer ≡ (causes.Usage, usage_reply)
-  pub all : (workers budget : ℕ) → Spells words (command.All workers budget) → IsTextReply bytes budget answer
+  pub usage : IsUsage words → answer ≡ (causes.Usage, usage_reply)
+  pub all : (budget : ℕ) → AsksAll words budget → IsTextReply bytes budget answer
 
 -- The status of a cause
 abbrev pub status_of : Cause → ℕ

@@ -14,6 +14,9 @@ use oz_semantics::{Layer, Tell, Value};
 use std::alloc::{AllocError, Global};
 use std::marker::Model;
 
+#[cfg(test)]
+mod tests;
+
 /// What a space sees: tells, which contracts see as such, with the variables that they make equal.
 #[derive(Drop)]
 pub struct Seen {

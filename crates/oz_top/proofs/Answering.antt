@@ -6,35 +6,40 @@ use Rattle.std.specs.Io.KnownBytes.{Appends, Consumes, IsAtEnd}
 use Rattle.oz_semantics.specs.Texts.{Printed, raise_text}
 use Rattle.oz_semantics.specs.Runs.{Ran, Ended, TopRaised, Over, run, opening}
 use Rattle.oz_semantics.specs.Search.{Found, depth_first, has_script, script_variable, search_space, with_root}
-use Rattle.oz_semantics.specs.Grammar.{Accepts, IsRefused}
+use Rattle.oz_semantics.specs.Refusals.{Program, Accepts, IsRefused}
 use Rattle.oz_semantics.specs.Translation.{kernel_of}
-use Rattle.oz_semantics.specs.Replies.{Answer, IsReply, line, spent, is_all, default_budget, text_limit, usage_reply, too_large_reply, refused_reply, answer_of_tree, answer_of_raise, answer_of_top, answer_to}
-use Rattle.oz_semantics.specs.declared.syntax.Program.{Program}
+use Rattle.oz_semantics.specs.Commands.{IsUsage, AsksAll, Spells}
+use Rattle.oz_semantics.specs.Replies.{Answer, IsReply, Searches, line, spent, text_limit, usage_reply, too_large_reply, leaves_reply, refused_reply, answer_of_tree, answer_of_raise, answer_of_top, answer_to}
+use Rattle.oz_semantics.specs.declared.command.Command.{Command}
+use Rattle.oz_semantics.specs.declared.command.Command.TheVariants as commands
 use Rattle.oz_semantics.specs.declared.kernel.Kernel.{Kernel}
-use Rattle.oz_semantics.specs.declared.outcome.RefusalKind.TheVariants.{Syntax}
+use Rattle.oz_semantics.specs.declared.outcome.Fault.{Fault}
+use Rattle.oz_semantics.specs.declared.outcome.Leaf.{Leaf}
 use Rattle.oz_semantics.specs.declared.configuration.Configuration.{Configuration}
 use Rattle.oz_semantics.specs.declared.outcome.State.{State}
 use Rattle.oz_semantics.specs.declared.outcome.Cause.{Cause}
 use Rattle.oz_semantics.specs.declared.outcome.Cause.TheVariants as causes
-use Rattle.oz_laws.specs.Leaves.{found_text}
-use Rattle.oz_laws.proofs.Budget.{always_done}
 use Rattle.oz_machine.specs.Machines.{Loaded}
 use Rattle.oz_machine.specs.Answers.{IsRun}
 use Rattle.oz_machine.specs.declared.machine.Ran.TheVariants as ran
-use Rattle.oz_top.specs.Call.{Reading, Writing, HasRead, TextGives, AsText, Plans, IsDue, IsRead, Ends, IsExcused}
+use Rattle.oz_top.specs.Call.{Reading, Writing, HasRead, ProgramGives, TextGives, ReadGives, AsText, Asks, Plans, IsDue, IsRead, Ends, IsExcused}
+use Rattle.oz_reader.specs.Reading.{Refuses}
 
 -- a text gives the plan of the call
-pub plans_text : (words : List (List ℕ)) (old new : Reading) (text : List ℕ) (cause : Cause) (reply : List ℕ) → is_all words ≡ true → HasRead old new text → TextGives text cause reply → Plans words old new cause reply
-plans_text words old new text causes.Done reply w r g = (w, (text, r, g))
-plans_text words old new text (causes.Raised shown) reply w r g = (w, (text, r, g))
-plans_text words old new text (causes.Refused kind at) reply w r g = (w, (text, r, g))
-plans_text words old new text (causes.Spent total) reply w r g = (w, (text, r, g))
-plans_text words old new text causes.NoScript reply w r g = (w, (text, r, g))
-plans_text words old new text causes.NoMemory reply w r g = (w, g)
-plans_text words old new text causes.Usage reply w r g = absurd g
-plans_text words old new text causes.ReadFault reply w r g = absurd g
-plans_text words old new text causes.WriteFault reply w r g = absurd g
-plans_text words old new text (causes.TooLarge count) reply w r g = absurd g
+pub plans_text : (words : List (List ℕ)) (old new : Reading) (text : List ℕ) (budget : ℕ) (cause : Cause) (reply : List ℕ) → Asks words budget → HasRead old new text → TextGives text budget cause reply → Plans words old new cause reply
+plans_text words old new text budget cause reply w r g = by cause (record { budget = budget; asked = w.asked; text = text; read = r; gives = g }) g
+  where
+    by : (c : Cause) → ReadGives words old new c reply → TextGives text budget c reply → Plans words old new c reply
+    by causes.Done r g = r
+    by (causes.Raised shown) r g = r
+    by (causes.Refused fault) r g = r
+    by (causes.Spent total) r g = r
+    by causes.NoScript r g = r
+    by causes.NoMemory r g = g
+    by causes.Usage r g = absurd g
+    by causes.ReadFault r g = absurd g
+    by causes.WriteFault r g = absurd g
+    by (causes.TooLarge count) r g = absurd g
 
 -- The answer to a kernel has one of four causes
 
@@ -43,7 +48,7 @@ IsOwn (causes.Done, reply) = Unit {0}
 IsOwn (causes.Raised shown, reply) = Unit {0}
 IsOwn (causes.Spent total, reply) = Unit {0}
 IsOwn (causes.NoScript, reply) = Unit {0}
-IsOwn (causes.Refused kind at, reply) = ⊥
+IsOwn (causes.Refused fault, reply) = ⊥
 IsOwn (causes.NoMemory, reply) = ⊥
 IsOwn (causes.Usage, reply) = ⊥
 IsOwn (causes.ReadFault, reply) = ⊥
@@ -70,46 +75,48 @@ own_answer : (k : Kernel) (budget : ℕ) → IsOwn (answer_to k budget)
 unfolding answer_to
 own_answer k budget = own_top k budget (run k.statements [] (opening k) budget)
 
-gives_own : (text : List ℕ) (p : Program) (cause : Cause) (reply : List ℕ) → Accepts text p → IsOwn (cause, reply) → ◌≡◌ {A = Answer} (cause, reply) (answer_to (kernel_of p) default_budget) → TextGives text cause reply
-gives_own text p causes.Done reply a o e = (p, a, sym e)
-gives_own text p (causes.Raised shown) reply a o e = (p, a, sym e)
-gives_own text p (causes.Spent total) reply a o e = (p, a, sym e)
-gives_own text p causes.NoScript reply a o e = (p, a, sym e)
-gives_own text p (causes.Refused kind at) reply a o e = absurd o
-gives_own text p causes.NoMemory reply a o e = absurd o
-gives_own text p causes.Usage reply a o e = absurd o
-gives_own text p causes.ReadFault reply a o e = absurd o
-gives_own text p causes.WriteFault reply a o e = absurd o
-gives_own text p (causes.TooLarge count) reply a o e = absurd o
+gives_own : (text : List ℕ) (budget : ℕ) (cause : Cause) (reply : List ℕ) → IsOwn (cause, reply) → ProgramGives text budget (cause, reply) → TextGives text budget cause reply
+gives_own text budget causes.Done reply o g = g
+gives_own text budget (causes.Raised shown) reply o g = g
+gives_own text budget (causes.Spent total) reply o g = g
+gives_own text budget causes.NoScript reply o g = g
+gives_own text budget (causes.Refused fault) reply o g = absurd o
+gives_own text budget causes.NoMemory reply o g = absurd o
+gives_own text budget causes.Usage reply o g = absurd o
+gives_own text budget causes.ReadFault reply o g = absurd o
+gives_own text budget causes.WriteFault reply o g = absurd o
+gives_own text budget (causes.TooLarge count) reply o g = absurd o
 
 -- an accepted text
-pub accepted_gives : (text : List ℕ) (p : Program) (k : Kernel) (cause : Cause) (reply : List ℕ) → Accepts text p → k ≡ kernel_of p → ◌≡◌ {A = Answer} (cause, reply) (answer_to k default_budget) → TextGives text cause reply
-accepted_gives text p k cause reply a e h =
-    let whole : ◌≡◌ {A = Answer} (cause, reply) (answer_to (kernel_of p) default_budget) = h ∙ ap (λ (q : Kernel). answer_to q default_budget) e in
-    gives_own text p cause reply a (subst (λ (x : Answer). IsOwn x) (sym whole) (own_answer (kernel_of p) default_budget)) whole
+pub accepted_gives : (text : List ℕ) (budget : ℕ) (p : Program) (cause : Cause) (reply : List ℕ) → Accepts text p → ◌≡◌ {A = Answer} (cause, reply) (answer_to (kernel_of p) budget) → TextGives text budget cause reply
+accepted_gives text budget p cause reply a h =
+    gives_own text budget cause reply (subst (λ (x : Answer). IsOwn x) (sym h) (own_answer (kernel_of p) budget)) (p, a, sym h)
 
-pub accepted_due : (text : List ℕ) (p : Program) (k : Kernel) (answer : Answer) → Accepts text p → ((q : Program) → Accepts text q → q ≡ p) → k ≡ kernel_of p → answer ≡ answer_to k default_budget → AsText text answer
-accepted_due text p k answer a only e h = record {
-  refused = λ n r. absurd (r p a);
-  accepted = λ n q b. h ∙ ap (λ (x : Kernel). answer_to x default_budget) e ∙ ap (λ (x : Program). answer_to (kernel_of x) default_budget) (sym (only q b));
+pub accepted_due : (text : List ℕ) (budget : ℕ) (p : Program) (answer : Answer) → ((q : Program) → Accepts text q → q ≡ p) → ((f : Fault) → IsRefused text f → ⊥) → answer ≡ answer_to (kernel_of p) budget → AsText text budget answer
+accepted_due text budget p answer only unrefused h = record {
+  refused = λ n f r. absurd (unrefused f r);
+  accepted = λ n q b. h ∙ ap (λ (x : Program). answer_to (kernel_of x) budget) (sym (only q b));
 }
 
 -- a refused text
-pub refused_gives : (text : List ℕ) (cause : Cause) (reply : List ℕ) → IsRefused text → cause ≡ causes.Refused Syntax 0 → reply ≡ refused_reply Syntax 0 → TextGives text cause reply
-refused_gives text cause reply r c e = subst (λ (x : Cause). TextGives text x reply) (sym c) (r, refl, refl, e)
+pub refused_gives : (text : List ℕ) (budget : ℕ) (fault : Fault) (cause : Cause) (reply : List ℕ) → IsRefused text fault → cause ≡ causes.Refused fault → reply ≡ refused_reply fault → TextGives text budget cause reply
+refused_gives text budget fault cause reply r c e = subst (λ (x : Cause). TextGives text budget x reply) (sym c) (r, e)
 
-pub refused_due : (text : List ℕ) (cause : Cause) (reply : List ℕ) → IsRefused text → cause ≡ causes.Refused Syntax 0 → reply ≡ refused_reply Syntax 0 → AsText text (cause, reply)
-refused_due text cause reply r c e = record {
-  refused = λ n q. ap (λ (x : Cause). (x, reply)) c ∙ ap (λ (x : List ℕ). (causes.Refused Syntax 0, x)) e;
-  accepted = λ n p a. absurd (r p a);
+pub refused_due : (text : List ℕ) (budget : ℕ) (fault : Fault) (cause : Cause) (reply : List ℕ) → ((g : Fault) → IsRefused text g → g ≡ fault) → ((p : Program) → Accepts text p → ⊥) → cause ≡ causes.Refused fault → reply ≡ refused_reply fault → AsText text budget (cause, reply)
+refused_due text budget fault cause reply only unaccepted c e = record {
+  refused = λ n f r.
+      ap (λ (x : Cause). (x, reply)) c
+      ∙ ap (λ (x : List ℕ). (causes.Refused fault, x)) e
+      ∙ ap (λ (x : Fault). (causes.Refused x, refused_reply x)) (sym (only f r));
+  accepted = λ n p a. absurd (unaccepted p a);
 }
 
 -- no memory for a text
-pub memory_gives : (text : List ℕ) (cause : Cause) (reply : List ℕ) → cause ≡ causes.NoMemory → reply ≡ [] → TextGives text cause reply
-memory_gives text cause reply c e = subst (λ (x : Cause). TextGives text x reply) (sym c) e
+pub memory_gives : (text : List ℕ) (budget : ℕ) (cause : Cause) (reply : List ℕ) → cause ≡ causes.NoMemory → reply ≡ [] → TextGives text budget cause reply
+memory_gives text budget cause reply c e = subst (λ (x : Cause). TextGives text budget x reply) (sym c) e
 
-pub memory_due : (text : List ℕ) (cause : Cause) (reply : List ℕ) → cause ≡ causes.NoMemory → AsText text (cause, reply)
-memory_due text cause reply c = record { refused = λ n r. absurd (n c); accepted = λ n p a. absurd (n c) }
+pub memory_due : (text : List ℕ) (budget : ℕ) (cause : Cause) (reply : List ℕ) → cause ≡ causes.NoMemory → AsText text budget (cause, reply)
+memory_due text budget cause reply c = record { refused = λ n f r. absurd (n c); accepted = λ n p a. absurd (n c) }
 
 -- Reading
 
@@ -133,16 +140,24 @@ part_read (Some xs) (Some ys) bytes text b l c =
       ap Some (sym (drop-append_seam text ys) ∙ ap (λ n. drop n (text ++ ys)) l ∙ ap (drop (text_limit + 1)) (sym c ∙ same)),
     )
 
+-- words that ask for `all` are no usage, and ask for one budget
+asked_usage : (words : List (List ℕ)) (budget : ℕ) → Asks words budget → IsUsage words → ⊥
+asked_usage words budget w u = u (commands.All w.asked.workers budget) w.asked.spelled
+
 -- a text that was read to its end
-pub due_text : (words : List (List ℕ)) (bytes text : List ℕ) (before after : Option (List ℕ)) (answer : Answer) → is_all words ≡ true → before ≡ Some bytes → Consumes before after text → IsAtEnd after → length text ≤ text_limit
-    → AsText text answer → IsDue words bytes answer.0 answer.1
-due_text words bytes text before after answer w b c e l a =
+pub due_text : (words : List (List ℕ)) (bytes text : List ℕ) (budget : ℕ) (before after : Option (List ℕ)) (answer : Answer) → Asks words budget → before ≡ Some bytes → Consumes before after text → IsAtEnd after → length text ≤ text_limit
+    → AsText text budget answer → IsDue words bytes answer.0 answer.1
+due_text words bytes text budget before after answer w b c e l a =
     let same = (whole_read before after bytes text b c e).0 in
     λ read memory. record {
-      other_words = λ o. absurd (let k : true ≡ false = sym w ∙ o in cc);
-      too_large = λ h long. absurd (let k = ap length same in omega arith);
-      refused = λ h short r. a.refused memory (subst (λ (xs : List ℕ). IsRefused xs) (sym same) r);
-      accepted = λ h short p q. a.accepted memory p (subst (λ (xs : List ℕ). Accepts xs p) (sym same) q);
+      usage = λ u. absurd (asked_usage words budget w u);
+      all = λ other asked. record {
+        too_large = λ long. absurd (let k = ap length same in omega arith);
+        refused = λ short f r. a.refused memory f (subst (λ (xs : List ℕ). IsRefused xs f) (sym same) r);
+        accepted = λ short p q.
+            a.accepted memory p (subst (λ (xs : List ℕ). Accepts xs p) (sym same) q)
+            ∙ ap (λ (n : ℕ). answer_to (kernel_of p) n) (sym (w.only other asked));
+      };
     }
 
 pub read_text : (bytes text : List ℕ) (before after : Option (List ℕ)) (cause : Cause) → before ≡ Some bytes → Consumes before after text → IsAtEnd after → length text ≤ text_limit → IsRead bytes after cause
@@ -152,21 +167,23 @@ read_text bytes text before after cause b c e l =
     λ read memory. all.1 ∙ ap Some (sym (drop_all (text_limit + 1) bytes (omega arith)))
 
 -- a text that is too large
-pub plans_large : (words : List (List ℕ)) (old new : Reading) (cause : Cause) (reply : List ℕ) → is_all words ≡ true → ((bytes : List ℕ) × (length bytes ≡ text_limit + 1) × Consumes old.left new.left bytes)
+pub plans_large : (words : List (List ℕ)) (old new : Reading) (budget : ℕ) (cause : Cause) (reply : List ℕ) → Asks words budget → ((bytes : List ℕ) × (length bytes ≡ text_limit + 1) × Consumes old.left new.left bytes)
     → ((cause ≡ causes.TooLarge (text_limit + 1)) × (reply ≡ too_large_reply)) ⊎ ((cause ≡ causes.NoMemory) × (reply ≡ [])) → Plans words old new cause reply
-plans_large words old new cause reply w r (inl h) = subst (λ (x : Cause). Plans words old new x reply) (sym h.0) (w, refl, r, h.1)
-plans_large words old new cause reply w r (inr h) = subst (λ (x : Cause). Plans words old new x reply) (sym h.0) (w, h.1)
+plans_large words old new budget cause reply w r (inl h) = subst (λ (x : Cause). Plans words old new x reply) (sym h.0) ((budget, w.asked), refl, r, h.1)
+plans_large words old new budget cause reply w r (inr h) = subst (λ (x : Cause). Plans words old new x reply) (sym h.0) h.1
 
-pub due_large : (words : List (List ℕ)) (bytes text : List ℕ) (before after : Option (List ℕ)) (cause : Cause) (reply : List ℕ) → is_all words ≡ true → before ≡ Some bytes → length text ≡ text_limit + 1 → Consumes before after text
+pub due_large : (words : List (List ℕ)) (bytes text : List ℕ) (budget : ℕ) (before after : Option (List ℕ)) (cause : Cause) (reply : List ℕ) → Asks words budget → before ≡ Some bytes → length text ≡ text_limit + 1 → Consumes before after text
     → ((cause ≡ causes.TooLarge (text_limit + 1)) × (reply ≡ too_large_reply)) ⊎ ((cause ≡ causes.NoMemory) × (reply ≡ [])) → IsDue words bytes cause reply
-due_large words bytes text before after cause reply w b l c (inr h) = λ read memory. absurd (memory h.0)
-due_large words bytes text before after cause reply w b l c (inl h) =
+due_large words bytes text budget before after cause reply w b l c (inr h) = λ read memory. absurd (memory h.0)
+due_large words bytes text budget before after cause reply w b l c (inl h) =
     let long = (part_read before after bytes text b l c).0 in
     λ read memory. record {
-      other_words = λ o. absurd (let k : true ≡ false = sym w ∙ o in cc);
-      too_large = λ a q. ap (λ (x : Cause). (x, reply)) h.0 ∙ ap (λ (x : List ℕ). (causes.TooLarge (text_limit + 1), x)) h.1;
-      refused = λ a short r. absurd (omega arith);
-      accepted = λ a short p q. absurd (omega arith);
+      usage = λ u. absurd (asked_usage words budget w u);
+      all = λ other asked. record {
+        too_large = λ q. ap (λ (x : Cause). (x, reply)) h.0 ∙ ap (λ (x : List ℕ). (causes.TooLarge (text_limit + 1), x)) h.1;
+        refused = λ short f r. absurd (omega arith);
+        accepted = λ short p q. absurd (omega arith);
+      };
     }
 
 pub read_large : (bytes text : List ℕ) (before after : Option (List ℕ)) (cause : Cause) → before ≡ Some bytes → length text ≡ text_limit + 1 → Consumes before after text → IsRead bytes after cause
@@ -207,7 +224,7 @@ sound : (words : List (List ℕ)) (old new : Reading) (before after : Writing) (
     → cause ≢ causes.ReadFault → cause ≢ causes.NoMemory → (planned ≢ causes.ReadFault) × (planned ≢ causes.NoMemory)
 sound words old new before after planned cause reply p e f m = (
   λ k. f (ends_silent planned reply before after cause (subst (λ (x : Cause). Plans words old new x reply) k p).2 e ∙ k),
-  λ k. m (ends_silent planned reply before after cause (subst (λ (x : Cause). Plans words old new x reply) k p).1 e ∙ k),
+  λ k. m (ends_silent planned reply before after cause (subst (λ (x : Cause). Plans words old new x reply) k p) e ∙ k),
 )
 
 -- The answer to words and bytes
@@ -236,7 +253,7 @@ excused_or causes.Done = inl (λ k. cc, λ k. cc, λ k. cc)
 excused_or causes.Usage = inl (λ k. cc, λ k. cc, λ k. cc)
 excused_or causes.NoScript = inl (λ k. cc, λ k. cc, λ k. cc)
 excused_or (causes.Raised shown) = inl (λ k. cc, λ k. cc, λ k. cc)
-excused_or (causes.Refused kind at) = inl (λ k. cc, λ k. cc, λ k. cc)
+excused_or (causes.Refused fault) = inl (λ k. cc, λ k. cc, λ k. cc)
 excused_or (causes.Spent total) = inl (λ k. cc, λ k. cc, λ k. cc)
 excused_or (causes.TooLarge count) = inl (λ k. cc, λ k. cc, λ k. cc)
 
@@ -262,20 +279,33 @@ asked words bytes before after cause answer only h = go (excused_or cause)
     go (inr e) = inr e
     go (inl n) = inl (answered words bytes before after cause answer only h n.0 n.1 n.2).0
 
-pub asked_large : (words : List (List ℕ)) (bytes : List ℕ) (before after : Writing) (cause : Cause) → is_all words ≡ true → text_limit < length bytes → Replied words bytes before after cause
-    → (cause ≡ causes.TooLarge (text_limit + 1)) ⊎ IsExcused cause
-asked_large words bytes before after cause w l h = asked words bytes before after cause (causes.TooLarge (text_limit + 1), too_large_reply) (λ x r. r.too_large w l) h
+-- Where the words are no command
 
-pub asked_refused : (words : List (List ℕ)) (bytes : List ℕ) (before after : Writing) (cause : Cause) → is_all words ≡ true → length bytes ≤ text_limit → IsRefused bytes → Replied words bytes before after cause
-    → (cause ≡ causes.Refused Syntax 0) ⊎ IsExcused cause
-asked_refused words bytes before after cause w l q h = asked words bytes before after cause (causes.Refused Syntax 0, refused_reply Syntax 0) (λ x r. r.refused w l q) h
+pub asked_usage_reply : (words : List (List ℕ)) (bytes : List ℕ) (before after : Writing) (cause : Cause) → IsUsage words → Replied words bytes before after cause → (cause ≡ causes.Usage) ⊎ IsExcused cause
+asked_usage_reply words bytes before after cause u h = asked words bytes before after cause (causes.Usage, usage_reply) (λ x r. r.usage u) h
 
-pub asked_done : (words : List (List ℕ)) (bytes : List ℕ) (p : Program) (before after : Writing) (cause : Cause) → is_all words ≡ true → length bytes ≤ text_limit → Accepts bytes p → Replied words bytes before after cause
-    → (cause ≡ causes.Done) ⊎ IsExcused cause
-asked_done words bytes p before after cause w l a h = asked words bytes before after cause (causes.Done, found_text p) (λ x r. r.accepted w l p a ∙ always_done bytes p l a) h
+-- Where they ask for `all`
 
-pub leaves_written : (words : List (List ℕ)) (bytes front : List ℕ) (p : Program) (before after : Writing) (cause : Cause) → is_all words ≡ true → before.written ≡ Some front → length bytes ≤ text_limit → Accepts bytes p
-    → Replied words bytes before after cause → cause ≢ causes.ReadFault → cause ≢ causes.WriteFault → cause ≢ causes.NoMemory → (cause ≡ causes.Done) × (after.written ≡ Some (front ++ found_text p))
-leaves_written words bytes front p before after cause w o l a h f n m =
-    let d = answered words bytes before after cause (causes.Done, found_text p) (λ x r. r.accepted w l p a ∙ always_done bytes p l a) h f n m in
-    (d.0, whole_written before.written after.written front (found_text p) o d.1)
+module _ (words : List (List ℕ)) (budget : ℕ) (bytes : List ℕ) (before after : Writing) (cause : Cause) (w : AsksAll words budget) (h : Replied words bytes before after cause) where
+  pub asked_large : text_limit < length bytes → (cause ≡ causes.TooLarge (text_limit + 1)) ⊎ IsExcused cause
+  asked_large l = asked words bytes before after cause (causes.TooLarge (text_limit + 1), too_large_reply) (λ x r. (r.all budget w).too_large l) h
+
+  pub asked_refused : (f : Fault) → length bytes ≤ text_limit → IsRefused bytes f → (cause ≡ causes.Refused f) ⊎ IsExcused cause
+  asked_refused f l q = asked words bytes before after cause (causes.Refused f, refused_reply f) (λ x r. (r.all budget w).refused l f q) h
+
+  module _ (p : Program) (l : length bytes ≤ text_limit) (a : Accepts bytes p) where
+    pub asked_accepted : (cause ≡ (answer_to (kernel_of p) budget).0) ⊎ IsExcused cause
+    asked_accepted = asked words bytes before after cause (answer_to (kernel_of p) budget) (λ x r. (r.all budget w).accepted l p a) h
+
+    searched : (found : Found) → Searches (kernel_of p) budget found → answer_to (kernel_of p) budget ≡ answer_of_tree budget found
+    unfolding answer_to
+    searched found s = rw (s.ended, s.script, s.searched) refl
+
+    pub asked_spent : Searches (kernel_of p) budget None → (cause ≡ causes.Spent budget) ⊎ IsExcused cause
+    asked_spent s = asked words bytes before after cause (spent budget) (λ x r. (r.all budget w).accepted l p a ∙ searched None s) h
+
+    pub leaves_written : (front : List ℕ) (found : List Leaf) (left : ℕ) → before.written ≡ Some front → Searches (kernel_of p) budget (Some (found, left))
+        → cause ≢ causes.ReadFault → cause ≢ causes.WriteFault → cause ≢ causes.NoMemory → (cause ≡ causes.Done) × (after.written ≡ Some (front ++ leaves_reply found))
+    leaves_written front found left o s f n m =
+        let d = answered words bytes before after cause (causes.Done, leaves_reply found) (λ x r. (r.all budget w).accepted l p a ∙ searched (Some (found, left)) s) h f n m in
+        (d.0, whole_written before.written after.written front (leaves_reply found) o d.1)

@@ -2,11 +2,11 @@
 use Rattle.std.specs.Prelude.{ℕ, ◌≡◌, ◌≢◌, ◌<◌, ◌≤◌, ◌+◌, ◌⊎◌, true, false, List, [], take, drop, length, Option, Some}
 use Rattle.std.specs.Io.KnownBytes.{Appends, Consumes, IsAtEnd}
 use Rattle.oz_outside.specs.Counts.{Rose}
-use Rattle.oz_semantics.specs.Grammar.{Accepts, IsRefused}
+use Rattle.oz_semantics.specs.Refusals.{Program, Accepts, IsRefused}
 use Rattle.oz_semantics.specs.Translation.{kernel_of}
-use Rattle.oz_semantics.specs.Replies.{Answer, IsReply, is_all, default_budget, text_limit, usage_reply, too_large_reply, refused_reply, answer_to}
-use Rattle.oz_semantics.specs.declared.syntax.Program.{Program}
-use Rattle.oz_semantics.specs.declared.outcome.RefusalKind.TheVariants.{Syntax}
+use Rattle.oz_semantics.specs.Commands.{IsUsage, AsksAll}
+use Rattle.oz_semantics.specs.Replies.{Answer, IsReply, text_limit, usage_reply, too_large_reply, refused_reply, answer_to}
+use Rattle.oz_semantics.specs.declared.outcome.Fault.{Fault}
 use Rattle.oz_semantics.specs.declared.outcome.Cause.{Cause}
 use Rattle.oz_semantics.specs.declared.outcome.Cause.TheVariants as causes
 
@@ -25,32 +25,48 @@ pub record HasRead (old new : Reading) (text : List ℕ) : Type 0 where
   pub ended : IsAtEnd new.left
   pub fits : length text ≤ text_limit
 
+-- a program of the text has this answer
+abbrev pub ProgramGives : List ℕ → ℕ → Answer → Type 0
+ProgramGives text budget answer = (p : Program) × Accepts text p × (answer_to (kernel_of p) budget ≡ answer)
+
 -- a text gives this cause and this reply, before anything is written
-abbrev pub TextGives : List ℕ → Cause → List ℕ → Type 0
-TextGives text (causes.Refused kind at) reply = IsRefused text × (kind ≡ Syntax) × (at ≡ 0) × (reply ≡ refused_reply kind at)
-TextGives text causes.Done reply = (p : Program) × Accepts text p × (answer_to (kernel_of p) default_budget ≡ (causes.Done, reply))
-TextGives text (causes.Raised shown) reply = (p : Program) × Accepts text p × (answer_to (kernel_of p) default_budget ≡ (causes.Raised shown, reply))
-TextGives text (causes.Spent total) reply = (p : Program) × Accepts text p × (answer_to (kernel_of p) default_budget ≡ (causes.Spent total, reply))
-TextGives text causes.NoScript reply = (p : Program) × Accepts text p × (answer_to (kernel_of p) default_budget ≡ (causes.NoScript, reply))
-TextGives text causes.NoMemory reply = reply ≡ []
-TextGives text causes.Usage reply = ⊥
-TextGives text causes.ReadFault reply = ⊥
-TextGives text causes.WriteFault reply = ⊥
-TextGives text (causes.TooLarge count) reply = ⊥
+abbrev pub TextGives : List ℕ → ℕ → Cause → List ℕ → Type 0
+TextGives text budget (causes.Refused fault) reply = IsRefused text fault × (reply ≡ refused_reply fault)
+TextGives text budget causes.Done reply = ProgramGives text budget (causes.Done, reply)
+TextGives text budget (causes.Raised shown) reply = ProgramGives text budget (causes.Raised shown, reply)
+TextGives text budget (causes.Spent total) reply = ProgramGives text budget (causes.Spent total, reply)
+TextGives text budget causes.NoScript reply = ProgramGives text budget (causes.NoScript, reply)
+TextGives text budget causes.NoMemory reply = reply ≡ []
+TextGives text budget causes.Usage reply = ⊥
+TextGives text budget causes.ReadFault reply = ⊥
+TextGives text budget causes.WriteFault reply = ⊥
+TextGives text budget (causes.TooLarge count) reply = ⊥
+
+-- the words ask for `all`, and a text that was read gives this cause and this reply
+pub record ReadGives (words : List (List ℕ)) (old new : Reading) (cause : Cause) (reply : List ℕ) : Type 0 where
+  pub budget : ℕ
+  pub asked : AsksAll words budget
+  pub text : List ℕ
+  pub read : HasRead old new text
+  pub gives : TextGives text budget cause reply
+
+-- the words ask for `all`
+abbrev pub AsksSome : List (List ℕ) → Type 0
+AsksSome words = (budget : ℕ) × AsksAll words budget
 
 -- The words and what was read of the source give this cause and this reply, before anything is written.
 abbrev pub Plans : List (List ℕ) → Reading → Reading → Cause → List ℕ → Type 0
-Plans words old new causes.Usage reply = (is_all words ≡ false) × (reply ≡ usage_reply)
-Plans words old new causes.ReadFault reply = (is_all words ≡ true) × Rose old.faults new.faults × (reply ≡ [])
+Plans words old new causes.Usage reply = IsUsage words × (reply ≡ usage_reply)
+Plans words old new causes.ReadFault reply = AsksSome words × Rose old.faults new.faults × (reply ≡ [])
 Plans words old new (causes.TooLarge count) reply =
-    (is_all words ≡ true) × (count ≡ text_limit + 1) × ((bytes : List ℕ) × (length bytes ≡ count) × Consumes old.left new.left bytes) × (reply ≡ too_large_reply)
-Plans words old new causes.NoMemory reply = (is_all words ≡ true) × (reply ≡ [])
+    AsksSome words × (count ≡ text_limit + 1) × ((bytes : List ℕ) × (length bytes ≡ count) × Consumes old.left new.left bytes) × (reply ≡ too_large_reply)
+Plans words old new causes.NoMemory reply = reply ≡ []
 Plans words old new causes.WriteFault reply = ⊥
-Plans words old new (causes.Refused kind at) reply = (is_all words ≡ true) × ((text : List ℕ) × HasRead old new text × TextGives text (causes.Refused kind at) reply)
-Plans words old new causes.Done reply = (is_all words ≡ true) × ((text : List ℕ) × HasRead old new text × TextGives text causes.Done reply)
-Plans words old new (causes.Raised shown) reply = (is_all words ≡ true) × ((text : List ℕ) × HasRead old new text × TextGives text (causes.Raised shown) reply)
-Plans words old new (causes.Spent total) reply = (is_all words ≡ true) × ((text : List ℕ) × HasRead old new text × TextGives text (causes.Spent total) reply)
-Plans words old new causes.NoScript reply = (is_all words ≡ true) × ((text : List ℕ) × HasRead old new text × TextGives text causes.NoScript reply)
+Plans words old new (causes.Refused fault) reply = ReadGives words old new (causes.Refused fault) reply
+Plans words old new causes.Done reply = ReadGives words old new causes.Done reply
+Plans words old new (causes.Raised shown) reply = ReadGives words old new (causes.Raised shown) reply
+Plans words old new (causes.Spent total) reply = ReadGives words old new (causes.Spent total) reply
+Plans words old new causes.NoScript reply = ReadGives words old new causes.NoScript reply
 
 -- The reply of a planned cause was written whole, and the cause is that one; or a write failed, and a part of it was written.
 abbrev pub Ends : Cause → List ℕ → Writing → Writing → Cause → Type 0
@@ -70,9 +86,14 @@ abbrev pub IsExcused : Cause → Type 0
 IsExcused cause = (cause ≡ causes.ReadFault) ⊎ ((cause ≡ causes.WriteFault) ⊎ (cause ≡ causes.NoMemory))
 
 -- What each text asks for, where memory is there.
-pub record AsText (text : List ℕ) (answer : Answer) : Type 0 where
-  pub refused : answer.0 ≢ causes.NoMemory → IsRefused text → answer ≡ (causes.Refused Syntax 0, refused_reply Syntax 0)
-  pub accepted : answer.0 ≢ causes.NoMemory → (p : Program) → Accepts text p → answer ≡ answer_to (kernel_of p) default_budget
+pub record AsText (text : List ℕ) (budget : ℕ) (answer : Answer) : Type 0 where
+  pub refused : answer.0 ≢ causes.NoMemory → (fault : Fault) → IsRefused text fault → answer ≡ (causes.Refused fault, refused_reply fault)
+  pub accepted : answer.0 ≢ causes.NoMemory → (p : Program) → Accepts text p → answer ≡ answer_to (kernel_of p) budget
+
+-- the words ask for `all` with this budget and no other
+pub record Asks (words : List (List ℕ)) (budget : ℕ) : Type 0 where
+  pub asked : AsksAll words budget
+  pub only : (other : ℕ) → AsksAll words other → other ≡ budget
 
 -- The plan is the answer to the words and bytes, where nothing fails.
 abbrev pub IsDue : List (List ℕ) → List ℕ → Cause → List ℕ → Type 0

@@ -1,30 +1,30 @@
 //! The call that does all that the program does.
-ghost use Rattle.std.specs.Prelude.{◌≡◌, ◌≢◌, ◌⊎◌, ◌≤◌, ◌<◌, ◌++◌, ◌+◌, ℕ, List, [], map, length, codes, IfOk, true, false, Some};
+ghost use Rattle.std.specs.Prelude.{◌≡◌, ◌≢◌, ◌⊎◌, ◌≤◌, ◌<◌, ◌++◌, ◌+◌, ℕ, List, [], map, length, codes, IfOk, Some, None};
 ghost use Rattle.std.specs.String.{string_bytes};
 ghost use Rattle.std.specs.Io.KnownBytes.{Appends};
-ghost use Rattle.oz_base.specs.Lists.{list_eq};
 ghost use Rattle.oz_outside.specs.Counts.{Rose};
-ghost use Rattle.oz_semantics.specs.Grammar.{Accepts, IsRefused};
+ghost use Rattle.oz_semantics.specs.Refusals.{Program, Accepts, IsRefused};
+ghost use Rattle.oz_semantics.specs.Translation.{kernel_of};
+ghost use Rattle.oz_semantics.specs.Commands.{IsUsage, AsksAll};
 ghost use Rattle.oz_semantics.specs.Runs.{Ended};
 ghost use Rattle.oz_semantics.specs.Search.{with_root, search_space, depth_first};
 ghost use Rattle.oz_semantics.specs.Texts.{raise_text};
-ghost use Rattle.oz_semantics.specs.Replies.{IsReply, is_all, status_of, text_limit, spent, too_large_reply, refused_reply, answer_of_tree, answer_of_raise, answer_of_top, answer_to};
-ghost use Rattle.oz_semantics.specs.declared.syntax.Program.{Program};
+ghost use Rattle.oz_semantics.specs.Replies.{IsReply, Searches, status_of, text_limit, spent, too_large_reply, leaves_reply, kind_text, refused_reply, answer_of_tree, answer_of_raise, answer_of_top, answer_to};
+ghost use Rattle.oz_semantics.specs.declared.outcome.Fault.{Fault};
+ghost use Rattle.oz_semantics.specs.declared.outcome.Leaf.{Leaf};
 ghost use Rattle.oz_semantics.specs.declared.outcome.Cause.{Cause};
-ghost use Rattle.oz_laws.specs.Leaves.{found_text};
-ghost use Rattle.oz_top.specs.Call.{TextGives, AsText, Plans, IsDue, IsRead, Ends, Answers, IsExcused};
+ghost use Rattle.oz_top.specs.Call.{TextGives, AsText, Asks, Plans, IsDue, IsRead, Ends, Answers, IsExcused};
 
 use crate::reply::{add_decimal, leaves_reply};
 use crate::search::depth_first;
+use command_line::read_command;
 use oz_base::{Ident, Sequence};
 use oz_machine::{Machine, Ran, exception_text};
-use oz_outside::{Gate, READ_LIMIT, ReadError, Sink, Source, read_all, write_all};
-use oz_reader::{read_program, translate};
-use oz_semantics::{Cause, Kernel, Raise, RefusalKind};
+use oz_outside::{Gate, READ_LIMIT, ReadError as SourceError, Sink, Source, read_all, write_all};
+use oz_reader::{Program, ReadError, read_program};
+use oz_semantics::{Cause, Command, Fault, Kernel, Raise, RefusalKind};
+use oz_translation::translate;
 use std::alloc::{AllocError, Global};
-
-/// The budget of steps where none is named.
-const BUDGET: u64 = 1_000_000;
 
 /// A cause, and what is to be written for it.
 #[derive(Drop)]
@@ -142,32 +142,61 @@ fn answer_to<G: Gate>(
     }
 }
 
-fn refused(alloc: Global) -> Result<Plan, AllocError>
-    ensures { IfOk result (λ plan. (plan.cause ≡ Cause.Refused RefusalKind.Syntax 0) × (plan.reply.items ≡ refused_reply RefusalKind.Syntax 0)) }
+fn kind_text(kind: RefusalKind) -> &'static [u8]
+    ensures { result.now ≡ kind_text kind }
 {
-    let mut reply = b"refused syntax ".to_vec(alloc)?;
-    add_decimal(alloc, 0, &mut reply)?;
+    match kind {
+        RefusalKind::Byte => b"byte",
+        RefusalKind::Deep => b"deep",
+        RefusalKind::Syntax => b"syntax",
+        RefusalKind::Unbound => b"unbound",
+        RefusalKind::Linear => b"linear",
+    }
+}
+
+fn refused(alloc: Global, fault: Fault) -> Result<Plan, AllocError>
+    ensures { IfOk result (λ plan. (plan.cause ≡ Cause.Refused fault) × (plan.reply.items ≡ refused_reply fault)) }
+{
+    let mut reply = b"refused ".to_vec(alloc)?;
+    reply.extend_from_slice(kind_text(fault.kind))?;
+    reply.extend_from_slice(b" ")?;
+    add_decimal(alloc, fault.at as u64, &mut reply)?;
     reply.extend_from_slice(b"\n")?;
     Ok(Plan {
-        cause: Cause::Refused {
-            kind: RefusalKind::Syntax,
-            at: 0,
-        },
+        cause: Cause::Refused(fault),
         reply,
     })
 }
 
-/// What `all` answers for a text.
-fn answer<G: Gate>(alloc: Global, text: &[u8], gate: &G) -> Result<Plan, AllocError>
-    requires { length text.now ≤ text_limit }
-    ensures gives { IfOk result (λ plan. TextGives text.now plan.cause plan.reply.items) }
-    ensures due { IfOk result (λ plan. AsText text.now (plan.cause, plan.reply.items)) }
+/// What `all` answers for a program.
+fn answer_for<G: Gate>(
+    alloc: Global,
+    program: &Program,
+    budget: u64,
+    gate: &G,
+) -> Result<Plan, AllocError>
+    ensures { IfOk result (λ plan. (plan.cause, plan.reply.items) ≡ answer_to (kernel_of program.now) budget) }
 {
-    let Some(program) = read_program(alloc, text)? else {
-        return refused(alloc);
-    };
-    let kernel = translate(alloc, &program)?;
-    answer_to(alloc, kernel, BUDGET, gate)
+    let kernel = translate(alloc, program.words(), program.phrase())?;
+    answer_to(alloc, kernel, budget, gate)
+}
+
+/// What `all` answers for a text.
+fn answer<G: Gate>(
+    alloc: Global,
+    text: &[u8],
+    budget: u64,
+    gate: &G,
+) -> Result<Plan, AllocError>
+    requires { length text.now ≤ text_limit }
+    ensures gives { IfOk result (λ plan. TextGives text.now budget plan.cause plan.reply.items) }
+    ensures due { IfOk result (λ plan. AsText text.now budget (plan.cause, plan.reply.items)) }
+{
+    match read_program(alloc, text) {
+        Ok(program) => answer_for(alloc, &program, budget, gate),
+        Err(ReadError::Refused(fault)) => refused(alloc, fault),
+        Err(ReadError::Memory) => Err(AllocError),
+    }
 }
 
 /// A plan that writes nothing.
@@ -182,12 +211,12 @@ fn silent(alloc: Global, cause: Cause) -> Plan
 }
 
 /// What `all` answers for a text. Where memory is refused, that is the answer.
-fn plan_text<G: Gate>(alloc: Global, text: &[u8], gate: &G) -> Plan
+fn plan_text<G: Gate>(alloc: Global, text: &[u8], budget: u64, gate: &G) -> Plan
     requires { length text.now ≤ text_limit }
-    ensures gives { TextGives text.now result.cause result.reply.items }
-    ensures due { AsText text.now (result.cause, result.reply.items) }
+    ensures gives { TextGives text.now budget result.cause result.reply.items }
+    ensures due { AsText text.now budget (result.cause, result.reply.items) }
 {
-    match answer(alloc, text, gate) {
+    match answer(alloc, text, budget, gate) {
         Ok(plan) => plan,
         Err(_) => silent(alloc, Cause::NoMemory),
     }
@@ -205,35 +234,19 @@ fn plan_too_large(alloc: Global) -> Plan
     }
 }
 
-/// Whether the words are the one word `all`.
-fn is_all(words: &[String]) -> bool
-    ensures { result ≡ is_all (map string_bytes words.now) }
-{
-    match words {
-        [word] => is_word(word.as_bytes(), b"all"),
-        _ => false,
-    }
-}
-
-fn is_word(left: &[u8], right: &[u8]) -> bool
-    ensures { result ≡ list_eq left.now right.now }
-{
-    left == right
-}
-
 /// What `all` answers for the text of a source, before anything is written.
-fn plan_all<S: Source, G: Gate>(alloc: Global, source: &mut S, gate: &G) -> Plan
-    ensures plans { (words : List (List ℕ)) → is_all words ≡ true → Plans words
+fn plan_all<S: Source, G: Gate>(alloc: Global, budget: u64, source: &mut S, gate: &G) -> Plan
+    ensures plans { (words : List (List ℕ)) → Asks words budget → Plans words
         (record { left = S.left source.old; faults = S.faults source.old })
         (record { left = S.left source.new; faults = S.faults source.new }) result.cause result.reply.items }
-    ensures due { (words : List (List ℕ)) (bytes : List ℕ) → is_all words ≡ true → S.left source.old ≡ Some bytes → IsDue words bytes result.cause result.reply.items }
+    ensures due { (words : List (List ℕ)) (bytes : List ℕ) → Asks words budget → S.left source.old ≡ Some bytes → IsDue words bytes result.cause result.reply.items }
     ensures read { (bytes : List ℕ) → S.left source.old ≡ Some bytes → IsRead bytes (S.left source.new) result.cause }
 {
     match read_all(alloc, source) {
-        Ok(text) => plan_text(alloc, text.as_slice(), gate),
-        Err(ReadError::TooLarge) => plan_too_large(alloc),
-        Err(ReadError::Fault) => silent(alloc, Cause::ReadFault),
-        Err(ReadError::Memory) => silent(alloc, Cause::NoMemory),
+        Ok(text) => plan_text(alloc, text.as_slice(), budget, gate),
+        Err(SourceError::TooLarge) => plan_too_large(alloc),
+        Err(SourceError::Fault) => silent(alloc, Cause::ReadFault),
+        Err(SourceError::Memory) => silent(alloc, Cause::NoMemory),
     }
 }
 
@@ -311,35 +324,43 @@ pub fn oz_call<S: Source, K: Sink, G: Gate>(
         (record { written = K.written sink.old; faults = K.faults sink.old })
         (record { written = K.written sink.new; faults = K.faults sink.new }) result.cause }
 
-    // `all` on an accepted text writes exactly the unfailed leaves, each once, left to right, and their totals.
-    ensures leaves { (bytes before : List ℕ) (p : Program) → is_all (map string_bytes words.now) ≡ true
+    // `all` on an accepted text whose top becomes quiescent with a script, and whose tree takes no more than what is left of
+    // the budget, writes exactly the unfailed leaves, each once, left to right, and their totals.
+    ensures leaves { (budget : ℕ) (bytes before : List ℕ) (p : Program) (found : List Leaf) (left : ℕ) → AsksAll (map string_bytes words.now) budget
         → S.left source.old ≡ Some bytes → K.written sink.old ≡ Some before → length bytes ≤ text_limit → Accepts bytes p
+        → Searches (kernel_of p) budget (Some (found, left))
         → result.cause ≢ Cause.ReadFault → result.cause ≢ Cause.WriteFault → result.cause ≢ Cause.NoMemory
-        → (result.cause ≡ Cause.Done) × (K.written sink.new ≡ Some (before ++ found_text p)) }
+        → (result.cause ≡ Cause.Done) × (K.written sink.new ≡ Some (before ++ leaves_reply found)) }
+
+    // It is spent exactly where the tree takes more.
+    ensures spent { (budget : ℕ) (bytes : List ℕ) (p : Program) → AsksAll (map string_bytes words.now) budget
+        → S.left source.old ≡ Some bytes → length bytes ≤ text_limit → Accepts bytes p → Searches (kernel_of p) budget None
+        → (result.cause ≡ Cause.Spent budget) ⊎ IsExcused result.cause }
 
     // Other words are faulty, and nothing is read.
-    ensures usage { is_all (map string_bytes words.now) ≡ false → (result.cause ≡ Cause.Usage) ⊎ (result.cause ≡ Cause.WriteFault) }
-    ensures unread { is_all (map string_bytes words.now) ≡ false → source.new ≡ source.old }
+    ensures usage { IsUsage (map string_bytes words.now) → (result.cause ≡ Cause.Usage) ⊎ IsExcused result.cause }
+    ensures unread { IsUsage (map string_bytes words.now) → source.new ≡ source.old }
 
     // All bytes are read, or the one after the last that a text may have.
-    ensures read { (bytes : List ℕ) → is_all (map string_bytes words.now) ≡ true → S.left source.old ≡ Some bytes → IsRead bytes (S.left source.new) result.cause }
+    ensures read { (budget : ℕ) (bytes : List ℕ) → AsksAll (map string_bytes words.now) budget → S.left source.old ≡ Some bytes → IsRead bytes (S.left source.new) result.cause }
 
     // When each other cause comes.
-    ensures too_large { (bytes : List ℕ) → is_all (map string_bytes words.now) ≡ true → S.left source.old ≡ Some bytes → text_limit < length bytes
+    ensures too_large { (budget : ℕ) (bytes : List ℕ) → AsksAll (map string_bytes words.now) budget → S.left source.old ≡ Some bytes → text_limit < length bytes
         → (result.cause ≡ Cause.TooLarge (text_limit + 1)) ⊎ IsExcused result.cause }
-    ensures refused { (bytes : List ℕ) → is_all (map string_bytes words.now) ≡ true → S.left source.old ≡ Some bytes → length bytes ≤ text_limit → IsRefused bytes
-        → (result.cause ≡ Cause.Refused RefusalKind.Syntax 0) ⊎ IsExcused result.cause }
-    ensures done { (bytes : List ℕ) (p : Program) → is_all (map string_bytes words.now) ≡ true → S.left source.old ≡ Some bytes → length bytes ≤ text_limit → Accepts bytes p
-        → (result.cause ≡ Cause.Done) ⊎ IsExcused result.cause }
+    ensures refused { (budget : ℕ) (bytes : List ℕ) (fault : Fault) → AsksAll (map string_bytes words.now) budget → S.left source.old ≡ Some bytes → length bytes ≤ text_limit → IsRefused bytes fault
+        → (result.cause ≡ Cause.Refused fault) ⊎ IsExcused result.cause }
+    ensures accepted { (budget : ℕ) (bytes : List ℕ) (p : Program) → AsksAll (map string_bytes words.now) budget → S.left source.old ≡ Some bytes → length bytes ≤ text_limit → Accepts bytes p
+        → (result.cause ≡ (answer_to (kernel_of p) budget).0) ⊎ IsExcused result.cause }
 
     // Faults come only where they were counted, and before the writing nothing is written.
     ensures read_fault { result.cause ≡ Cause.ReadFault → Rose (S.faults source.old) (S.faults source.new) }
     ensures write_fault { result.cause ≡ Cause.WriteFault → Rose (K.faults sink.old) (K.faults sink.new) }
     ensures silent { (result.cause ≡ Cause.ReadFault) ⊎ (result.cause ≡ Cause.NoMemory) → Appends (K.written sink.old) (K.written sink.new) [] }
 {
-    if !is_all(words) {
-        return finish(Cause::Usage, b"usage\n", sink);
-    }
-    let Plan { cause, reply } = plan_all(alloc, source, gate);
+    let Plan { cause, reply } = match read_command(alloc, words) {
+        Ok(Some(Command::All { budget, .. })) => plan_all(alloc, budget, source, gate),
+        Ok(None) => return finish(Cause::Usage, b"usage\n", sink),
+        Err(_) => return finish(Cause::NoMemory, b"", sink),
+    };
     finish(cause, reply.as_slice(), sink)
 }

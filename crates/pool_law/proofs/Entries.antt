@@ -1,5 +1,5 @@
 -- What one entry more changes in a history.
-use Rattle.std.proofs.Common.{if◌then◌else◌, Equal, cond, eqb-true, eq-eqb, Option, Some, None, ⊎_elim, ◌⊎◌, inl, inr, ◌≡◌, ℕ, ◌+◌, ◌≤◌, ◌==◌, Bool, true, false, not, ◌&&◌, ◌||◌, List, [], ◌∷◌, ◌++◌, refl, ap, sym, ◌∙◌, arith}
+use Rattle.std.proofs.Common.{Equal, cond, eqb-true, eq-eqb, Option, Some, None, ⊎_elim, ◌⊎◌, inl, inr, ◌≡◌, ℕ, ◌+◌, ◌≤◌, ◌==◌, Bool, true, false, not, ◌&&◌, ◌||◌, List, [], ◌∷◌, ◌++◌, refl, ap, sym, ◌∙◌, arith}
 use Rattle.std.specs.List.{list_any, fold}
 use Rattle.std.specs.Ordering.{is_eq}
 use Rattle.std.proofs.lemmas.Map.Text.{is_eq-slice_cmp}
@@ -14,10 +14,7 @@ use Rattle.oz_semantics.specs.declared.history.Entry.{Entry}
 use Rattle.oz_semantics.specs.declared.history.Entry.TheVariants.{Claim, Split, Leaf, Stop}
 use Rattle.oz_semantics.specs.declared.history.Halt.{Halt}
 use Rattle.pool_law.specs.Law.{is_at}
-
--- 1 where it is true, and else 0
-abbrev pub one_if : Bool → ℕ
-one_if b = if b then 1 else 0
+use Rattle.pool_law.specs.Counting.{one_if}
 
 -- the stop that an entry is
 abbrev pub halt_of : Entry → Option Halt

@@ -13,7 +13,8 @@ use Rattle.oz_semantics.specs.declared.history.Entry.TheVariants.{Claim, Split, 
 use Rattle.oz_semantics.specs.declared.history.Halt.{Halt}
 use Rattle.oz_semantics.specs.declared.tree.Outcome.{Outcome}
 use Rattle.oz_semantics.specs.declared.tree.Report.{Report}
-use Rattle.pool_law.proofs.Entries.{one_if, same_is, same_itself}
+use Rattle.pool_law.proofs.Entries.{same_is, same_itself}
+use Rattle.pool_law.specs.Counting.{one_if}
 use Rattle.pool_law.proofs.Explores.{Gives, Takes, IsInner, gives_closed, gives_leaf, takes_closed, takes_own}
 use Rattle.pool_law.proofs.Folds.{split_below, leaf_below}
 use Rattle.pool_law.proofs.FrontLaws.{along, AllTold, told_replace, told_todos, front_push, split_cost_push, IsKept, entry_keeps, kept_at_first, out_awaits, is_due}

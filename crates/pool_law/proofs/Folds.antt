@@ -2,7 +2,7 @@
 use Rattle.std.proofs.Common.{◌≡◌, ℕ, ◌+◌, ◌≤◌, List, [], ◌∷◌, ◌++◌, refl, ap, sym, ◌∙◌, subst, arith, append_assoc}
 use Rattle.oz_semantics.specs.Paths.{children}
 use Rattle.oz_semantics.specs.declared.tree.Outcome.{Outcome}
-use Rattle.pool_law.proofs.Entries.{one_if}
+use Rattle.pool_law.specs.Counting.{one_if}
 use Rattle.pool_law.proofs.Fronts.{Item, Done, path_of, todos, replace, awaiting, All_below, Closed}
 use Rattle.pool_law.proofs.Items.{by_item}
 

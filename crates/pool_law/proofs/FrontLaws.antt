@@ -14,7 +14,8 @@ use Rattle.oz_semantics.specs.declared.history.Halt.{Halt}
 use Rattle.oz_semantics.specs.declared.tree.Kind.TheVariants.{End}
 use Rattle.oz_semantics.specs.declared.tree.Outcome.{Outcome}
 use Rattle.oz_semantics.specs.declared.tree.Report.{Report}
-use Rattle.pool_law.proofs.Entries.{one_if, or_false, same_open, offered_push, claimed_push, settled_push, total_push, more_offered, more_claimed, same_is, child_closed, claimed_from, not_true, fold_push, claim_holds, settle_holds, stop_holds, claim_once, same_claims}
+use Rattle.pool_law.proofs.Entries.{or_false, same_open, offered_push, claimed_push, settled_push, total_push, more_offered, more_claimed, same_is, child_closed, claimed_from, not_true, fold_push, claim_holds, settle_holds, stop_holds, claim_once, same_claims}
+use Rattle.pool_law.specs.Counting.{one_if}
 use Rattle.pool_law.proofs.Fronts.{Item, Todo, Done, todos, replace, awaiting, leaves_in, steps_in, split_cost, split_steps, IsSorted, front, front_after}
 use Rattle.pool_law.proofs.Items.{by_item, split_sorted, leaf_sorted, leaf_leaves, split_leaves, split_steps_in, leaf_steps_in, split_awaiting, leaf_awaiting}
 use Rattle.pool_law.specs.Law.{is_at}

@@ -6,7 +6,7 @@ use Rattle.oz_semantics.specs.Trees.{leaf_at}
 use Rattle.oz_semantics.specs.declared.history.Entry.{Entry}
 use Rattle.oz_semantics.specs.declared.history.Entry.TheVariants.{Claim, Split, Leaf, Stop}
 use Rattle.oz_semantics.specs.declared.tree.Outcome.{Outcome}
-use Rattle.pool_law.proofs.Entries.{one_if}
+use Rattle.pool_law.specs.Counting.{one_if}
 
 -- a path of the front: not settled, or a leaf with its steps
 pub data Item : Type 0 where

@@ -7,7 +7,7 @@ use Rattle.std.proofs.lemmas.Slice.Eq.{bytes_eq-Decides}
 use Rattle.oz_semantics.specs.Paths.{same_path, path_cmp, is_child, children}
 use Rattle.oz_semantics.specs.Trees.{is_failed}
 use Rattle.oz_semantics.specs.declared.tree.Outcome.{Outcome}
-use Rattle.pool_law.proofs.Entries.{one_if}
+use Rattle.pool_law.specs.Counting.{one_if}
 use Rattle.pool_law.proofs.Fronts.{Item, Todo, Done, path_of, awaits, todos, replace, awaiting, item_steps, item_leaves, leaves_in, steps_in, is_left, IsLeftOfAll, IsSorted}
 
 same_is : (p q : List ℕ) → same_path p q ≡ true → p ≡ q

@@ -8,7 +8,7 @@ use Rattle.oz_semantics.specs.Trees.{is_failed, leaf_at}
 use Rattle.oz_semantics.specs.declared.history.Entry.{Entry}
 use Rattle.oz_semantics.specs.declared.history.Entry.TheVariants.{Claim, Split, Leaf, Stop}
 use Rattle.oz_semantics.specs.declared.tree.Outcome.{Outcome}
-use Rattle.pool_law.proofs.Entries.{one_if}
+use Rattle.pool_law.specs.Counting.{one_if}
 use Rattle.pool_law.proofs.FrontLaws.{along, IsKept, entry_keeps, kept_at_first, front_push, out_awaits}
 use Rattle.pool_law.proofs.Fronts.{Item, Todo, Done, awaiting, replace, IsLeftOfAll, IsSorted, item_leaves, leaves_in, front, front_after}
 use Rattle.pool_law.proofs.Items.{left_less, by_item, leaves_append, split_leaves}

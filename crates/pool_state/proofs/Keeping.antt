@@ -21,7 +21,8 @@ use Rattle.pool_state.specs.Frontier.{runs_with, starts, IsFrontier, IsCovered, 
 use Rattle.pool_state.specs.Pool.{MayAsk, AnswersClaim}
 use Rattle.pool_state.specs.Tied.{IsTied}
 use Rattle.pool_state.specs.declared.pool.Claimed.TheVariants.{Idle, Finished}
-use Rattle.pool_law.proofs.Entries.{at_most_one, child_closed, claim_holds, claim_once, claimed_from, claimed_push, from_one, more_claimed, more_offered, no_entry, not_true, now_claimed, now_offered, now_out, now_settled, one_if, open_push, or_false, out_push, replays_push, same_claims, same_is, same_itself, same_open, settle_holds, settled_push, stop_holds, stop_push, total_push}
+use Rattle.pool_law.proofs.Entries.{at_most_one, child_closed, claim_holds, claim_once, claimed_from, claimed_push, from_one, more_claimed, more_offered, no_entry, not_true, now_claimed, now_offered, now_out, now_settled, open_push, or_false, out_push, replays_push, same_claims, same_is, same_itself, same_open, settle_holds, settled_push, stop_holds, stop_push, total_push}
+use Rattle.pool_law.specs.Counting.{one_if}
 
 pub no_runs : (es : List (List ℕ × ℕ)) (h : List Entry) → ((p : List ℕ) → runs_with p es ≡ one_if (is_open h p)) → length es ≡ 0 → IsNothingOpen h
 no_runs [] h opens none p = let e = opens p in grind (arith, e)

@@ -13,7 +13,8 @@ use Rattle.std.proofs.lemmas.List.Elements.{All-head, All-tail}
 use Rattle.std.proofs.lemmas.Cmp.{upto, nat_list_cmp_total}
 use Rattle.oz_base.specs.Paths.{last_of, next_sibling}
 use Rattle.oz_semantics.specs.Paths.{path_cmp, same_path, is_child}
-use Rattle.pool_law.proofs.Entries.{one_if, exact_path}
+use Rattle.pool_law.proofs.Entries.{exact_path}
+use Rattle.pool_law.specs.Counting.{one_if}
 use Rattle.pool_state.specs.Frontier.{Leads, IsCovered, IsFrontier, TakesLeftmost, Opens, runs_with, in_run, covers, starts, first_child}
 
 pub next_greater : (k : List ℕ) (n : ℕ) → covers k k n ≡ true → last_of k < n → path_cmp (next_sibling k) k ≡ Greater

@@ -6,7 +6,7 @@ use Rattle.std.specs.declared.cmp.Ordering.TheVariants.{Less}
 use Rattle.std.specs.Ordering.{is_gt}
 use lib.Dec.{leb}
 use Rattle.oz_semantics.specs.Paths.{path_cmp, same_path, is_child}
-use Rattle.pool_law.proofs.Entries.{one_if}
+use Rattle.pool_law.specs.Counting.{one_if}
 
 -- p is k or a later sibling of it, up to the number n. The root stands alone, with the number 0
 abbrev pub covers : List ℕ → List ℕ → ℕ → Bool

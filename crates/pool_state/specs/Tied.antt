@@ -5,7 +5,7 @@ use Rattle.oz_semantics.specs.Histories.{Replays, is_open, is_out, is_claimed, i
 use Rattle.oz_semantics.specs.Paths.{same_path}
 use Rattle.oz_semantics.specs.declared.history.Entry.{Entry}
 use Rattle.oz_semantics.specs.declared.history.Halt.{Halt}
-use Rattle.pool_law.proofs.Entries.{one_if}
+use Rattle.pool_law.specs.Counting.{one_if}
 use Rattle.pool_law.specs.Law.{is_at}
 use Rattle.pool_state.specs.Frontier.{runs_with, starts}
 

@@ -1,0 +1,13 @@
+pub mod Builds
+pub mod Leaf
+pub mod WordKinds
+pub mod Turns
+pub mod Uses
+pub mod Walking
+pub mod ReadingFacts
+pub mod WholeWalk
+pub mod ReadingLaws
+pub mod WholeLine
+pub mod Numbers
+pub mod Parses
+pub mod SpellingLaws

@@ -1,0 +1,72 @@
+-- Being alike is an equivalence: it is equality of what is left of a value without its fields and bodies.
+use Rattle.std.proofs.Common.{◌≡◌, ℕ, true, length, refl, sym, ◌∙◌, ap}
+use Rattle.std.proofs.lemmas.Bool.{false≢true}
+use Rattle.std.proofs.lemmas.Bool.Decides.{Decides-int_eq}
+use Rattle.std.proofs.lemmas.Cmp.{int_eq_equiv}
+use Rattle.oz_base.specs.declared.names.Ident.{Ident}
+use Rattle.oz_semantics.specs.Values.{literal_eq, constant_eq, is_like}
+use Rattle.oz_laws.proofs.SameLaws.{ident_eq-true, ident_eq-refl, and-left, and-right, eq-true, eq-refl}
+use Rattle.oz_semantics.specs.declared.token.Literal.{Literal}
+use Rattle.oz_semantics.specs.declared.token.Literal.TheVariants.{Atom, False, True, Unit as NoInfo}
+use Rattle.oz_semantics.specs.declared.kernel.Constant.{Constant}
+use Rattle.oz_semantics.specs.declared.kernel.Constant.TheVariants as constant
+use Rattle.oz_semantics.specs.declared.configuration.Value.{Value}
+use Rattle.oz_semantics.specs.declared.configuration.Value.TheVariants as value
+
+data Key : Type 0 where
+  constant_key : Constant → Key
+  tuple_key : Literal → ℕ → Key
+  procedure_key : Ident → Key
+
+abbrev key : Value → Key
+key (value.Constant c) = constant_key c
+key (value.Tuple t) = tuple_key t.label (length t.fields)
+key (value.Procedure p) = procedure_key p.name
+
+literal_eq-true : (a b : Literal) → literal_eq a b ≡ true → a ≡ b
+literal_eq-true (Atom a) (Atom b) e = ap (λ t. Atom t) (eq-true a b e)
+literal_eq-true False False e = refl
+literal_eq-true True True e = refl
+literal_eq-true NoInfo NoInfo e = refl
+literal_eq-true a b e = absurd (false≢true e)
+
+literal_eq-refl : (a : Literal) → literal_eq a a ≡ true
+literal_eq-refl (Atom a) = eq-refl a
+literal_eq-refl False = refl
+literal_eq-refl True = refl
+literal_eq-refl NoInfo = refl
+
+constant_eq-true : (a b : Constant) → constant_eq a b ≡ true → a ≡ b
+constant_eq-true (constant.Int m) (constant.Int n) e = ap (λ k. constant.Int k) ((Decides-int_eq m n).0 e)
+constant_eq-true (constant.Literal a) (constant.Literal b) e = ap (λ l. constant.Literal l) (literal_eq-true a b e)
+constant_eq-true a b e = absurd (false≢true e)
+
+constant_eq-refl : (a : Constant) → constant_eq a a ≡ true
+constant_eq-refl (constant.Int m) = int_eq_equiv.refl m
+constant_eq-refl (constant.Literal a) = literal_eq-refl a
+
+-- alike values have one key
+alike_key : (v w : Value) → is_like v w ≡ true → key v ≡ key w
+alike_key (value.Constant a) (value.Constant b) e = ap (λ s. constant_key s) (constant_eq-true a b e)
+alike_key (value.Tuple a) (value.Tuple b) e =
+    ap (λ l. tuple_key l (length a.fields)) (literal_eq-true a.label b.label (and-left _ _ e)) ∙ ap (λ n. tuple_key b.label n) (eq-true (length a.fields) (length b.fields) (and-right _ _ e))
+alike_key (value.Procedure a) (value.Procedure b) e = ap (λ n. procedure_key n) (ident_eq-true a.name b.name e)
+alike_key v w e = absurd (false≢true e)
+
+key_alike : (v w : Value) → key v ≡ key w → is_like v w ≡ true
+key_alike (value.Constant a) (value.Constant b) e = let k : a ≡ b = cc in rw k (constant_eq-refl b)
+key_alike (value.Tuple a) (value.Tuple b) e =
+    let k : a.label ≡ b.label = cc in
+    let l : length a.fields ≡ length b.fields = cc in
+    rw (k, l, literal_eq-refl b.label) (eq-refl (length b.fields))
+key_alike (value.Procedure a) (value.Procedure b) e = let k : a.name ≡ b.name = cc in rw k (ident_eq-refl b.name)
+key_alike v w e = cc
+
+pub alike-refl : (v : Value) → is_like v v ≡ true
+alike-refl v = key_alike v v refl
+
+pub alike-sym : (v w : Value) → is_like v w ≡ true → is_like w v ≡ true
+alike-sym v w e = key_alike w v (sym (alike_key v w e))
+
+pub alike-trans : (u v w : Value) → is_like u v ≡ true → is_like v w ≡ true → is_like u w ≡ true
+alike-trans u v w e f = key_alike u w (alike_key u v e ∙ alike_key v w f)

@@ -1,0 +1,158 @@
+use super::*;
+use oz_semantics::{Lexeme, Literal, Sort, Token};
+use std::alloc::Global;
+use std::test::*;
+
+// The tokens of a text as the grammar sees them.
+fn tokens(alloc: Global, text: &[u8]) -> Result<Vec<Token>, LexError> {
+    let found = lexemes(alloc, text)?;
+    let mut words = first_words(alloc)?;
+    let mut tokens = Vec::new(alloc);
+    for lexeme in &found {
+        tokens.push(token_of(&mut words, text, *lexeme)?)?;
+    }
+    Ok(tokens)
+}
+
+fn only_token(alloc: Global, text: &[u8]) -> Option<Token> {
+    match tokens(alloc, text) {
+        Ok(tokens) if tokens.len() == 1 => Some(tokens[0]),
+        _ => None,
+    }
+}
+
+fn bad_byte(alloc: Global, text: &[u8]) -> Option<usize> {
+    match lexemes(alloc, text) {
+        Err(LexError::BadByte { at }) => Some(at),
+        _ => None,
+    }
+}
+
+#[test]
+fn splits_a_program(rt: HostRuntime) -> Result<(), Fail> {
+    let found = tokens(
+        rt.alloc(),
+        b"local X in % one\n {F X} /* * */ X=f(a Script)\nend",
+    )
+    .ok()
+    .ok_or("tokens")?;
+    assert_eq!(rt;
+        found.as_slice(),
+        [
+            Token::Local,
+            Token::Var { name: 1, at: 6 },
+            Token::In,
+            Token::OpenBrace,
+            Token::Var { name: 2, at: 19 },
+            Token::Var { name: 1, at: 21 },
+            Token::CloseBrace,
+            Token::Var { name: 1, at: 32 },
+            Token::Equals,
+            Token::Label(Literal::Atom(3)),
+            Token::Literal(Literal::Atom(4)),
+            Token::Var { name: 0, at: 38 },
+            Token::CloseParen,
+            Token::End,
+        ]
+        .as_slice()
+    );
+    Ok(())
+}
+
+#[test]
+fn finds_the_longest(rt: HostRuntime) -> Result<(), Fail> {
+    let found = lexemes(rt.alloc(), b"X1.2 =<:[]f(if(")
+        .ok()
+        .ok_or("lexemes")?;
+    assert_eq!(rt;
+        found.as_slice(),
+        [
+            Lexeme {
+                sort: Sort::Var,
+                at: 0,
+                len: 2
+            },
+            Lexeme {
+                sort: Sort::Symbol,
+                at: 2,
+                len: 1
+            },
+            Lexeme {
+                sort: Sort::Int,
+                at: 3,
+                len: 1
+            },
+            Lexeme {
+                sort: Sort::Symbol,
+                at: 5,
+                len: 3
+            },
+            Lexeme {
+                sort: Sort::Symbol,
+                at: 8,
+                len: 2
+            },
+            Lexeme {
+                sort: Sort::Label,
+                at: 10,
+                len: 2
+            },
+            Lexeme {
+                sort: Sort::Word,
+                at: 12,
+                len: 2
+            },
+            Lexeme {
+                sort: Sort::Symbol,
+                at: 14,
+                len: 1
+            },
+        ]
+        .as_slice()
+    );
+    assert_eq!(rt;
+        only_token(rt.alloc(), b"true("),
+        Some(Token::Label(Literal::True))
+    );
+    Ok(())
+}
+
+#[test]
+fn names_the_bad_byte(rt: HostRuntime) -> Result<(), Fail> {
+    assert_eq!(rt; bad_byte(rt.alloc(), b"1.5"), Some(1));
+    assert_eq!(rt; bad_byte(rt.alloc(), b"X ~ 1"), Some(2));
+    assert_eq!(rt; bad_byte(rt.alloc(), b" /* x"), Some(1));
+    assert_eq!(rt; bad_byte(rt.alloc(), b"'a'"), Some(0));
+    assert_eq!(rt; bad_byte(rt.alloc(), b"\"s\""), Some(0));
+    assert_eq!(rt; bad_byte(rt.alloc(), b"X=&a"), Some(2));
+    assert_eq!(rt; bad_byte(rt.alloc(), b"\\"), Some(0));
+    assert_eq!(rt; bad_byte(rt.alloc(), b"1 . 5"), None);
+    Ok(())
+}
+
+#[test]
+fn keeps_to_the_limits_of_integers(rt: HostRuntime) -> Result<(), Fail> {
+    let past = Some(Token::Other { deepens: false });
+    assert_eq!(rt;
+        only_token(rt.alloc(), b"170141183460469231731687303715884105727"),
+        Some(Token::Int(i128::MAX))
+    );
+    assert_eq!(rt;
+        only_token(rt.alloc(), b"170141183460469231731687303715884105728"),
+        past
+    );
+    assert_eq!(rt;
+        only_token(rt.alloc(), b"~170141183460469231731687303715884105728"),
+        Some(Token::Int(i128::MIN))
+    );
+    assert_eq!(rt;
+        only_token(rt.alloc(), b"~170141183460469231731687303715884105729"),
+        past
+    );
+    assert_eq!(rt;
+        only_token(rt.alloc(), b"9999999999999999999999999999999999999999999"),
+        past
+    );
+    assert_eq!(rt; only_token(rt.alloc(), b"~007"), Some(Token::Int(-7)));
+    Ok(())
+}

@@ -1,0 +1,392 @@
+-- What is spelled is read: the steps over a phrase's tokens leave what the phrase, taken whole, leaves.
+use Rattle.std.proofs.Common.{◌≡◌, ℕ, ℤ, List, [], ◌∷◌, ◌++◌, Option, Some, None, Bool, true, false, ◌&&◌, refl, sym, ap, ◌∙◌, subst, append_assoc}
+use Rattle.std.proofs.lemmas.List.{append-nil}
+use Rattle.oz_semantics.specs.declared.token.Literal.{Literal}
+use Rattle.oz_semantics.specs.declared.token.Token.{Token}
+use Rattle.oz_semantics.specs.declared.token.Token.TheVariants.{Var, Int, Literal as Lit, Label, CloseBrace, CloseParen, Equals, Box, End, Fail, In, Skip}
+use Rattle.oz_semantics.specs.Grammar.{Phrase, Phrases, nothing, more, of_list, var, int, literal, tuple, skip, fail, equal, call, proc, local, choice, body, tokens_of, each, boxed, is_more, is_var, are_vars, expr, exprs, stmt, stmts, decls, is_body, bodies}
+use Rattle.reader_law.specs.Machine.{Opener, program, declaring, of_local, of_proc, of_choice, block, have, right, fields, parts, head, Stack, bind, is_some_item, add, add_statement, item_again, close, enter, next, step, run, accepted_of, finish, parse}
+use Rattle.reader_law.proofs.Basics.{split, or_left, guard_true, list_of, of_list-list_of, some_snoc, then_run}
+use Rattle.reader_law.proofs.Good.{Takes}
+
+-- ---- going on behind what is whole
+
+-- tokens that do not go on with an expression
+abbrev pub IsNext : Option Token → Type 0
+IsNext (Some Equals) = ⊥
+IsNext t = Unit {0}
+
+-- such a token finds the one as it finds the other
+pub record Settles (j k : Stack) : Type 0 where
+  pub on : (t : Option Token) → IsNext t → next t j ≡ next t k
+
+settled : (k : Stack) → Settles k k
+settled k = record { on = λ t i. refl }
+
+abbrev Starts : List Token → Type 0
+Starts [] = ⊥
+Starts (t ∷ ts) = IsNext (Some t)
+
+-- tokens go on from the one as from the other
+restart : (ts : List Token) (j k : Stack) → Settles j k → Starts ts → run (Some j) ts ≡ run (Some k) ts
+restart (t ∷ ts) j k s i = ap (λ q. run q ts) (s.on (Some t) i)
+restart [] j k s i = elim i [ ]
+
+goes_on : (us : List Token) (t : Token) (ts : List Token) (j k : Stack) → ((u : Token) → step u j ≡ step u k) → run (Some j) (us ++ t ∷ ts) ≡ run (Some k) (us ++ t ∷ ts)
+goes_on [] t ts j k f = ap (λ q. run q ts) (f t)
+goes_on (u ∷ us) t ts j k f = ap (λ q. run q (us ++ t ∷ ts)) (f u)
+
+opened : (t : Token) (ts : List Token) (k j : Stack) → step t k ≡ Some j → run (Some k) (t ∷ ts) ≡ run (Some j) ts
+opened t ts k j h = ap (λ q. run q ts) h
+
+-- ---- expressions
+
+opens_var : (name at : ℕ) (k : Stack) → Takes true k → step (Var name at) k ≡ Some (have (var name at) ∷ k)
+opens_var name at (block o d s ds ps ∷ k) h = refl
+opens_var name at (right a ∷ k) h = refl
+opens_var name at (fields l es ∷ k) h = refl
+opens_var name at (parts es ∷ k) h = refl
+opens_var name at k h = elim h [ ]
+
+opens_int : (i : ℤ) (k : Stack) → Takes false k → step (Int i) k ≡ Some (have (int i) ∷ k)
+opens_int i (block o d true ds ps ∷ k) h = refl
+opens_int i (block o d false ds ps ∷ k) h = absurd (cc)
+opens_int i (right a ∷ k) h = refl
+opens_int i (fields l es ∷ k) h = refl
+opens_int i (parts (p ∷ es) ∷ k) h = refl
+opens_int i (parts [] ∷ k) h = absurd (cc)
+opens_int i k h = elim h [ ]
+
+opens_literal : (l : Literal) (k : Stack) → Takes false k → step (Lit l) k ≡ Some (have (literal l) ∷ k)
+opens_literal l (block o d true ds ps ∷ k) h = refl
+opens_literal l (block o d false ds ps ∷ k) h = absurd (cc)
+opens_literal l (right a ∷ k) h = refl
+opens_literal l (fields l' es ∷ k) h = refl
+opens_literal l (parts (p ∷ es) ∷ k) h = refl
+opens_literal l (parts [] ∷ k) h = absurd (cc)
+opens_literal l k h = elim h [ ]
+
+opens_tuple : (l : Literal) (k : Stack) → Takes false k → step (Label l) k ≡ Some (fields l [] ∷ k)
+opens_tuple l (block o d true ds ps ∷ k) h = refl
+opens_tuple l (block o d false ds ps ∷ k) h = absurd (cc)
+opens_tuple l (right a ∷ k) h = refl
+opens_tuple l (fields l' es ∷ k) h = refl
+opens_tuple l (parts (p ∷ es) ∷ k) h = refl
+opens_tuple l (parts [] ∷ k) h = absurd (cc)
+opens_tuple l k h = elim h [ ]
+
+mutual
+  reads_expr : (e : Phrase) (k : Stack) → expr e ≡ true → Takes (is_var e) k → run (Some k) (tokens_of e) ≡ Some (have e ∷ k)
+  reads_expr (var name at) k h i = opens_var name at k i
+  reads_expr (int n) k h i = opens_int n k i
+  reads_expr (literal l) k h i = opens_literal l k i
+  reads_expr (tuple l es) k h i =
+      opened (Label l) (each es ++ CloseParen ∷ []) k (fields l [] ∷ k) (opens_tuple l k i)
+      ∙ reads_fields es l [] k h
+      ∙ ap (λ w. Some (have (tuple l w) ∷ k)) (of_list-list_of es)
+  reads_expr e k h i = absurd (cc)
+
+  reads_fields : (es : Phrases) (l : Literal) (done : List Phrase) (k : Stack) → exprs es ≡ true
+      → run (Some (fields l done ∷ k)) (each es ++ CloseParen ∷ []) ≡ Some (have (tuple l (of_list (done ++ list_of es))) ∷ k)
+  reads_fields nothing l done k h = ap (λ w. Some (have (tuple l (of_list w)) ∷ k)) (sym (append-nil done))
+  reads_fields (more e es) l done k h =
+      let i = split (expr e) (exprs es) h in
+      ap (run (Some (fields l done ∷ k))) (append_assoc (tokens_of e) (each es) (CloseParen ∷ []))
+      ∙ then_run (Some (fields l done ∷ k)) (tokens_of e) (each es ++ CloseParen ∷ []) _ (reads_expr e (fields l done ∷ k) i.fst tt)
+      ∙ goes_on (each es) CloseParen [] (have e ∷ fields l done ∷ k) (fields l (done ++ e ∷ []) ∷ k) (λ u. refl)
+      ∙ reads_fields es l (done ++ e ∷ []) k i.snd
+      ∙ ap (λ w. Some (have (tuple l (of_list w)) ∷ k)) (append_assoc done (e ∷ []) (list_of es))
+
+-- ---- the parts of a call and of a procedure's head
+
+reads_parts : (es : Phrases) (done : List Phrase) (k : Stack) → is_some_item done ≡ true → exprs es ≡ true
+    → run (Some (parts done ∷ k)) (each es ++ CloseBrace ∷ []) ≡ add_statement (call (of_list (done ++ list_of es))) k
+reads_parts nothing done k m h = guard_true (is_some_item done) _ m ∙ ap (λ w. add_statement (call (of_list w)) k) (sym (append-nil done))
+reads_parts (more e es) done k m h =
+    let i = split (expr e) (exprs es) h in
+    ap (run (Some (parts done ∷ k))) (append_assoc (tokens_of e) (each es) (CloseBrace ∷ []))
+    ∙ then_run (Some (parts done ∷ k)) (tokens_of e) (each es ++ CloseBrace ∷ []) _ (reads_expr e (parts done ∷ k) i.fst (or_left (is_some_item done) (is_var e) m))
+    ∙ goes_on (each es) CloseBrace [] (have e ∷ parts done ∷ k) (parts (done ++ e ∷ []) ∷ k) (λ u. refl)
+    ∙ reads_parts es (done ++ e ∷ []) k (some_snoc done e) i.snd
+    ∙ ap (λ w. add_statement (call (of_list w)) k) (append_assoc done (e ∷ []) (list_of es))
+
+reads_call : (p : Phrase) (es : Phrases) (k : Stack) → is_var p && exprs es ≡ true
+    → run (Some (parts [] ∷ k)) (each (more p es) ++ CloseBrace ∷ []) ≡ add_statement (call (more p es)) k
+reads_call (var name at) es k h =
+    goes_on (each es) CloseBrace [] (have (var name at) ∷ parts [] ∷ k) (parts (var name at ∷ []) ∷ k) (λ u. refl)
+    ∙ reads_parts es (var name at ∷ []) k refl h
+    ∙ ap (λ w. add_statement (call (more (var name at) w)) k) (of_list-list_of es)
+reads_call p es k h = absurd (cc)
+
+reads_head : (hs : Phrases) (done : List Phrase) (k : Stack) (rest : List Token) → are_vars hs ≡ true → is_some_item (done ++ list_of hs) ≡ true
+    → run (Some (head done ∷ k)) (each hs ++ CloseBrace ∷ rest) ≡ run (Some (block (of_proc (done ++ list_of hs)) true true [] [] ∷ k)) rest
+reads_head nothing done k rest h m =
+    ap (λ w. run w rest) (guard_true (is_some_item done) _ (ap is_some_item (sym (append-nil done)) ∙ m))
+    ∙ ap (λ w. run (Some (block (of_proc w) true true [] [] ∷ k)) rest) (sym (append-nil done))
+reads_head (more (var name at) hs) done k rest h m =
+    reads_head hs (done ++ var name at ∷ []) k rest h (ap is_some_item (append_assoc done (var name at ∷ []) (list_of hs)) ∙ m)
+    ∙ ap (λ w. run (Some (block (of_proc w) true true [] [] ∷ k)) rest) (append_assoc done (var name at ∷ []) (list_of hs))
+reads_head (more p hs) done k rest h m = absurd (cc)
+
+-- ---- what the tokens of sequences lead to
+
+-- from a block's beginning a body's tokens lead to where it may end
+record ReadsBody (x : Phrase) (o : Opener) (k : Stack) : Type 0 where
+  at : Stack
+  declares : Bool
+  before : List Phrase
+  done : List Phrase
+  whole : body (of_list before) (of_list done) ≡ x
+  reads : run (Some (block o true true [] [] ∷ k)) (tokens_of x) ≡ Some at
+  on : Settles at (block o declares true before done ∷ k)
+
+-- the tokens of a statement or of several, among statements
+record ReadsStmts (ts : List Token) (ss : Phrases) (j : Stack) (o : Opener) (ds ps : List Phrase) (k : Stack) : Type 0 where
+  at : Stack
+  declares : Bool
+  reads : run (Some j) ts ≡ Some at
+  on : Settles at (block o declares true ds (ps ++ list_of ss) ∷ k)
+
+-- the tokens of declarations
+record ReadsDecls (ds : Phrases) (o : Opener) (ps : List Phrase) (j k : Stack) : Type 0 where
+  at : Stack
+  states : Bool
+  reads : run (Some j) (each ds) ≡ Some at
+  on : Settles at (block o true states [] (ps ++ list_of ds) ∷ k)
+
+-- ---- statements
+
+pub adds : (p : Phrase) (o : Opener) (d : Bool) (ds ps : List Phrase) (k : Stack) → add_statement p (block o d true ds ps ∷ k) ≡ Some (block o (d && false) true ds (ps ++ p ∷ []) ∷ k)
+adds p o true ds ps k = refl
+adds p o false ds ps k = refl
+
+adds_proc : (p : Phrase) (o : Opener) (d : Bool) (ds ps : List Phrase) (k : Stack) → add p true true (block o d true ds ps ∷ k) ≡ Some (block o (d && true) true ds (ps ++ p ∷ []) ∷ k)
+adds_proc p o true ds ps k = refl
+adds_proc p o false ds ps k = refl
+
+-- a statement that ends by its own token
+reads_added : (p : Phrase) (ts : List Token) (o : Opener) (d : Bool) (ds ps : List Phrase) (k : Stack) → run (Some (block o d true ds ps ∷ k)) ts ≡ add_statement p (block o d true ds ps ∷ k)
+    → ReadsStmts ts (more p nothing) (block o d true ds ps ∷ k) o ds ps k
+reads_added p ts o d ds ps k h = record {
+  at = block o (d && false) true ds (ps ++ p ∷ []) ∷ k;
+  declares = d && false;
+  reads = h ∙ adds p o d ds ps k;
+  on = settled (block o (d && false) true ds (ps ++ p ∷ []) ∷ k);
+}
+
+reads_equal : (a b : Phrase) (o : Opener) (d : Bool) (ds ps : List Phrase) (k : Stack) → expr a ≡ true → expr b ≡ true
+    → ReadsStmts (tokens_of (equal a b)) (more (equal a b) nothing) (block o d true ds ps ∷ k) o ds ps k
+reads_equal a b o d ds ps k h i = record {
+  at = have b ∷ right a ∷ block o d true ds ps ∷ k;
+  declares = d && false;
+  reads =
+      then_run (Some (block o d true ds ps ∷ k)) (tokens_of a) (Equals ∷ tokens_of b) _ (reads_expr a (block o d true ds ps ∷ k) h refl)
+      ∙ reads_expr b (right a ∷ block o d true ds ps ∷ k) i tt;
+  on = record { on = λ t n. ap (λ q. bind q (item_again t)) (adds (equal a b) o d ds ps k) };
+}
+
+-- ---- constructs that hold bodies
+
+closes_end : (x : Phrase) (o : Opener) (k : Stack) (r : ReadsBody x o k) → run (Some (block o true true [] [] ∷ k)) (tokens_of x ++ End ∷ []) ≡ close (Some End) o r.before r.done k
+closes_end x o k r = then_run (Some (block o true true [] [] ∷ k)) (tokens_of x) (End ∷ []) _ r.reads ∙ r.on.on (Some End) tt
+
+reads_proc : (hs : Phrases) (b : Phrase) (o : Opener) (d s : Bool) (ds ps : List Phrase) (k : Stack) → is_more hs ≡ true → are_vars hs ≡ true
+    → ReadsBody b (of_proc (list_of hs)) (block o d s ds ps ∷ k)
+    → run (Some (block o d s ds ps ∷ k)) (tokens_of (proc hs b)) ≡ add (proc hs b) true true (block o d s ds ps ∷ k)
+reads_proc nothing b o d s ds ps k m h r = absurd (cc)
+reads_proc (more p hs) b o d s ds ps k m h r =
+    reads_head (more p hs) [] (block o d s ds ps ∷ k) (tokens_of b ++ End ∷ []) h refl
+    ∙ closes_end b (of_proc (p ∷ list_of hs)) (block o d s ds ps ∷ k) r
+    ∙ ap (λ w. add (proc (more p w) (body (of_list r.before) (of_list r.done))) true true (block o d s ds ps ∷ k)) (of_list-list_of hs)
+    ∙ ap (λ w. add (proc (more p hs) w) true true (block o d s ds ps ∷ k)) r.whole
+
+reads_local : (l : Phrase) (ls : Phrases) (b : Phrase) (o : Opener) (d : Bool) (ds ps : List Phrase) (k : Stack)
+    → ReadsDecls (more l ls) declaring [] (block declaring true false [] [] ∷ block o d true ds ps ∷ k) (block o d true ds ps ∷ k)
+    → ReadsBody b (of_local (l ∷ list_of ls)) (block o d true ds ps ∷ k)
+    → run (Some (block o d true ds ps ∷ k)) (tokens_of (local (more l ls) b)) ≡ add_statement (local (more l ls) b) (block o d true ds ps ∷ k)
+reads_local l ls b o d ds ps k q r =
+    then_run (Some (block declaring true false [] [] ∷ block o d true ds ps ∷ k)) (each (more l ls)) (In ∷ (tokens_of b ++ End ∷ [])) _ q.reads
+    ∙ ap (λ w. run w (tokens_of b ++ End ∷ [])) (q.on.on (Some In) tt)
+    ∙ closes_end b (of_local (l ∷ list_of ls)) (block o d true ds ps ∷ k) r
+    ∙ ap (λ w. add_statement (local (more l w) (body (of_list r.before) (of_list r.done))) (block o d true ds ps ∷ k)) (of_list-list_of ls)
+    ∙ ap (λ w. add_statement (local (more l ls) w) (block o d true ds ps ∷ k)) r.whole
+
+-- the last alternative, and one before others
+reads_last_box : (b : Phrase) (done : List Phrase) (k : Stack) → ReadsBody b (of_choice done) k
+    → run (Some (block (of_choice done) true true [] [] ∷ k)) (boxed (more b nothing) ++ End ∷ []) ≡ add_statement (choice (of_list (done ++ b ∷ []))) k
+reads_last_box b done k r =
+    ap (λ ts. run (Some (block (of_choice done) true true [] [] ∷ k)) (ts ++ End ∷ [])) (append-nil (tokens_of b))
+    ∙ closes_end b (of_choice done) k r
+    ∙ ap (λ w. add_statement (choice (of_list (done ++ w ∷ []))) k) r.whole
+
+reads_box : (b c : Phrase) (cs : Phrases) (done : List Phrase) (k : Stack) → ReadsBody b (of_choice done) k
+    → run (Some (block (of_choice (done ++ b ∷ [])) true true [] [] ∷ k)) (boxed (more c cs) ++ End ∷ []) ≡ add_statement (choice (of_list ((done ++ b ∷ []) ++ list_of (more c cs)))) k
+    → run (Some (block (of_choice done) true true [] [] ∷ k)) (boxed (more b (more c cs)) ++ End ∷ []) ≡ add_statement (choice (of_list (done ++ list_of (more b (more c cs))))) k
+reads_box b c cs done k r h =
+    ap (run (Some (block (of_choice done) true true [] [] ∷ k))) (append_assoc (tokens_of b) (Box ∷ boxed (more c cs)) (End ∷ []))
+    ∙ then_run (Some (block (of_choice done) true true [] [] ∷ k)) (tokens_of b) (Box ∷ (boxed (more c cs) ++ End ∷ [])) _ r.reads
+    ∙ ap (λ w. run w (boxed (more c cs) ++ End ∷ [])) (r.on.on (Some Box) tt)
+    ∙ ap (λ w. run (Some (block (of_choice (done ++ w ∷ [])) true true [] [] ∷ k)) (boxed (more c cs) ++ End ∷ [])) r.whole
+    ∙ h
+    ∙ ap (λ w. add_statement (choice (of_list w)) k) (append_assoc done (b ∷ []) (list_of (more c cs)))
+
+-- ---- sequences
+
+expr_starts : (e : Phrase) (rest : List Token) → expr e ≡ true → Starts (tokens_of e ++ rest)
+expr_starts (var name at) rest h = tt
+expr_starts (int i) rest h = tt
+expr_starts (literal l) rest h = tt
+expr_starts (tuple l es) rest h = tt
+expr_starts e rest h = absurd (cc)
+
+stmt_starts : (p : Phrase) (rest : List Token) → stmt p ≡ true → Starts (tokens_of p ++ rest)
+stmt_starts skip rest h = tt
+stmt_starts fail rest h = tt
+stmt_starts (equal a b) rest h = subst Starts (sym (append_assoc (tokens_of a) (Equals ∷ tokens_of b) rest)) (expr_starts a (Equals ∷ (tokens_of b ++ rest)) (split (expr a) (expr b) h).fst)
+stmt_starts (call es) rest h = tt
+stmt_starts (proc hs b) rest h = tt
+stmt_starts (local ds b) rest h = tt
+stmt_starts (choice bs) rest h = tt
+stmt_starts p rest h = absurd (cc)
+
+-- a statement, and those behind it
+next_stmt : (p : Phrase) (ss : Phrases) (j : Stack) (o : Opener) (d : Bool) (ds ps : List Phrase) (k : Stack) → stmt p ≡ true → Settles j (block o d true ds ps ∷ k)
+    → (r : ReadsStmts (tokens_of p) (more p nothing) (block o d true ds ps ∷ k) o ds ps k)
+    → ReadsStmts (each ss) ss r.at o ds (ps ++ p ∷ []) k → ReadsStmts (each (more p ss)) (more p ss) j o ds ps k
+next_stmt p ss j o d ds ps k h s r q = record {
+  at = q.at;
+  declares = q.declares;
+  reads =
+      restart (tokens_of p ++ each ss) j (block o d true ds ps ∷ k) s (stmt_starts p (each ss) h)
+      ∙ then_run (Some (block o d true ds ps ∷ k)) (tokens_of p) (each ss) _ r.reads
+      ∙ q.reads;
+  on = subst (λ w. Settles q.at (block o q.declares true ds w ∷ k)) (append_assoc ps (p ∷ []) (list_of ss)) q.on;
+}
+
+-- a variable among declarations
+settles_var : (name at : ℕ) (o : Opener) (s : Bool) (ps : List Phrase) (k : Stack) → Settles (have (var name at) ∷ block o true s [] ps ∷ k) (block o true (s && false) [] (ps ++ var name at ∷ []) ∷ k)
+settles_var name at o s ps k = record { on = found }
+  where
+    found : (t : Option Token) → IsNext t → next t (have (var name at) ∷ block o true s [] ps ∷ k) ≡ next t (block o true (s && false) [] (ps ++ var name at ∷ []) ∷ k)
+    found (Some Equals) i = elim i [ ]
+    found t i = refl
+
+next_decl : (p : Phrase) (ds : Phrases) (o : Opener) (ps : List Phrase) (j j' k : Stack) → run (Some j) (tokens_of p) ≡ Some j' → ReadsDecls ds o (ps ++ p ∷ []) j' k → ReadsDecls (more p ds) o ps j k
+next_decl p ds o ps j j' k h r = record {
+  at = r.at;
+  states = r.states;
+  reads = then_run (Some j) (tokens_of p) (each ds) _ h ∙ r.reads;
+  on = subst (λ w. Settles r.at (block o true r.states [] w ∷ k)) (append_assoc ps (p ∷ []) (list_of ds)) r.on;
+}
+
+-- ---- bodies
+
+-- what holds a body
+abbrev HoldsBody : Opener → Type 0
+HoldsBody declaring = ⊥
+HoldsBody o = Unit {0}
+
+enters_body : (o : Opener) (d : Phrase) (ds : List Phrase) (k : Stack) → HoldsBody o → enter o true (d ∷ ds) k ≡ Some (block o false true (d ∷ ds) [] ∷ k)
+enters_body declaring d ds k h = elim h [ ]
+enters_body o d ds k h = refl
+
+plain_body : (ss : Phrases) (o : Opener) (k : Stack) → ReadsStmts (each ss) ss (block o true true [] [] ∷ k) o [] [] k → ReadsBody (body nothing ss) o k
+plain_body ss o k r = record {
+  at = r.at;
+  declares = r.declares;
+  before = [];
+  done = list_of ss;
+  whole = ap (body nothing) (of_list-list_of ss);
+  reads = r.reads;
+  on = r.on;
+}
+
+declared_body : (d : Phrase) (ds ss : Phrases) (o : Opener) (k : Stack) → HoldsBody o → ReadsDecls (more d ds) o [] (block o true true [] [] ∷ k) k
+    → ReadsStmts (each ss) ss (block o false true (d ∷ list_of ds) [] ∷ k) o (d ∷ list_of ds) [] k → ReadsBody (body (more d ds) ss) o k
+declared_body d ds ss o k h r q = record {
+  at = q.at;
+  declares = q.declares;
+  before = d ∷ list_of ds;
+  done = list_of ss;
+  whole = ap (λ w. body (more d w) (of_list (list_of ss))) (of_list-list_of ds) ∙ ap (body (more d ds)) (of_list-list_of ss);
+  reads =
+      ap (run (Some (block o true true [] [] ∷ k))) (append_assoc (each (more d ds)) (In ∷ []) (each ss))
+      ∙ then_run (Some (block o true true [] [] ∷ k)) (each (more d ds)) (In ∷ each ss) _ r.reads
+      ∙ ap (λ w. run w (each ss)) (r.on.on (Some In) tt ∙ enters_body o d (list_of ds) k h)
+      ∙ q.reads;
+  on = q.on;
+}
+
+-- ---- the whole grammar
+
+mutual
+  reads_stmt : (p : Phrase) (o : Opener) (d : Bool) (ds ps : List Phrase) (k : Stack) → stmt p ≡ true → ReadsStmts (tokens_of p) (more p nothing) (block o d true ds ps ∷ k) o ds ps k
+  reads_stmt skip o d ds ps k h = reads_added skip (Skip ∷ []) o d ds ps k refl
+  reads_stmt fail o d ds ps k h = reads_added fail (Fail ∷ []) o d ds ps k refl
+  reads_stmt (equal a b) o d ds ps k h = let i = split (expr a) (expr b) h in reads_equal a b o d ds ps k i.fst i.snd
+  reads_stmt (call (more p es)) o d ds ps k h = reads_added (call (more p es)) (tokens_of (call (more p es))) o d ds ps k (reads_call p es (block o d true ds ps ∷ k) h)
+  reads_stmt (proc hs b) o d ds ps k h =
+      let i = split (is_more hs) (are_vars hs && is_body b) h in
+      let j = split (are_vars hs) (is_body b) i.snd in
+      record {
+        at = block o (d && true) true ds (ps ++ proc hs b ∷ []) ∷ k;
+        declares = d && true;
+        reads = reads_proc hs b o d true ds ps k i.fst j.fst (reads_body b (of_proc (list_of hs)) (block o d true ds ps ∷ k) tt j.snd) ∙ adds_proc (proc hs b) o d ds ps k;
+        on = settled (block o (d && true) true ds (ps ++ proc hs b ∷ []) ∷ k);
+      }
+  reads_stmt (local (more l ls) b) o d ds ps k h =
+      let i = split (decls (more l ls)) (is_body b) h in
+      reads_added (local (more l ls) b) (tokens_of (local (more l ls) b)) o d ds ps k
+      (reads_local l ls b o d ds ps k
+      (reads_decls (more l ls) declaring false [] (block declaring true false [] [] ∷ block o d true ds ps ∷ k) (block o d true ds ps ∷ k) i.fst (settled (block declaring true false [] [] ∷ block o d true ds ps ∷ k)))
+      (reads_body b (of_local (l ∷ list_of ls)) (block o d true ds ps ∷ k) tt i.snd))
+  reads_stmt (choice bs) o d ds ps k h =
+      let i = split (is_more bs) (bodies bs) h in
+      reads_added (choice bs) (tokens_of (choice bs)) o d ds ps k (reads_boxed bs [] (block o d true ds ps ∷ k) i.fst i.snd ∙ ap (λ w. add_statement (choice w) (block o d true ds ps ∷ k)) (of_list-list_of bs))
+  reads_stmt p o d ds ps k h = absurd (cc)
+
+  reads_stmts : (ss : Phrases) (j : Stack) (o : Opener) (d : Bool) (ds ps : List Phrase) (k : Stack) → stmts ss ≡ true → Settles j (block o d true ds ps ∷ k) → ReadsStmts (each ss) ss j o ds ps k
+  reads_stmts nothing j o d ds ps k h s = record { at = j; declares = d; reads = refl; on = subst (λ w. Settles j (block o d true ds w ∷ k)) (sym (append-nil ps)) s }
+  reads_stmts (more p ss) j o d ds ps k h s =
+      let i = split (stmt p) (stmts ss) h in
+      let r = reads_stmt p o d ds ps k i.fst in
+      next_stmt p ss j o d ds ps k i.fst s r (reads_stmts ss r.at o r.declares ds (ps ++ p ∷ []) k i.snd r.on)
+
+  reads_decls : (ds : Phrases) (o : Opener) (s : Bool) (ps : List Phrase) (j k : Stack) → decls ds ≡ true → Settles j (block o true s [] ps ∷ k) → ReadsDecls ds o ps j k
+  reads_decls nothing o s ps j k h r = record { at = j; states = s; reads = refl; on = subst (λ w. Settles j (block o true s [] w ∷ k)) (sym (append-nil ps)) r }
+  reads_decls (more (var name at) ds) o s ps j k h r =
+      next_decl (var name at) ds o ps j (have (var name at) ∷ block o true s [] ps ∷ k) k (r.on (Some (Var name at)) tt)
+      (reads_decls ds o (s && false) (ps ++ var name at ∷ []) (have (var name at) ∷ block o true s [] ps ∷ k) k h (settles_var name at o s ps k))
+  reads_decls (more (proc hs b) ds) o s ps j k h r =
+      let i = split (is_more hs && (are_vars hs && is_body b)) (decls ds) h in
+      let v = split (is_more hs) (are_vars hs && is_body b) i.fst in
+      let w = split (are_vars hs) (is_body b) v.snd in
+      next_decl (proc hs b) ds o ps j (block o true (s && true) [] (ps ++ proc hs b ∷ []) ∷ k) k
+      (restart (tokens_of (proc hs b)) j (block o true s [] ps ∷ k) r tt ∙ reads_proc hs b o true s [] ps k v.fst w.fst (reads_body b (of_proc (list_of hs)) (block o true s [] ps ∷ k) tt w.snd))
+      (reads_decls ds o (s && true) (ps ++ proc hs b ∷ []) (block o true (s && true) [] (ps ++ proc hs b ∷ []) ∷ k) k i.snd (settled (block o true (s && true) [] (ps ++ proc hs b ∷ []) ∷ k)))
+  reads_decls (more d ds) o s ps j k h r = absurd (cc)
+
+  reads_boxed : (bs : Phrases) (done : List Phrase) (k : Stack) → is_more bs ≡ true → bodies bs ≡ true
+      → run (Some (block (of_choice done) true true [] [] ∷ k)) (boxed bs ++ End ∷ []) ≡ add_statement (choice (of_list (done ++ list_of bs))) k
+  reads_boxed nothing done k m h = absurd (cc)
+  reads_boxed (more b nothing) done k m h = reads_last_box b done k (reads_body b (of_choice done) k tt (split (is_body b) true h).fst)
+  reads_boxed (more b (more c cs)) done k m h =
+      let i = split (is_body b) (bodies (more c cs)) h in
+      reads_box b c cs done k (reads_body b (of_choice done) k tt i.fst) (reads_boxed (more c cs) (done ++ b ∷ []) k refl i.snd)
+
+  reads_body : (x : Phrase) (o : Opener) (k : Stack) → HoldsBody o → is_body x ≡ true → ReadsBody x o k
+  reads_body (body nothing ss) o k i h = plain_body ss o k (reads_stmts ss (block o true true [] [] ∷ k) o true [] [] k h (settled (block o true true [] [] ∷ k)))
+  reads_body (body (more d ds) ss) o k i h =
+      let v = split (decls (more d ds)) (stmts ss) h in
+      declared_body d ds ss o k i
+      (reads_decls (more d ds) o true [] (block o true true [] [] ∷ k) k v.fst (settled (block o true true [] [] ∷ k)))
+      (reads_stmts ss (block o false true (d ∷ list_of ds) [] ∷ k) o false (d ∷ list_of ds) [] k v.snd (settled (block o false true (d ∷ list_of ds) [] ∷ k)))
+  reads_body x o k i h = absurd (cc)
+
+-- a program's tokens are read as the program
+pub parses : (p : Phrase) → is_body p ≡ true → parse (tokens_of p) ≡ Some p
+parses p h =
+    let r = reads_body p program [] tt h in
+    ap (λ w. bind w finish) r.reads
+    ∙ ap (λ w. bind w accepted_of) (r.on.on None tt)
+    ∙ ap Some r.whole
