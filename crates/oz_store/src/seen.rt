@@ -1,5 +1,5 @@
 //! What a space sees: the tells of its ancestors and its own, and what they make equal.
-ghost use Rattle.std.specs.Prelude.{◌≡◌, ◌∷◌, ◌++◌, List, [], nat_eq, option_copied, if◌then◌else◌, OnOk, OnErr, IfOk};
+ghost use Rattle.std.specs.Prelude.{◌≡◌, ◌∷◌, ◌++◌, List, [], length, nat_eq, option_copied, if◌then◌else◌, OnOk, OnErr, IfOk};
 ghost use Rattle.std.specs.List.{starts_with, list_all};
 ghost use Rattle.oz_base.specs.Lists.{first_given, holds_of};
 ghost use Rattle.oz_semantics.specs.Names.{is_below};
@@ -63,6 +63,13 @@ impl Seen {
         tells.push(tell.copied(alloc)?)?;
         *self = Seen::of_tells(alloc, tells)?;
         Ok(())
+    }
+
+    /// How many tells there are.
+    pub fn len(&self) -> usize
+        ensures { result ≡ length self.now }
+    {
+        self.tells.len()
     }
 
     /// Whether the tells make two variables equal.

@@ -1,0 +1,47 @@
+//! The text of a term within a number of nodes.
+ghost use Rattle.std.specs.Prelude.{◌≡◌, IfOk};
+ghost use Rattle.oz_semantics.specs.Texts.{term_text};
+ghost use Rattle.term_text.specs.TextWithin.{IsTextWithin};
+
+use crate::printer::{Printer, Term};
+use oz_base::{Ident, Sequence};
+use oz_store::Seen;
+use std::alloc::{AllocError, Global};
+
+/// The text of a term, and how many nodes it has.
+#[derive(Drop)]
+pub struct Text {
+    pub bytes: Sequence<u8>,
+    pub nodes: u64,
+}
+
+/// The text of a variable's term in a view. `None` where the term has more nodes than the fuel. It refuses where there is no memory.
+///
+/// An atom's text is its word. `^K` stands for the K-th of the enclosing tuples, the innermost being 1. The time goes with the
+/// nodes that are printed, at most as many as the fuel, and for each tuple with those that enclose it; the depth of a term takes
+/// memory, but no stack.
+pub fn term_text<'a>(
+    alloc: Global,
+    words: &[Sequence<u8>],
+    seen: &'a Seen,
+    variable: &'a Ident,
+    fuel: u64,
+) -> Result<Option<Text>, AllocError>
+    ensures { IfOk result (IsTextWithin (term_text words.now seen.now variable.now) fuel) }
+{
+    let bound = seen.len().checked_add(1).ok_or(AllocError)?;
+    let mut printer = Printer::new(alloc);
+    let mut term = Term { variable, bound };
+    for nodes in 0..fuel {
+        match printer.step(alloc, words, seen, &term)? {
+            Some(next) => term = next,
+            None => {
+                return Ok(Some(Text {
+                    bytes: Sequence::from_vec(printer.bytes),
+                    nodes: nodes + 1,
+                }));
+            }
+        }
+    }
+    Ok(None)
+}
