@@ -6,4 +6,4 @@ mod PlanLaws
 mod StateLaws
 mod RunLaws
 mod TurnLaws
-mod ScriptLaws
+mod TextLaws

@@ -1,12 +1,9 @@
 -- What the calls of a machine answer.
 use Rattle.std.specs.Prelude.{ℕ, ◌-◌, ◌≡◌, ◌≤◌, ◌<◌, true, false, List, Option, Some, None}
 use Rattle.oz_base.specs.declared.names.Ident.{Ident}
-use Rattle.oz_base.specs.Lists.{holds_of}
-use Rattle.oz_semantics.specs.Store.{value_of}
-use Rattle.oz_semantics.specs.declared.configuration.Tell.{Tell}
 use Rattle.oz_semantics.specs.Spaces.{state}
 use Rattle.oz_semantics.specs.Runs as runs
-use Rattle.oz_semantics.specs.Search.{is_script, has_script, script_variable}
+use Rattle.oz_semantics.specs.Search.{has_script, script_variable}
 use Rattle.oz_machine.specs.Machines.{Loaded}
 use Rattle.oz_machine.specs.declared.machine.Ran.{Ran}
 use Rattle.oz_machine.specs.declared.machine.Ran.TheVariants.{Ended, TopEnded, OutOfFuel}
@@ -17,11 +14,6 @@ IsRun m space fuel r (Ended state_found steps) =
     (steps ≤ fuel) × (r ≡ runs.Ended m.config (fuel - steps)) × (state_found ≡ state m.kernel.statements m.config.layers space)
 IsRun m space fuel r (TopEnded raise steps) = (steps ≤ fuel) × (r ≡ runs.TopRaised m.config (fuel - steps) raise)
 IsRun m space fuel r OutOfFuel = r ≡ runs.Over m.config
-
--- the script's variable, where a view makes it a procedure of one parameter
-abbrev pub HasScript : List Tell → Ident → Option Ident → Type 0
-HasScript view script None = holds_of is_script (value_of view script) ≡ false
-HasScript view script (Some x) = (holds_of is_script (value_of view script) ≡ true) × (x ≡ script)
 
 -- the variable of the script, where that is a procedure of one parameter
 abbrev pub IsScript : Loaded → Option Ident → Type 0

@@ -1,7 +1,9 @@
 //! The machine: a loaded program, shared by all copies, and a configuration.
-ghost use Rattle.std.specs.Prelude.{◌≡◌, ◌≤◌, ◌&&◌, not, IfOk, OnOk, option_copied};
+ghost use Rattle.std.specs.Prelude.{◌≡◌, ◌≤◌, ◌&&◌, not, [], IfOk, OnOk, option_copied};
 ghost use Rattle.std.specs.Arc.{arc_value};
 ghost use Rattle.oz_base.specs.Lists.{is_empty, holds_of};
+ghost use Rattle.oz_semantics.specs.Store.{value_of};
+ghost use Rattle.oz_semantics.specs.Configurations.{view};
 ghost use Rattle.oz_semantics.specs.Spaces.{goes_on};
 ghost use Rattle.oz_semantics.specs.Schedule.{turn};
 ghost use Rattle.oz_semantics.specs.Texts.{raise_text};
@@ -9,7 +11,7 @@ ghost use Rattle.oz_semantics.specs.Runs.{opening, run};
 ghost use Rattle.oz_semantics.specs.Search.{is_script, with_root, search_space, chosen_in, state_text};
 ghost use Rattle.oz_machine.specs.Settling.{CostsOne};
 ghost use Rattle.oz_machine.specs.Texts.{PrintsWithin};
-ghost use Rattle.oz_machine.specs.Answers.{IsRun, HasScript, IsScript};
+ghost use Rattle.oz_machine.specs.Answers.{IsRun, IsScript};
 ghost use Rattle.oz_machine.specs.Views.{views_of};
 
 use crate::creation::{commit, create, opening_layer};
@@ -19,7 +21,7 @@ use crate::texts::{Text, state_text};
 use crate::turn::step;
 use crate::views::views_of;
 use oz_base::{Copies, Ident, Sequence};
-use oz_semantics::{Configuration, Kernel, Raise, State, Statement, Stepped, Value};
+use oz_semantics::{Configuration, Kernel, Layer, Raise, State, Statement, Stepped, Value};
 use oz_store::{Seen, seen_by};
 use std::alloc::{AllocError, Global};
 use std::marker::Model;
@@ -115,14 +117,15 @@ impl Machine {
     pub fn script(&self, alloc: Global) -> Result<Option<Ident>, AllocError>
         ensures { IfOk result (IsScript self.now) }
     {
-        let top = Sequence::new(alloc);
         let script = Ident {
             space: Sequence::new(alloc),
             number: 0,
         };
-        let layers = self.configuration.layers.as_slice();
-        let seen = seen_by(alloc, layers, &top)?;
-        Ok(script_found(&seen, script))
+        if has_script(alloc, self.configuration.layers.as_slice(), &script)? {
+            Ok(Some(script))
+        } else {
+            Ok(None)
+        }
     }
 
     /// Makes the search root, a child of the top that applies the procedure to its root variable, and gives its name.
@@ -207,15 +210,13 @@ fn is_script(value: Option<&Value>) -> bool
     }
 }
 
-/// The script's variable, where the top makes that a procedure of one parameter.
-fn script_found(seen: &Seen, script: Ident) -> Option<Ident>
-    ensures { HasScript seen.now script result }
+/// Whether the top makes the variable a procedure of one parameter.
+fn has_script(alloc: Global, layers: &[Layer], script: &Ident) -> Result<bool, AllocError>
+    ensures { IfOk result (λ has. has ≡ holds_of is_script (value_of (view layers.now []) script.now)) }
 {
-    if is_script(seen.value(&script)) {
-        Some(script)
-    } else {
-        None
-    }
+    let top = Sequence::new(alloc);
+    let seen = seen_by(alloc, layers, &top)?;
+    Ok(is_script(seen.value(script)))
 }
 
 /// Whether something of the space's subtree can step, and a thread stands in the queue.

@@ -1,14 +1,15 @@
 //! The text that is shown of a leaf.
-ghost use Rattle.std.specs.Prelude.{◌≡◌, [], IfOk};
+ghost use Rattle.std.specs.Prelude.{◌≡◌, ℕ, [], IfOk};
 ghost use Rattle.oz_semantics.specs.Names.{root_of};
 ghost use Rattle.oz_semantics.specs.Configurations.{view};
 ghost use Rattle.oz_semantics.specs.Texts.{Printed, term_text, raise_text};
 ghost use Rattle.oz_semantics.specs.Search.{state_text};
+ghost use Rattle.term_text.specs.TextWithin.{IsTextWithin};
 ghost use Rattle.oz_machine.specs.Texts.{IsPrinted, PrintsWithin};
 
 use oz_base::{Copies, Ident, Sequence};
 use oz_semantics::{Configuration, Raise, State};
-use oz_store::{Seen, seen_by};
+use oz_store::seen_by;
 use std::alloc::{AllocError, Global};
 
 /// A text, and what printing it costs: a step for each node of its term.
@@ -59,18 +60,20 @@ fn no_text(alloc: Global, fuel: u64) -> Result<Option<Text>, AllocError>
     Ok(within(make_text(alloc, b"", 0)?, fuel))
 }
 
-fn term_text(
-    alloc: Global,
-    _words: &[Sequence<u8>],
-    _seen: &Seen,
-    _variable: &Ident,
-    _fuel: u64,
-) -> Result<Option<Text>, AllocError>
-    ensures { IfOk result (PrintsWithin (term_text _words.now _seen.now _variable.now) _fuel) }
+/// A node is a step.
+fn counted(text: Option<term_text::Text>) -> Option<Text>
+    ensures { (printed : Printed) (fuel : ℕ) → IsTextWithin printed fuel text → PrintsWithin printed fuel result }
 {
-    Ok(Some(make_text(alloc, b"_", 1)?))
+    match text {
+        None => None,
+        Some(text) => Some(Text {
+            bytes: text.bytes,
+            steps: text.nodes,
+        }),
+    }
 }
 
+/// The term of the root variable, of what its space sees.
 fn root_text(
     alloc: Global,
     words: &[Sequence<u8>],
@@ -85,7 +88,8 @@ fn root_text(
         number: 0,
     };
     let seen = seen_by(alloc, configuration.layers.as_slice(), space)?;
-    term_text(alloc, words, &seen, &root, fuel)
+    let text = term_text::term_text(alloc, words, &seen, &root, fuel)?;
+    Ok(counted(text))
 }
 
 /// What is shown of a space in this state. None exactly where that costs more than the fuel.
