@@ -1,8 +1,9 @@
 mod Firsts
 mod Edits
-mod Views
+mod Sights
 mod Readies
+mod PlanLaws
 mod StateLaws
-mod Makes
 mod RunLaws
 mod TurnLaws
+mod TextLaws

@@ -1,16 +1,77 @@
--- What a call does, by whether its procedure is determined.
-use Rattle.std.proofs.Common.{◌≡◌, Bool, true, false, List, [], None, refl, if◌then◌else◌}
+-- What a call waits for, by whether its procedure is determined; and offers, in which what is seen has no part.
+use Rattle.std.proofs.Common.{◌≡◌, ℕ, ◌&&◌, ◌||◌, Bool, true, false, not, List, [], ◌∷◌, Option, Some, None, refl, sym, ap, if◌then◌else◌}
+use Rattle.std.specs.Prelude.{is_some}
+use Rattle.std.specs.List.{list_any, filter_map}
+use Rattle.oz_base.specs.Lists.{first, edit_first}
 use Rattle.oz_base.specs.declared.names.Ident.{Ident}
-use Rattle.oz_semantics.specs.Statements.{Steps, Waits, steps, waits_of, offer_of}
+use Rattle.oz_semantics.specs.Store.{same, is_determined}
+use Rattle.oz_semantics.specs.Configurations.{view}
+use Rattle.oz_semantics.specs.Statements.{Steps, Waits, awaits, statement_ready, code_ready, top_ready, thread_ready, steps, waits_of, offer_of}
+use Rattle.oz_semantics.specs.Spaces.{is_held, chosen, offers, committing, offer_in}
+use Rattle.oz_semantics.specs.declared.kernel.Statement.{Statement}
+use Rattle.oz_semantics.specs.declared.kernel.Statement.TheVariants.{Skip, Fail, Local, Equate, Bind, BindTuple, BindProcedure, Call, Choice}
+use Rattle.oz_semantics.specs.declared.configuration.Binding.{Binding}
+use Rattle.oz_semantics.specs.declared.configuration.Code.{Code}
+use Rattle.oz_semantics.specs.declared.configuration.Code.TheVariants as code
+use Rattle.oz_semantics.specs.declared.configuration.Frame.{Frame}
+use Rattle.oz_semantics.specs.declared.configuration.Tell.{Tell}
+use Rattle.oz_semantics.specs.declared.configuration.Thread.{Thread}
+use Rattle.oz_semantics.specs.declared.configuration.Layer.{Layer}
 
-pub steps_if : (b : Bool) (xs : List Ident) → b ≡ steps (if b then Steps else Waits xs)
+steps_if : (b : Bool) (xs : List Ident) → b ≡ steps (if b then Steps else Waits xs)
 steps_if true xs = refl
 steps_if false xs = refl
 
-pub no_offer : (b : Bool) (xs : List Ident) → None ≡ offer_of (if b then Steps else Waits xs)
+pub steps_determined : (view : List Tell) (x : Ident) → is_determined view x ≡ steps (awaits view x)
+steps_determined view x = steps_if (is_determined view x) (x ∷ [])
+
+held_if : (b a : Bool) (held : Ident → Bool) (x : Ident) → held x ≡ (not b && a) → held x ≡ list_any held (waits_of (if b then Steps else Waits (x ∷ [])))
+held_if true a held x e = e
+held_if false true held x e = rw e refl
+held_if false false held x e = rw e refl
+
+-- a wait for a variable is one for these where it is held
+pub held_awaited : (view : List Tell) (held : List Ident) (x : Ident) → is_held view held x ≡ list_any (is_held view held) (waits_of (awaits view x))
+held_awaited view held x = held_if (is_determined view x) (list_any (same view x) held) (is_held view held) x refl
+
+no_offer : (b : Bool) (xs : List Ident) → offer_of (if b then Steps else Waits xs) ≡ None
 no_offer true xs = refl
 no_offer false xs = refl
 
-pub waits_if : (b d : Bool) (xs : List Ident) → b ≡ d → (if b then [] else xs) ≡ waits_of (if d then Steps else Waits xs)
-waits_if true d xs e = rw (← e) refl
-waits_if false d xs e = rw (← e) refl
+offer_of_statement : (view : List Tell) (environment : List Binding) (s : Option Statement) → offer_of (statement_ready view environment s) ≡ offer_of (statement_ready [] environment s)
+offer_of_statement view environment (Some (Call procedure arguments)) = no_offer (is_determined view _) _
+offer_of_statement view environment (Some Skip) = refl
+offer_of_statement view environment (Some Fail) = refl
+offer_of_statement view environment (Some (Local names body)) = refl
+offer_of_statement view environment (Some (Equate left right)) = refl
+offer_of_statement view environment (Some (Bind name v)) = refl
+offer_of_statement view environment (Some (BindTuple name label fields)) = refl
+offer_of_statement view environment (Some (BindProcedure name parameters body)) = refl
+offer_of_statement view environment (Some (Choice alternatives)) = refl
+offer_of_statement view environment None = refl
+
+offer_of_code : (statements : List Statement) (view : List Tell) (environment : List Binding) (k : Code) → offer_of (code_ready statements view environment k) ≡ offer_of (code_ready statements [] environment k)
+offer_of_code statements view environment (code.Statement n) = offer_of_statement view environment _
+offer_of_code statements view environment (code.Apply procedure argument) = no_offer (is_determined view procedure) _
+
+offer_of_top : (statements : List Statement) (view : List Tell) (top : Option Frame) → offer_of (top_ready statements view top) ≡ offer_of (top_ready statements [] top)
+offer_of_top statements view (Some frame) = offer_of_code statements view frame.environment frame.code
+offer_of_top statements view None = refl
+
+-- what a thread offers, whatever is seen
+pub offer_anywhere : (statements : List Statement) (view : List Tell) (t : Thread) → offer_of (thread_ready statements view t) ≡ offer_of (thread_ready statements [] t)
+offer_anywhere statements view t = offer_of_top statements view (first t.frames)
+
+pub offers_anywhere : (statements : List Statement) (view : List Tell) → offers statements view ≡ offers statements []
+offers_anywhere statements view = λ i t. ap is_some (offer_anywhere statements view t) i
+
+-- so what is chosen
+pub commits_anywhere : (statements : List Statement) (view : List Tell) (i : ℕ) (l : Layer) → committing statements [] i l ≡ committing statements view i l
+commits_anywhere statements view i l =
+    ap (λ (test : Thread → Bool). record l { threads = edit_first test (λ t. record t { frames = chosen statements i t.frames }) l.threads }) (sym (offers_anywhere statements view))
+
+-- and the first offer
+pub first_offer_anywhere : (statements : List Statement) (layers : List Layer) (l : Layer)
+    → first (filter_map (λ t. offer_of (thread_ready statements [] t)) l.threads) ≡ offer_in statements layers l
+first_offer_anywhere statements layers l =
+    ap (λ (offer : Thread → Option ℕ). first (filter_map offer l.threads)) (λ i t. sym (offer_anywhere statements (view layers l.space) t) i)

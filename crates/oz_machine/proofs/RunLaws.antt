@@ -6,7 +6,7 @@ use Rattle.oz_semantics.specs.Names.{is_top}
 use Rattle.oz_semantics.specs.Configurations.{layer_at, thread_at, in_layer, without_gone, ending}
 use Rattle.oz_semantics.specs.Statements.{Effect, Becomes, Raises, code_effect}
 use Rattle.oz_semantics.specs.Spaces.{goes_on}
-use Rattle.oz_semantics.specs.Schedule.{Turned, top_is_broken, settled, status_by, raised, after_effect, place_of, stepped_thread, stepped_layer, frames_in, turn}
+use Rattle.oz_semantics.specs.Schedule.{Turned, top_is_broken, settled, status_by, raised, after_effect, place_of, stepped_thread, stepped_layer, stepped, frames_in, turn}
 use Rattle.oz_semantics.specs.Runs.{Ran, Ended, TopRaised, Over, after_turn, run_for}
 use Rattle.oz_semantics.specs.declared.kernel.Statement.{Statement}
 use Rattle.oz_semantics.specs.declared.configuration.Frame.{Frame}
@@ -61,17 +61,9 @@ costs_by (Moved cost, c) h = h
 costs_by (TopEnded raise cost, c) h = h
 costs_by (Quiescent, c) h = tt
 
--- a turn costs 1, where it makes a step
-pub turn_costs : (statements : List Statement) (c : Configuration) → CostsOne (turn statements c).0
-turn_costs statements c = go (is_empty c.queue) refl
-  where
-    go : (b : Bool) → is_empty c.queue ≡ b → CostsOne (turn statements c).0
-    go false e = costs_by (turn statements c) (turn_paid statements c e)
-    go true e = quiet c.layers c.queue e
-      where
-        quiet : (layers : List Layer) (queue : List Ident) → is_empty queue ≡ true → CostsOne (turn statements (record { layers = layers; queue = queue })).0
-        quiet layers [] k = tt
-        quiet layers (id ∷ queue) k = cc
+-- the step of a thread costs 1
+pub stepped_costs : (statements : List Statement) (id : Ident) (c : Configuration) → CostsOne (stepped statements id c).0
+stepped_costs statements id c = costs_by (stepped statements id c) (layer_paid statements id (layer_at c.layers id.space) c)
 
 -- Runs
 

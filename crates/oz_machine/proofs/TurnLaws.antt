@@ -1,21 +1,23 @@
 -- How the parts of a step make up the turn.
 use Rattle.std.proofs.Common.{◌≡◌, ℕ, ◌==◌, Bool, true, false, cond, List, [], ◌∷◌, Option, Some, None, slice_set, refl, sym, subst, ap, ap₂, ◌∙◌}
 use Rattle.oz_base.specs.declared.names.Ident.{Ident}
-use Rattle.oz_semantics.specs.Configurations.{is_of, thread_at, in_layer, in_thread, with_frames, without_gone}
+use Rattle.oz_semantics.specs.Configurations.{ending, view, is_of, thread_at, in_layer, in_thread, with_frames, without_gone}
 use Rattle.oz_semantics.specs.Statements.{Place, Effect, Becomes, Raises, code_effect}
-use Rattle.oz_semantics.specs.Schedule.{settled, raised, after_effect, place_of, stepped_thread, stepped_layer, stepped, frames_in}
+use Rattle.oz_semantics.specs.Names.{is_top}
+use Rattle.oz_semantics.specs.Schedule.{status_by, settled, raised, after_effect, place_of, stepped_thread, stepped_layer, stepped, frames_in}
 use Rattle.oz_semantics.specs.Runs.{left_by}
 use Rattle.oz_semantics.specs.declared.kernel.Statement.{Statement}
 use Rattle.oz_semantics.specs.declared.configuration.Frame.{Frame}
 use Rattle.oz_semantics.specs.declared.configuration.Thread.{Thread}
+use Rattle.oz_semantics.specs.declared.configuration.Tell.{Tell}
+use Rattle.oz_semantics.specs.declared.configuration.Status.{Status}
 use Rattle.oz_semantics.specs.declared.configuration.Layer.{Layer}
 use Rattle.oz_semantics.specs.declared.configuration.Configuration.{Configuration}
 use Rattle.oz_semantics.specs.declared.outcome.Raise.{Raise}
 use Rattle.oz_machine.specs.Places.{IsFirst}
-use Rattle.oz_machine.specs.Moves.{rest_of, moved, effect_of, HasPlan}
+use Rattle.oz_machine.specs.Moves.{rest_of, moved, Refuses, HasPlan}
 use Rattle.oz_machine.specs.Settling.{is_settled}
 use Rattle.oz_machine.specs.declared.moves.Move.{Move}
-use Rattle.oz_machine.specs.declared.moves.Move.TheVariants as move
 
 -- what settling leaves
 pub left_settled : (statements : List Statement) (b : Bool) (c d : Configuration) → ((cost : ℕ) → settled statements None cost c ≡ is_settled b cost d) → (cost : ℕ) → left_by (settled statements None cost c) ≡ d
@@ -59,11 +61,12 @@ module _ (statements : List Statement) (id : Ident) (layers : List Layer) (queue
       ∙ ap (λ fs. stepped_thread statements id l0 fs c) found
       ∙ ap (after_effect statements id c) effect
 
-  -- one that fails raises
-  pub stepped_fails : (cause : Raise) → HasPlan statements layers l0 id.number (Some (move.Fails cause))
+  -- one that is refused raises
+  pub stepped_fails : (m : Move) (cause : Raise) → HasPlan statements (view layers l0.space) l0 id.number (Some m) → Refuses (view layers l0.space) m (Some cause)
       → stepped statements id (record { layers = layers; queue = queue }) ≡ raised statements id cause (record { layers = layers; queue = queue })
-  stepped_fails cause (frame, rest, found, effect) =
-      stepped_by frame rest (Raises cause) found (effect (place_of layers id l0 rest) (record { sees = refl; space = refl; procedures = refl }))
+  stepped_fails m cause (frame, rest, found, effect) refuses =
+      let at : Place = place_of layers id l0 rest in
+      stepped_by frame rest (Raises cause) found (effect at (record { sees = refl; space = refl; procedures = refl; variables = refl }) ∙ refuses at refl)
 
   -- what is left where the layer at the place is replaced
   replaced : (m : Layer) → slice_set layers place m ≡ in_layer id.space (λ l. m) layers
@@ -72,34 +75,36 @@ module _ (statements : List Statement) (id : Ident) (layers : List Layer) (queue
   moves_on : (m : Move) (frame : Frame) (rest : List Frame) → frames_in (thread_at l0.threads id.number) ≡ frame ∷ rest → moved id.number m (with_frames id.number rest_of l0) ≡ moved id.number m (with_frames id.number (λ frames. rest) l0)
   moves_on m frame rest found = sym (ap (λ ts. moved id.number m (record l0 { threads = ts })) (taken id.number l0.threads frame rest found))
 
-  -- one that does anything else edits the layer
-  pub stepped_moves : (m : Move) → ((cause : Raise) → m ≡ move.Fails cause → ⊥) → HasPlan statements layers l0 id.number (Some m)
+  -- one that is not edits the layer
+  pub stepped_moves : (m : Move) → HasPlan statements (view layers l0.space) l0 id.number (Some m) → Refuses (view layers l0.space) m None
       → stepped statements id (record { layers = layers; queue = queue })
       ≡ settled statements (Some id) 1 (record { layers = slice_set layers place (without_gone (moved id.number m (with_frames id.number rest_of l0))); queue = queue })
-  stepped_moves m other (frame, rest, found, effect) =
+  stepped_moves m (frame, rest, found, effect) refuses =
       let at : Place = place_of layers id l0 rest in
       stepped_by frame rest (Becomes (moved id.number m (with_frames id.number (λ frames. rest) l0))) found
-      (effect at (record { sees = refl; space = refl; procedures = refl }) ∙ becomes m other)
+      (effect at (record { sees = refl; space = refl; procedures = refl; variables = refl }) ∙ refuses at refl)
       ∙ ap (λ ls. settled statements (Some id) 1 (record { layers = ls; queue = queue }))
       (sym (replaced (without_gone (moved id.number m (with_frames id.number rest_of l0))) ∙ ap (λ (k : Layer). in_layer id.space (λ l. without_gone k) layers) (moves_on m frame rest found)))
-    where
-      becomes : (m : Move) → ((cause : Raise) → m ≡ move.Fails cause → ⊥) → effect_of (place_of layers id l0 rest) m ≡ Becomes (moved id.number m (with_frames id.number (λ frames. rest) l0))
-      becomes move.Stays o = refl
-      becomes (move.Tells t) o = refl
-      becomes (move.Makes t) o = refl
-      becomes (move.Enters environment body) o = refl
-      becomes (move.Fails cause) o = absurd (o cause refl)
-
--- settling a configuration that is known by equations
-pub opened : (st st' : List Statement) (ls ls' : List Layer) (q q' : List Ident) (b : Bool) (d : Configuration)
-    → ((cost : ℕ) → settled st None cost (record { layers = ls; queue = q }) ≡ is_settled b cost d) → st ≡ st' → ls ≡ ls' → q ≡ q'
-    → d ≡ left_by (settled st' None 0 (record { layers = ls'; queue = q' }))
-opened st st' ls ls' q q' b d h e k m =
-    sym (left_settled st b (record { layers = ls; queue = q }) d h 0)
-    ∙ ap (λ (s : List Statement). left_by (settled s None 0 (record { layers = ls; queue = q }))) e
-    ∙ ap₂ (λ (l : List Layer) (r : List Ident). left_by (settled st' None 0 (record { layers = l; queue = r }))) k m
 
 -- a plan for a layer that is known by equations
-pub plan_as : (st : List Statement) (ls ls' : List Layer) (l l' : Layer) (n : ℕ) (o o' : Option Move) → HasPlan st ls l n o → ls ≡ ls' → l ≡ l' → o ≡ o' → HasPlan st ls' l' n o'
-plan_as st ls ls' l l' n o o' h e k m =
-    subst (λ (p : Option Move). HasPlan st ls' l' n p) m (subst (λ (y : Layer). HasPlan st ls' y n o) k (subst (λ (xs : List Layer). HasPlan st xs l n o) e h))
+pub plan_as : (st : List Statement) (v v' : List Tell) (l l' : Layer) (n : ℕ) (o o' : Option Move) → HasPlan st v l n o → v ≡ v' → l ≡ l' → o ≡ o' → HasPlan st v' l' n o'
+plan_as st v v' l l' n o o' h e k m =
+    subst (λ (p : Option Move). HasPlan st v' l' n p) m (subst (λ (y : Layer). HasPlan st v' y n o) k (subst (λ (xs : List Tell). HasPlan st xs l n o) e h))
+
+-- and its refusal
+pub refuses_as : (v v' : List Tell) (m : Move) (o o' : Option Raise) → Refuses v m o → v ≡ v' → o ≡ o' → Refuses v' m o'
+refuses_as v v' m o o' h e k = subst (λ (p : Option Raise). Refuses v' m p) k (subst (λ (xs : List Tell). Refuses xs m o) e h)
+
+-- what follows an edit of a configuration that is known by equations
+pub opened : (st st' : List Statement) (ls ls' : List Layer) (q q' : List Ident) (d : Configuration) → left_by (settled st None 0 (record { layers = ls; queue = q })) ≡ d
+    → st ≡ st' → ls ≡ ls' → q ≡ q' → d ≡ left_by (settled st' None 0 (record { layers = ls'; queue = q' }))
+opened st st' ls ls' q q' d h e k m =
+    sym h ∙ ap (λ (s : List Statement). left_by (settled s None 0 (record { layers = ls; queue = q }))) e
+    ∙ ap₂ (λ (l : List Layer) (r : List Ident). left_by (settled st' None 0 (record { layers = l; queue = r }))) k m
+
+-- an exception below the top ends its space
+pub raised_below : (st : List Statement) (id : Ident) (raise : Raise) (c : Configuration) (layers : List Layer) (s : Status) → is_top id.space ≡ false
+    → layers ≡ ending id.space s c.layers → s ≡ status_by raise → settled st (Some id) 1 (record { layers = layers; queue = c.queue }) ≡ raised st id raise c
+raised_below st id raise c layers s below e k =
+    let ends : raised st id raise c ≡ settled st (Some id) 1 (record c { layers = ending id.space (status_by raise) c.layers }) = rw below refl in
+    ap (λ (ls : List Layer). settled st (Some id) 1 (record { layers = ls; queue = c.queue })) (e ∙ ap (λ (t : Status). ending id.space t c.layers) k) ∙ sym ends

@@ -2,12 +2,9 @@
 use Rattle.std.specs.Prelude.{ℕ, ◌-◌, ◌≡◌, ◌≤◌, ◌<◌, true, false, List, Option, Some, None}
 use Rattle.oz_base.specs.declared.names.Ident.{Ident}
 use Rattle.oz_semantics.specs.Spaces.{state}
-use Rattle.oz_semantics.specs.Texts.{Printed}
 use Rattle.oz_semantics.specs.Runs as runs
 use Rattle.oz_semantics.specs.Search.{has_script, script_variable}
 use Rattle.oz_machine.specs.Machines.{Loaded}
-use Rattle.oz_machine.specs.Texts.{IsPrinted}
-use Rattle.oz_machine.specs.declared.texts.Text.{Text}
 use Rattle.oz_machine.specs.declared.machine.Ran.{Ran}
 use Rattle.oz_machine.specs.declared.machine.Ran.TheVariants.{Ended, TopEnded, OutOfFuel}
 
@@ -22,8 +19,3 @@ IsRun m space fuel r OutOfFuel = r ≡ runs.Over m.config
 abbrev pub IsScript : Loaded → Option Ident → Type 0
 IsScript m None = has_script m.config ≡ false
 IsScript m (Some x) = (has_script m.config ≡ true) × (x ≡ script_variable)
-
--- a text that costs no more than the fuel, or none where it would
-abbrev pub PrintsWithin : Printed → ℕ → Option Text → Type 0
-PrintsWithin printed fuel (Some text) = IsPrinted printed text × (text.steps ≤ fuel)
-PrintsWithin printed fuel None = fuel < printed.nodes

@@ -1,8 +1,8 @@
 //! The opening configuration, the creation of spaces, and the commitment of a choice.
 ghost use Rattle.std.specs.Prelude.{◌≡◌, ◌≤◌, ◌-◌, [], IfOk, OnOk, option_copied, position, MatchOption, slice_get, unwrap_or};
 ghost use Rattle.oz_semantics.specs.Names.{space_lt};
-ghost use Rattle.oz_semantics.specs.Configurations.{view, layer_at, spawning, new_layer, placed, next_child, frames_of};
-ghost use Rattle.oz_semantics.specs.Spaces.{rooted, created, counting_child, alternative, chosen, offers, committed};
+ghost use Rattle.oz_semantics.specs.Configurations.{layer_at, spawning, new_layer, placed, next_child, frames_of};
+ghost use Rattle.oz_semantics.specs.Spaces.{rooted, created, counting_child, alternative, chosen, offers, committing, committed};
 ghost use Rattle.oz_semantics.specs.Runs.{opening_environment};
 ghost use Rattle.oz_semantics.specs.Search.{name_in};
 ghost use Rattle.oz_semantics.specs.declared.configuration.Layer.{Layer};
@@ -12,8 +12,10 @@ ghost use Rattle.oz_machine.specs.Places.{IsAbsent, IsFirst};
 use crate::moves::push_frames;
 use crate::places::layer_place;
 use crate::readiness::thread_offer;
-use oz_base::{Copies, Ident, Sequence, Stack};
-use oz_semantics::{Binding, Code, Frame, Kernel, Layer, Next, Statement, Status, Thread};
+use oz_base::{Copies, Ident, Sequence, Shared, Stack};
+use oz_semantics::{
+    Binding, Code, Environment, Frame, Kernel, Layer, Name, Next, Statement, Status, Thread,
+};
 use std::alloc::{AllocError, Global};
 
 fn new_layer(alloc: Global, space: Sequence<u32>) -> Layer
@@ -42,18 +44,18 @@ fn spawn(layer: &mut Layer, frames: Stack<Frame>) -> Result<(), AllocError>
     layer.threads.push(Thread { number, frames })
 }
 
-fn opening_environment(alloc: Global) -> Result<Stack<Binding>, AllocError>
+fn opening_environment(alloc: Global) -> Result<Environment, AllocError>
     ensures { IfOk result (λ environment. environment ≡ opening_environment) }
 {
     let mut environment = Stack::new(alloc);
     environment.push(Binding {
-        name: 0,
+        name: Name::Word(0),
         variable: Ident {
             space: Sequence::new(alloc),
             number: 0,
         },
     })?;
-    Ok(environment)
+    Shared::new(alloc, environment)
 }
 
 /// The top with its one thread, which has the program's statements.
@@ -81,7 +83,7 @@ fn rooted(alloc: Global, space: Sequence<u32>, procedure: &Ident) -> Result<Laye
                 number: 0,
             },
         },
-        environment: Stack::new(alloc),
+        environment: Shared::new(alloc, Stack::new(alloc))?,
     })?;
     let mut layer = new_layer(alloc, space);
     spawn(&mut layer, frames)?;
@@ -199,41 +201,40 @@ fn choose(
     }
 }
 
-fn offers(
-    statements: &[Statement],
-    layers: &[Layer],
-    space: &Sequence<u32>,
-    thread: &Thread,
-) -> bool
-    ensures { result ≡ offers statements.now (view layers.now space.now) thread.now }
+fn offers(statements: &[Statement], thread: &Thread) -> bool
+    ensures { result ≡ offers statements.now [] thread.now }
 {
-    thread_offer(statements, layers, space, thread).is_some()
+    thread_offer(statements, thread).is_some()
 }
 
-fn offer_position(
-    statements: &[Statement],
-    layers: &[Layer],
-    space: &Sequence<u32>,
-    threads: &[Thread],
-) -> Option<usize>
-    ensures { result ≡ position (offers statements.now (view layers.now space.now)) threads.now }
+fn offer_position(statements: &[Statement], threads: &[Thread]) -> Option<usize>
+    ensures { result ≡ position (offers statements.now []) threads.now }
 {
-    threads
-        .iter()
-        .position(|thread| offers(statements, layers, space, thread))
+    threads.iter().position(|thread| offers(statements, thread))
 }
 
-/// The place of the offer of least number.
-fn offer_place(
-    statements: &[Statement],
-    layers: &[Layer],
-    space: &Sequence<u32>,
-    threads: &Sequence<Thread>,
-) -> Option<usize>
-    ensures { MatchOption result (IsAbsent (offers statements.now (view layers.now space.now)) threads.now)
-        (λ place. (t : Thread) × IsFirst (offers statements.now (view layers.now space.now)) threads.now place t) }
+/// The place of the offer of least number. What the space sees has no part in it.
+fn offer_place(statements: &[Statement], threads: &Sequence<Thread>) -> Option<usize>
+    ensures { MatchOption result (IsAbsent (offers statements.now []) threads.now)
+        (λ place. (t : Thread) × IsFirst (offers statements.now []) threads.now place t) }
 {
-    offer_position(statements, layers, space, threads.as_slice())
+    offer_position(statements, threads.as_slice())
+}
+
+fn commit_layer(
+    alloc: Global,
+    statements: &[Statement],
+    index: u64,
+    layer: &mut Layer,
+) -> Result<(), AllocError>
+    requires { 1 ≤ index }
+    ensures { OnOk result (layer.new ≡ committing statements.now [] index layer.old) }
+{
+    let Some(place) = offer_place(statements, &layer.threads) else {
+        return Ok(());
+    };
+    let thread = layer.threads.get_mut(place);
+    choose(alloc, statements, index, &mut thread.frames)
 }
 
 /// The offer of least number in a space goes on with one of its alternatives, from 1.
@@ -250,15 +251,6 @@ pub fn commit(
     let Some(place) = layer_place(layers, space) else {
         return Ok(());
     };
-    let threads = &layers.get(place).threads;
-    let Some(thread) = offer_place(statements, layers.as_slice(), space, threads) else {
-        return Ok(());
-    };
-    let layer = layers.get_mut(place);
-    choose(
-        alloc,
-        statements,
-        index,
-        &mut layer.threads.get_mut(thread).frames,
-    )
+    commit_layer(alloc, statements, index, layers.get_mut(place))?;
+    Ok(())
 }

@@ -2,15 +2,19 @@
 #![tactic(auto)]
 
 mod creation;
+mod environments;
 mod machine;
 mod moves;
 mod places;
+mod plans;
 mod queue;
 mod readiness;
 mod settling;
+mod spaces;
 mod states;
-mod store;
 mod texts;
 mod turn;
+mod views;
 
-pub use machine::{Machine, Ran, Text, exception_text};
+pub use machine::{Machine, Ran};
+pub use texts::{Text, exception_text};

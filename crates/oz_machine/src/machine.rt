@@ -1,25 +1,28 @@
 //! The machine: a loaded program, shared by all copies, and a configuration.
-ghost use Rattle.std.specs.Prelude.{◌≡◌, ◌≤◌, ◌&&◌, not, IfOk, OnOk, option_copied};
+ghost use Rattle.std.specs.Prelude.{◌≡◌, ◌≤◌, ◌&&◌, not, [], IfOk, OnOk, option_copied};
 ghost use Rattle.std.specs.Arc.{arc_value};
 ghost use Rattle.oz_base.specs.Lists.{is_empty, holds_of};
+ghost use Rattle.oz_semantics.specs.Store.{value_of};
+ghost use Rattle.oz_semantics.specs.Configurations.{view};
 ghost use Rattle.oz_semantics.specs.Spaces.{goes_on};
 ghost use Rattle.oz_semantics.specs.Schedule.{turn};
-ghost use Rattle.oz_semantics.specs.Texts.{Printed, raise_text};
+ghost use Rattle.oz_semantics.specs.Texts.{raise_text};
 ghost use Rattle.oz_semantics.specs.Runs.{opening, run};
 ghost use Rattle.oz_semantics.specs.Search.{is_script, with_root, search_space, chosen_in, state_text};
 ghost use Rattle.oz_machine.specs.Settling.{CostsOne};
-ghost use Rattle.oz_machine.specs.Texts.{IsPrinted};
-ghost use Rattle.oz_machine.specs.Answers.{IsRun, IsScript, PrintsWithin};
+ghost use Rattle.oz_machine.specs.Texts.{PrintsWithin};
+ghost use Rattle.oz_machine.specs.Answers.{IsRun, IsScript};
+ghost use Rattle.oz_machine.specs.Views.{views_of};
 
 use crate::creation::{commit, create, opening_layer};
-use crate::settling::settle;
+use crate::settling::settle_edit;
 use crate::states::{goes_on, state};
-use crate::store::value_of;
-pub use crate::texts::Text;
-use crate::texts::{self, state_text};
+use crate::texts::{Text, state_text};
 use crate::turn::step;
+use crate::views::views_of;
 use oz_base::{Copies, Ident, Sequence};
-use oz_semantics::{Configuration, Kernel, Raise, State, Statement, Stepped, Value};
+use oz_semantics::{Configuration, Kernel, Layer, Raise, State, Statement, Stepped, Value};
+use oz_store::{Seen, seen_by};
 use std::alloc::{AllocError, Global};
 use std::marker::Model;
 use std::sync::Arc;
@@ -84,7 +87,13 @@ impl Machine {
             kernel,
             configuration,
         } = self;
-        step(alloc, kernel.statements.as_slice(), configuration)
+        let mut views = views_of(alloc, configuration.layers.as_slice())?;
+        step(
+            alloc,
+            kernel.statements.as_slice(),
+            configuration,
+            &mut views,
+        )
     }
 
     /// Turns while something of the space's subtree can step, for no more than the fuel.
@@ -105,19 +114,17 @@ impl Machine {
     }
 
     /// The variable of `Script`. None exactly where that is no procedure of one parameter.
-    pub fn script(&self, alloc: Global) -> Option<Ident>
-        ensures { IsScript self.now result }
+    pub fn script(&self, alloc: Global) -> Result<Option<Ident>, AllocError>
+        ensures { IfOk result (IsScript self.now) }
     {
-        let top = Sequence::new(alloc);
         let script = Ident {
             space: Sequence::new(alloc),
             number: 0,
         };
-        let layers = self.configuration.layers.as_slice();
-        if is_script(value_of(layers, &top, &script)) {
-            Some(script)
+        if has_script(alloc, self.configuration.layers.as_slice(), &script)? {
+            Ok(Some(script))
         } else {
-            None
+            Ok(None)
         }
     }
 
@@ -133,7 +140,7 @@ impl Machine {
         } = self;
         let top = Sequence::new(alloc);
         let space = create(alloc, &mut configuration.layers, &top, procedure)?;
-        settle(alloc, kernel.statements.as_slice(), None, configuration)?;
+        settle_edit(alloc, kernel.statements.as_slice(), configuration)?;
         Ok(space)
     }
 
@@ -154,8 +161,7 @@ impl Machine {
         } = self;
         let statements = kernel.statements.as_slice();
         commit(alloc, statements, space, index, &mut configuration.layers)?;
-        settle(alloc, statements, None, configuration)?;
-        Ok(())
+        settle_edit(alloc, statements, configuration)
     }
 
     /// What is shown of a space in this state. None exactly where that costs more than the fuel.
@@ -168,36 +174,9 @@ impl Machine {
     ) -> Result<Option<Text>, AllocError>
         ensures { IfOk result (PrintsWithin (state_text self.now.kernel.words self.now.config space.now state) fuel) }
     {
-        text_within(alloc, &self.kernel, &self.configuration, space, state, fuel)
+        let words = self.kernel.words.as_slice();
+        state_text(alloc, words, &self.configuration, space, state, fuel)
     }
-}
-
-fn text_within(
-    alloc: Global,
-    kernel: &Kernel,
-    configuration: &Configuration,
-    space: &Sequence<u32>,
-    state: State,
-    fuel: u64,
-) -> Result<Option<Text>, AllocError>
-    ensures { IfOk result (PrintsWithin (state_text kernel.now.words configuration.now space.now state) fuel) }
-{
-    let words = kernel.words.as_slice();
-    let text = state_text(alloc, words, configuration, space, state)?;
-    Ok(within(text, fuel))
-}
-
-/// The text of an exception of the top. None exactly where that costs more than the fuel.
-pub fn exception_text(alloc: Global, raise: Raise, fuel: u64) -> Result<Option<Text>, AllocError>
-    ensures { IfOk result (PrintsWithin (raise_text raise) fuel) }
-{
-    Ok(within(texts::raise_text(alloc, raise)?, fuel))
-}
-
-fn within(text: Text, fuel: u64) -> Option<Text>
-    ensures { (printed : Printed) → IsPrinted printed text → PrintsWithin printed fuel result }
-{
-    if text.steps <= fuel { Some(text) } else { None }
 }
 
 fn share(alloc: Global, kernel: Kernel) -> Result<Arc<Kernel, Global>, AllocError>
@@ -218,12 +197,7 @@ fn opening_of(alloc: Global, kernel: &Kernel) -> Result<Configuration, AllocErro
         layers,
         queue: Sequence::new(alloc),
     };
-    settle(
-        alloc,
-        kernel.statements.as_slice(),
-        None,
-        &mut configuration,
-    )?;
+    settle_edit(alloc, kernel.statements.as_slice(), &mut configuration)?;
     Ok(configuration)
 }
 
@@ -236,11 +210,33 @@ fn is_script(value: Option<&Value>) -> bool
     }
 }
 
+/// Whether the top makes the variable a procedure of one parameter.
+fn has_script(alloc: Global, layers: &[Layer], script: &Ident) -> Result<bool, AllocError>
+    ensures { IfOk result (λ has. has ≡ holds_of is_script (value_of (view layers.now []) script.now)) }
+{
+    let top = Sequence::new(alloc);
+    let seen = seen_by(alloc, layers, &top)?;
+    Ok(is_script(seen.value(script)))
+}
+
 /// Whether something of the space's subtree can step, and a thread stands in the queue.
-fn may_turn(statements: &[Statement], configuration: &Configuration, space: &Sequence<u32>) -> bool
+fn may_turn(
+    alloc: Global,
+    statements: &[Statement],
+    configuration: &Configuration,
+    views: &Sequence<Seen>,
+    space: &Sequence<u32>,
+) -> bool
+    requires { views.now ≡ views_of configuration.now.layers }
     ensures { result ≡ (goes_on statements.now configuration.now.layers space.now && not (is_empty configuration.now.queue)) }
 {
-    goes_on(statements, configuration.layers.as_slice(), space) && !is_empty(&configuration.queue)
+    goes_on(
+        alloc,
+        statements,
+        configuration.layers.as_slice(),
+        views.as_slice(),
+        space,
+    ) && !is_empty(&configuration.queue)
 }
 
 fn is_empty(queue: &Sequence<Ident>) -> bool
@@ -260,18 +256,24 @@ fn run(
     ensures { IfOk result (IsRun (record { kernel = kernel.now; config = configuration.new }) space.now fuel (run kernel.now.statements space.now configuration.old fuel)) }
 {
     let statements = kernel.statements.as_slice();
+    let mut views = views_of(alloc, configuration.layers.as_slice())?;
     let mut left = fuel;
-    'turns: while may_turn(statements, configuration, space) {
+    'turns: while may_turn(alloc, statements, configuration, &views, space) {
         if left == 0 {
             return Ok(Ran::OutOfFuel);
         }
-        if let Stepped::TopEnded { raise, .. } = step(alloc, statements, configuration)? {
+        if let Stepped::TopEnded { raise, .. } = step(
+            alloc,
+            statements,
+            configuration,
+            &mut views,
+        )? {
             let steps = fuel - left + 1;
             return Ok(Ran::TopEnded { raise, steps });
         }
         left -= 1;
     }
-    let state = state(alloc, statements, &configuration.layers, space)?;
+    let state = state(alloc, statements, &configuration.layers, &views, space)?;
     let steps = fuel - left;
     Ok(Ran::Ended { state, steps })
 }

@@ -1,232 +1,69 @@
-//! What a thread's top statement does.
-ghost use Rattle.std.specs.Prelude.{◌≡◌, ◌++◌, ◌∷◌, [], not, filter, Some, IfOk, OnOk, option_copied};
+//! What a step does with the layer of its thread.
+ghost use Rattle.std.specs.Prelude.{◌≡◌, ◌++◌, ◌∷◌, [], not, filter, IfOk, OnOk, option_copied};
 ghost use Rattle.oz_base.specs.Lists.{first, is_empty};
-ghost use Rattle.oz_semantics.specs.Names.{named};
-ghost use Rattle.oz_semantics.specs.Configurations.{view, bound, thread_at, in_thread, with_frames, without_gone, frames_of};
-ghost use Rattle.oz_semantics.specs.Statements.{Place, tells_then, procedure_made, counting_procedure, statement_effect, call_effect, code_effect};
+ghost use Rattle.oz_semantics.specs.Store.{is_consistent};
+ghost use Rattle.oz_semantics.specs.Configurations.{thread_at, in_thread, with_frames, without_gone, frames_of};
 ghost use Rattle.oz_semantics.specs.Schedule.{frames_in};
 ghost use Rattle.oz_semantics.specs.declared.configuration.Thread.{Thread};
-ghost use Rattle.oz_machine.specs.Moves.{rest_of, moved, effect_of, variable_in, variable_of, value_in, IsPlaceIn};
+ghost use Rattle.oz_machine.specs.Moves.{rest_of, moved, RefusesTell, Refuses};
 
 use crate::places::thread_place;
-use crate::store::{is_consistent_with, value_of};
-use oz_base::{Copies, Ident, Sequence, Stack};
-use oz_semantics::{Binding, Code, Frame, Layer, Procedure, Raise, Statement, Tell, Thread, Value};
+use oz_base::{Copies, Sequence, Stack};
+use oz_semantics::{Code, Environment, Frame, Layer, Raise, Tell, Thread};
+use oz_store::Seen;
 use std::alloc::{AllocError, Global};
-use std::{mem, slice};
+use std::mem;
 
 /// What a step is to do with the layer of its thread.
 #[derive(Drop)]
 pub enum Move {
     Stays,
+    /// Tells something, where that is consistent.
     Tells(Tell),
-    /// Tells a new procedure value.
+    /// Tells a new procedure value, where that is consistent.
     Makes(Tell),
     /// Goes on with a body.
     Enters {
-        environment: Stack<Binding>,
+        environment: Environment,
+        body: Sequence<u32>,
+    },
+    /// Gives out so many variables, and goes on with a body.
+    Opens {
+        fresh: u32,
+        environment: Environment,
         body: Sequence<u32>,
     },
     Fails(Raise),
 }
 
-/// The variable of an identifier.
-fn bound(alloc: Global, environment: &Stack<Binding>, name: u32) -> Result<Ident, AllocError>
-    ensures { IfOk result (λ variable. variable ≡ bound environment.now name) }
+/// Whether a tell is inconsistent with what a space sees. It is added to that.
+fn is_refused(alloc: Global, seen: &mut Seen, tell: &Tell) -> Result<bool, AllocError>
+    ensures { IfOk result (λ refused. refused ≡ not (is_consistent (seen.old ++ tell.now ∷ []))) }
 {
-    match binding_of(environment, name) {
-        Some(binding) => binding.variable.copied(alloc),
-        None => Ok(Ident {
-            space: Sequence::new(alloc),
-            number: 0,
-        }),
-    }
+    seen.tell(alloc, tell)?;
+    Ok(!seen.is_consistent())
 }
 
-/// The innermost binding of an identifier.
-fn binding_of(environment: &Stack<Binding>, name: u32) -> Option<&Binding>
-    ensures { bound environment.now name ≡ variable_in (option_copied result) }
+/// The exception that a tell raises, if it does.
+fn tell_refusal(alloc: Global, seen: &mut Seen, tell: &Tell) -> Result<Option<Raise>, AllocError>
+    ensures { IfOk result (RefusesTell seen.old tell.now) }
 {
-    let mut found = None;
-    for binding in environment.from_bottom() {
-        if binding.name == name {
-            found = Some(binding);
-        }
-    }
-    found
-}
-
-/// Tells a value, where that is consistent.
-fn plan_tell(layers: &[Layer], space: &Sequence<u32>, tell: Tell) -> Move
-    ensures { (p : Place) → p.view ≡ view layers.now space.now → tells_then p (variable_of tell) (value_in tell) (λ l. l) ≡ effect_of p result }
-{
-    if is_consistent_with(layers, space, slice::from_ref(&tell)) {
-        Move::Tells(tell)
+    if is_refused(alloc, seen, tell)? {
+        Ok(Some(Raise::FailureTell))
     } else {
-        Move::Fails(Raise::FailureTell)
+        Ok(None)
     }
 }
 
-/// Tells a new procedure value, where that is consistent.
-fn plan_make(layers: &[Layer], space: &Sequence<u32>, tell: Tell) -> Move
-    ensures { (p : Place) → p.view ≡ view layers.now space.now → tells_then p (variable_of tell) (value_in tell) counting_procedure ≡ effect_of p result }
+/// The exception that a move raises, if it does. What it tells is added to what its space sees.
+pub fn refusal(alloc: Global, seen: &mut Seen, plan: &Move) -> Result<Option<Raise>, AllocError>
+    ensures { IfOk result (Refuses seen.old plan.now) }
 {
-    if is_consistent_with(layers, space, slice::from_ref(&tell)) {
-        Move::Makes(tell)
-    } else {
-        Move::Fails(Raise::FailureTell)
-    }
-}
-
-/// `X=a`.
-fn plan_atom(
-    alloc: Global,
-    layers: &[Layer],
-    layer: &Layer,
-    environment: &Stack<Binding>,
-    name: u32,
-    atom: u32,
-) -> Result<Move, AllocError>
-    ensures { IfOk result (λ plan. (p : Place) → IsPlaceIn layers.now layer.now p → tells_then p (bound environment.now name) (Value.Atom atom) (λ l. l) ≡ effect_of p plan) }
-{
-    let variable = bound(alloc, environment, name)?;
-    let value = Value::Atom(atom);
-    Ok(plan_tell(layers, &layer.space, Tell::Is { variable, value }))
-}
-
-/// The procedure value that a statement makes in a layer.
-fn make_procedure(
-    alloc: Global,
-    layer: &Layer,
-    environment: &Stack<Binding>,
-    parameters: &Sequence<u32>,
-    body: &Sequence<u32>,
-) -> Result<Procedure, AllocError>
-    ensures { IfOk result (λ procedure. procedure ≡ record {
-      name = named layer.now.space layer.now.next.procedure;
-      parameters = parameters.now;
-      body = body.now;
-      environment = environment.now;
-    }) }
-{
-    Ok(Procedure {
-        name: Ident {
-            space: layer.space.copied(alloc)?,
-            number: layer.next.procedure,
-        },
-        parameters: parameters.copied(alloc)?,
-        body: body.copied(alloc)?,
-        environment: environment.copied(alloc)?,
-    })
-}
-
-/// `X=proc {$ Y ..} S .. end`.
-fn plan_procedure(
-    alloc: Global,
-    layers: &[Layer],
-    layer: &Layer,
-    environment: &Stack<Binding>,
-    name: u32,
-    parameters: &Sequence<u32>,
-    body: &Sequence<u32>,
-) -> Result<Move, AllocError>
-    ensures { IfOk result (λ plan. (p : Place) → IsPlaceIn layers.now layer.now p
-        → tells_then p (bound environment.now name) (Value.Procedure (procedure_made p environment.now parameters.now body.now)) counting_procedure ≡ effect_of p plan) }
-{
-    let variable = bound(alloc, environment, name)?;
-    let procedure = make_procedure(alloc, layer, environment, parameters, body)?;
-    let value = Value::Procedure(procedure);
-    Ok(plan_make(layers, &layer.space, Tell::Is { variable, value }))
-}
-
-fn plan_statement(
-    alloc: Global,
-    layers: &[Layer],
-    layer: &Layer,
-    environment: &Stack<Binding>,
-    statement: &Statement,
-) -> Result<Move, AllocError>
-    ensures { IfOk result (λ plan. (p : Place) → IsPlaceIn layers.now layer.now p → statement_effect p environment.now (Some statement.now) ≡ effect_of p plan) }
-{
-    match statement {
-        Statement::Choice { .. } => Ok(Move::Stays),
-        Statement::Fail => Ok(Move::Fails(Raise::FailureFail)),
-        Statement::BindAtom { name, atom } => {
-            plan_atom(alloc, layers, layer, environment, *name, *atom)
-        }
-        Statement::BindProcedure {
-            name,
-            parameters,
-            body,
-        } => plan_procedure(alloc, layers, layer, environment, *name, parameters, body),
-    }
-}
-
-/// The statement with this number, if the kernel has it.
-fn plan_numbered(
-    alloc: Global,
-    layers: &[Layer],
-    layer: &Layer,
-    environment: &Stack<Binding>,
-    statement: Option<&Statement>,
-) -> Result<Move, AllocError>
-    ensures { IfOk result (λ plan. (p : Place) → IsPlaceIn layers.now layer.now p → statement_effect p environment.now (option_copied statement.entry) ≡ effect_of p plan) }
-{
-    match statement {
-        None => Ok(Move::Stays),
-        Some(statement) => plan_statement(alloc, layers, layer, environment, statement),
-    }
-}
-
-/// Goes on with the body of a procedure of one parameter, which stands for the argument.
-fn plan_body(alloc: Global, procedure: &Procedure, argument: &Ident) -> Result<Move, AllocError>
-    ensures { IfOk result (λ plan. (p : Place) → call_effect p (Some (Value.Procedure procedure.now)) (argument.now ∷ []) ≡ effect_of p plan) }
-{
-    let [parameter] = procedure.parameters.as_slice() else {
-        return Ok(Move::Fails(Raise::Arity));
-    };
-    let mut environment = procedure.environment.copied(alloc)?;
-    environment.push(Binding {
-        name: *parameter,
-        variable: argument.copied(alloc)?,
-    })?;
-    let body = procedure.body.copied(alloc)?;
-    Ok(Move::Enters { environment, body })
-}
-
-/// `{P X}`, where P has this value.
-fn plan_call(alloc: Global, procedure: Option<&Value>, argument: &Ident) -> Result<Move, AllocError>
-    ensures { IfOk result (λ plan. (p : Place) → call_effect p (option_copied procedure.entry) (argument.now ∷ []) ≡ effect_of p plan) }
-{
-    match procedure {
-        None => Ok(Move::Stays),
-        Some(Value::Atom(_)) => Ok(Move::Fails(Raise::Apply)),
-        Some(Value::Procedure(procedure)) => plan_body(alloc, procedure, argument),
-    }
-}
-
-/// What the statement of a frame does in a layer.
-pub fn plan(
-    alloc: Global,
-    statements: &[Statement],
-    layers: &[Layer],
-    layer: &Layer,
-    frame: &Frame,
-) -> Result<Move, AllocError>
-    ensures { IfOk result (λ plan. (p : Place) → IsPlaceIn layers.now layer.now p → code_effect statements.now p frame.now frame.now.code ≡ effect_of p plan) }
-{
-    match &frame.code {
-        Code::Statement(number) => plan_numbered(
-            alloc,
-            layers,
-            layer,
-            &frame.environment,
-            statements.get(*number as usize),
-        ),
-        Code::Apply {
-            procedure,
-            argument,
-        } => plan_call(alloc, value_of(layers, &layer.space, procedure), argument),
+    match plan {
+        Move::Fails(raise) => Ok(Some(*raise)),
+        Move::Tells(tell) => tell_refusal(alloc, seen, tell),
+        Move::Makes(tell) => tell_refusal(alloc, seen, tell),
+        Move::Stays | Move::Enters { .. } | Move::Opens { .. } => Ok(None),
     }
 }
 
@@ -250,7 +87,7 @@ fn take_frame(threads: &mut Sequence<Thread>, number: u32)
 /// Puts the statements of a body on a stack.
 pub fn push_frames(
     alloc: Global,
-    environment: &Stack<Binding>,
+    environment: &Environment,
     body: &[u32],
     frames: &mut Stack<Frame>,
 ) -> Result<(), AllocError>
@@ -271,7 +108,7 @@ fn enter_body(
     alloc: Global,
     threads: &mut Sequence<Thread>,
     number: u32,
-    environment: &Stack<Binding>,
+    environment: &Environment,
     body: &Sequence<u32>,
 ) -> Result<(), AllocError>
     ensures { OnOk result (threads.new ≡ in_thread number (λ t. record t { frames = frames_of environment.now body.now ++ t.frames }) threads.old) }
@@ -322,6 +159,14 @@ pub fn make_move(
             layer.tells.push(tell)?;
         }
         Move::Enters { environment, body } => {
+            enter_body(alloc, &mut layer.threads, number, &environment, &body)?;
+        }
+        Move::Opens {
+            fresh,
+            environment,
+            body,
+        } => {
+            layer.next.variable = layer.next.variable.checked_add(fresh).ok_or(AllocError)?;
             enter_body(alloc, &mut layer.threads, number, &environment, &body)?;
         }
     }

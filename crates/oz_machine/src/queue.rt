@@ -1,25 +1,27 @@
 //! The queue after a step.
 ghost use Rattle.std.specs.Prelude.{◌≡◌, ◌++◌, filter, not, IfOk, OnOk, option_copied};
-ghost use Rattle.oz_semantics.specs.Schedule.{able_in, able, is_among, mover_in, queue_after};
+ghost use Rattle.oz_semantics.specs.Schedule.{able, is_among, mover_in, queue_after};
+ghost use Rattle.oz_machine.specs.Views.{views_of, able_by};
 
 use crate::readiness::thread_steps;
 use oz_base::{Copies, Ident, Sequence, same_ident};
 use oz_semantics::{Layer, Statement, Status};
+use oz_store::Seen;
 use std::alloc::{AllocError, Global};
 
 /// Adds the threads of a layer that can step.
 fn add_able(
     alloc: Global,
     statements: &[Statement],
-    layers: &[Layer],
     layer: &Layer,
+    seen: &Seen,
     ids: &mut Vec<Ident>,
 ) -> Result<(), AllocError>
-    ensures { OnOk result (ids.new.items ≡ ids.old.items ++ able_in statements.now layers.now layer.now) }
+    ensures { OnOk result (ids.new.items ≡ ids.old.items ++ able_by statements.now seen.now layer.now) }
 {
     if layer.status == Status::Open {
         for thread in layer.threads.as_slice() {
-            if thread_steps(statements, layers, &layer.space, thread) {
+            if thread_steps(alloc, statements, seen, thread) {
                 ids.push(Ident {
                     space: layer.space.copied(alloc)?,
                     number: thread.number,
@@ -31,12 +33,18 @@ fn add_able(
 }
 
 /// All threads that can step, by name.
-fn able(alloc: Global, statements: &[Statement], layers: &[Layer]) -> Result<Vec<Ident>, AllocError>
+fn able(
+    alloc: Global,
+    statements: &[Statement],
+    layers: &[Layer],
+    views: &[Seen],
+) -> Result<Vec<Ident>, AllocError>
+    requires { views.now ≡ views_of layers.now }
     ensures { IfOk result (λ ids. ids.items ≡ able statements.now layers.now) }
 {
     let mut ids = Vec::new(alloc);
-    for layer in layers {
-        add_able(alloc, statements, layers, layer, &mut ids)?;
+    for (layer, seen) in layers.iter().zip(views) {
+        add_able(alloc, statements, layer, seen, &mut ids)?;
     }
     Ok(ids)
 }
@@ -100,12 +108,14 @@ pub fn queue_after(
     alloc: Global,
     statements: &[Statement],
     layers: &[Layer],
+    views: &[Seen],
     mover: Option<&Ident>,
     queue: &Sequence<Ident>,
 ) -> Result<Sequence<Ident>, AllocError>
+    requires { views.now ≡ views_of layers.now }
     ensures { IfOk result (λ after. after ≡ queue_after (able statements.now layers.now) (option_copied mover.entry) queue.now) }
 {
-    let ids = able(alloc, statements, layers)?;
+    let ids = able(alloc, statements, layers, views)?;
     let mut after = staying(alloc, ids.as_slice(), queue)?;
     add_mover(alloc, ids.as_slice(), mover, &mut after)?;
     add_others(alloc, ids.as_slice(), &mut after)?;

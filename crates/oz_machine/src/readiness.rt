@@ -1,119 +1,175 @@
 //! What threads can do where they stand: step, wait for a variable, or offer alternatives.
-ghost use Rattle.std.specs.Prelude.{◌≡◌, option_copied};
-ghost use Rattle.oz_semantics.specs.Configurations.{view};
-ghost use Rattle.oz_semantics.specs.Statements.{statement_ready, code_ready, top_ready, thread_ready, steps, waits_of, offer_of};
-ghost use Rattle.oz_machine.specs.Waits.{listed};
+ghost use Rattle.std.specs.Prelude.{◌≡◌, List, [], option_copied};
+ghost use Rattle.std.specs.List.{list_any};
+ghost use Rattle.oz_semantics.specs.Store.{same, is_determined};
+ghost use Rattle.oz_semantics.specs.Configurations.{bound};
+ghost use Rattle.oz_semantics.specs.Statements.{awaits, statement_ready, code_ready, top_ready, thread_ready, steps, waits_of, offer_of};
+ghost use Rattle.oz_semantics.specs.Spaces.{is_held};
 
-use crate::store::is_determined;
-use oz_base::{Ident, Sequence};
-use oz_semantics::{Code, Frame, Layer, Statement, Thread};
+use crate::environments::{bound, nowhere};
+use oz_base::{Ident, Stack};
+use oz_semantics::{Binding, Code, Frame, Name, Statement, Thread};
+use oz_store::Seen;
+use std::alloc::Global;
 
-fn statement_steps(statement: Option<&Statement>) -> bool
-    ensures { result ≡ steps (statement_ready (option_copied statement.entry)) }
+/// Whether an identifier's variable has a value.
+fn is_bound_determined(alloc: Global, seen: &Seen, environment: &Stack<Binding>, name: Name) -> bool
+    ensures { result ≡ is_determined seen.now (bound environment.now name) }
+{
+    let absent = nowhere(alloc);
+    seen.is_determined(bound(environment, name, &absent))
+}
+
+#[tactic(auto, using(crate::proofs::Readies::steps_determined))]
+fn statement_steps(
+    alloc: Global,
+    seen: &Seen,
+    environment: &Stack<Binding>,
+    statement: Option<&Statement>,
+) -> bool
+    ensures { result ≡ steps (statement_ready seen.now environment.now (option_copied statement.entry)) }
 {
     match statement {
         None | Some(Statement::Choice { .. }) => false,
+        Some(Statement::Call { procedure, .. }) => {
+            is_bound_determined(alloc, seen, environment, *procedure)
+        }
         Some(_) => true,
     }
 }
 
-fn code_steps(
-    statements: &[Statement],
-    layers: &[Layer],
-    space: &Sequence<u32>,
-    code: &Code,
-) -> bool
-    ensures { result ≡ steps (code_ready statements.now (view layers.now space.now) code.now) }
+fn code_steps(alloc: Global, statements: &[Statement], seen: &Seen, frame: &Frame) -> bool
+    ensures { result ≡ steps (code_ready statements.now seen.now frame.now.environment frame.now.code) }
 {
-    match code {
-        Code::Statement(number) => statement_steps(statements.get(*number as usize)),
-        Code::Apply { procedure, .. } => is_determined(layers, space, procedure),
+    match &frame.code {
+        Code::Statement(number) => statement_steps(
+            alloc,
+            seen,
+            frame.environment.get(),
+            statements.get(*number as usize),
+        ),
+        Code::Apply { procedure, .. } => seen.is_determined(procedure),
     }
 }
 
-fn top_steps(
-    statements: &[Statement],
-    layers: &[Layer],
-    space: &Sequence<u32>,
-    top: Option<&Frame>,
-) -> bool
-    ensures { result ≡ steps (top_ready statements.now (view layers.now space.now) (option_copied top.entry)) }
+fn top_steps(alloc: Global, statements: &[Statement], seen: &Seen, top: Option<&Frame>) -> bool
+    ensures { result ≡ steps (top_ready statements.now seen.now (option_copied top.entry)) }
 {
     match top {
         None => false,
-        Some(frame) => code_steps(statements, layers, space, &frame.code),
+        Some(frame) => code_steps(alloc, statements, seen, frame),
     }
 }
 
-/// Whether a thread of the space can step.
-pub fn thread_steps(
-    statements: &[Statement],
-    layers: &[Layer],
-    space: &Sequence<u32>,
-    thread: &Thread,
-) -> bool
-    ensures { result ≡ steps (thread_ready statements.now (view layers.now space.now) thread.now) }
+/// Whether a thread can step.
+pub fn thread_steps(alloc: Global, statements: &[Statement], seen: &Seen, thread: &Thread) -> bool
+    ensures { result ≡ steps (thread_ready statements.now seen.now thread.now) }
 {
-    top_steps(statements, layers, space, thread.frames.top())
+    top_steps(alloc, statements, seen, thread.frames.top())
 }
 
-/// The variable that a statement of the kernel waits for.
-fn statement_wait(statement: Option<&Statement>) -> Option<&Ident>
-    ensures { listed (option_copied result) ≡ waits_of (statement_ready (option_copied statement.entry)) }
+/// Whether a variable has no value, and is one of these or equal to one.
+fn is_held(seen: &Seen, held: &[Ident], variable: &Ident) -> bool
+    ensures { result ≡ is_held seen.now held.now variable.now }
+{
+    !seen.is_determined(variable) && is_same_as_any(seen, held, variable)
+}
+
+fn is_same_as_any(seen: &Seen, held: &[Ident], variable: &Ident) -> bool
+    ensures { result ≡ list_any (same seen.now variable.now) held.now }
+{
+    held.iter().any(|other| seen.same(variable, other))
+}
+
+/// Whether the wait for the value of a variable is one for these variables.
+#[tactic(auto, using(crate::proofs::Readies::held_awaited))]
+fn awaits_held(seen: &Seen, held: &[Ident], variable: &Ident) -> bool
+    ensures { result ≡ list_any (is_held seen.now held.now) (waits_of (awaits seen.now variable.now)) }
+{
+    is_held(seen, held, variable)
+}
+
+fn bound_awaits(
+    alloc: Global,
+    seen: &Seen,
+    held: &[Ident],
+    environment: &Stack<Binding>,
+    name: Name,
+) -> bool
+    ensures { result ≡ list_any (is_held seen.now held.now) (waits_of (awaits seen.now (bound environment.now name))) }
+{
+    let absent = nowhere(alloc);
+    awaits_held(seen, held, bound(environment, name, &absent))
+}
+
+fn statement_waits(
+    alloc: Global,
+    seen: &Seen,
+    held: &[Ident],
+    environment: &Stack<Binding>,
+    statement: Option<&Statement>,
+) -> bool
+    ensures { result ≡ list_any (is_held seen.now held.now) (waits_of (statement_ready seen.now environment.now (option_copied statement.entry))) }
 {
     match statement {
-        None | Some(_) => None,
-    }
-}
-
-fn code_wait<'a>(
-    statements: &'a [Statement],
-    layers: &[Layer],
-    space: &Sequence<u32>,
-    code: &'a Code,
-) -> Option<&'a Ident>
-    ensures { listed (option_copied result) ≡ waits_of (code_ready statements.now (view layers.now space.now) code.now) }
-{
-    match code {
-        Code::Statement(number) => statement_wait(statements.get(*number as usize)),
-        Code::Apply { procedure, .. } => {
-            if is_determined(layers, space, procedure) {
-                None
-            } else {
-                Some(procedure)
-            }
+        Some(Statement::Call { procedure, .. }) => {
+            bound_awaits(alloc, seen, held, environment, *procedure)
         }
+        _ => false,
     }
 }
 
-fn top_wait<'a>(
-    statements: &'a [Statement],
-    layers: &[Layer],
-    space: &Sequence<u32>,
-    top: Option<&'a Frame>,
-) -> Option<&'a Ident>
-    ensures { listed (option_copied result) ≡ waits_of (top_ready statements.now (view layers.now space.now) (option_copied top.entry)) }
+fn code_waits(
+    alloc: Global,
+    statements: &[Statement],
+    seen: &Seen,
+    held: &[Ident],
+    frame: &Frame,
+) -> bool
+    ensures { result ≡ list_any (is_held seen.now held.now) (waits_of (code_ready statements.now seen.now frame.now.environment frame.now.code)) }
+{
+    match &frame.code {
+        Code::Statement(number) => statement_waits(
+            alloc,
+            seen,
+            held,
+            frame.environment.get(),
+            statements.get(*number as usize),
+        ),
+        Code::Apply { procedure, .. } => awaits_held(seen, held, procedure),
+    }
+}
+
+fn top_waits(
+    alloc: Global,
+    statements: &[Statement],
+    seen: &Seen,
+    held: &[Ident],
+    top: Option<&Frame>,
+) -> bool
+    ensures { result ≡ list_any (is_held seen.now held.now) (waits_of (top_ready statements.now seen.now (option_copied top.entry))) }
 {
     match top {
-        None => None,
-        Some(frame) => code_wait(statements, layers, space, &frame.code),
+        None => false,
+        Some(frame) => code_waits(alloc, statements, seen, held, frame),
     }
 }
 
-/// The variable that a thread of the space waits for.
-pub fn thread_wait<'a>(
-    statements: &'a [Statement],
-    layers: &[Layer],
-    space: &Sequence<u32>,
-    thread: &'a Thread,
-) -> Option<&'a Ident>
-    ensures { listed (option_copied result) ≡ waits_of (thread_ready statements.now (view layers.now space.now) thread.now) }
+/// Whether a thread waits for one of these variables.
+pub fn thread_waits(
+    alloc: Global,
+    statements: &[Statement],
+    seen: &Seen,
+    held: &[Ident],
+    thread: &Thread,
+) -> bool
+    ensures { result ≡ list_any (is_held seen.now held.now) (waits_of (thread_ready statements.now seen.now thread.now)) }
 {
-    top_wait(statements, layers, space, thread.frames.top())
+    top_waits(alloc, statements, seen, held, thread.frames.top())
 }
 
 fn statement_offer(statement: Option<&Statement>) -> Option<u64>
-    ensures { result ≡ offer_of (statement_ready (option_copied statement.entry)) }
+    ensures { (environment : List Binding) → result ≡ offer_of (statement_ready [] environment (option_copied statement.entry)) }
 {
     match statement {
         Some(Statement::Choice { alternatives }) => Some(alternatives.len() as u64),
@@ -121,42 +177,27 @@ fn statement_offer(statement: Option<&Statement>) -> Option<u64>
     }
 }
 
-fn code_offer(
-    statements: &[Statement],
-    layers: &[Layer],
-    space: &Sequence<u32>,
-    code: &Code,
-) -> Option<u64>
-    ensures { result ≡ offer_of (code_ready statements.now (view layers.now space.now) code.now) }
+fn code_offer(statements: &[Statement], frame: &Frame) -> Option<u64>
+    ensures { result ≡ offer_of (code_ready statements.now [] frame.now.environment frame.now.code) }
 {
-    match code {
+    match &frame.code {
         Code::Statement(number) => statement_offer(statements.get(*number as usize)),
         Code::Apply { .. } => None,
     }
 }
 
-fn top_offer(
-    statements: &[Statement],
-    layers: &[Layer],
-    space: &Sequence<u32>,
-    top: Option<&Frame>,
-) -> Option<u64>
-    ensures { result ≡ offer_of (top_ready statements.now (view layers.now space.now) (option_copied top.entry)) }
+fn top_offer(statements: &[Statement], top: Option<&Frame>) -> Option<u64>
+    ensures { result ≡ offer_of (top_ready statements.now [] (option_copied top.entry)) }
 {
     match top {
         None => None,
-        Some(frame) => code_offer(statements, layers, space, &frame.code),
+        Some(frame) => code_offer(statements, frame),
     }
 }
 
-/// How many alternatives a thread of the space offers, if it does.
-pub fn thread_offer(
-    statements: &[Statement],
-    layers: &[Layer],
-    space: &Sequence<u32>,
-    thread: &Thread,
-) -> Option<u64>
-    ensures { result ≡ offer_of (thread_ready statements.now (view layers.now space.now) thread.now) }
+/// How many alternatives a thread offers, if it does. What its space sees has no part in it.
+pub fn thread_offer(statements: &[Statement], thread: &Thread) -> Option<u64>
+    ensures { result ≡ offer_of (thread_ready statements.now [] thread.now) }
 {
-    top_offer(statements, layers, space, thread.frames.top())
+    top_offer(statements, thread.frames.top())
 }

@@ -1,17 +1,21 @@
 //! What follows each step: spaces fail, and the queue is filled.
-ghost use Rattle.std.specs.Prelude.{◌≡◌, ◌&&◌, ℕ, filter, not, IfOk, option_copied};
+ghost use Rattle.std.specs.Prelude.{◌≡◌, ◌&&◌, ℕ, None, filter, not, IfOk, OnOk, option_copied};
 ghost use Rattle.std.specs.List.{fold};
 ghost use Rattle.oz_semantics.specs.Names.{is_top, is_properly_below};
 ghost use Rattle.oz_semantics.specs.Configurations.{ended, ending};
-ghost use Rattle.oz_semantics.specs.Schedule.{may_fail, is_broken, broken_spaces, failing, top_is_broken, settled};
+ghost use Rattle.oz_semantics.specs.Schedule.{may_fail, broken_spaces, failing, without_broken, top_is_broken, settled};
+ghost use Rattle.oz_semantics.specs.Runs.{left_by};
 ghost use Rattle.oz_semantics.specs.declared.configuration.Layer.{Layer};
 ghost use Rattle.oz_machine.specs.Settling.{is_settled};
+ghost use Rattle.oz_machine.specs.Views.{views_of, broken_by};
 
 use crate::places::layer_place;
 use crate::queue::queue_after;
-use crate::store::{is_consistent, is_properly_below, is_top};
+use crate::spaces::{is_properly_below, is_top};
+use crate::views::views_of;
 use oz_base::{Copies, Ident, Sequence};
 use oz_semantics::{Configuration, Layer, Statement, Status};
+use oz_store::Seen;
 use std::alloc::{AllocError, Global};
 use std::mem;
 
@@ -24,31 +28,40 @@ fn may_fail(status: Status) -> bool
     }
 }
 
-/// Whether a space that may fail sees what is inconsistent.
-fn is_broken(layers: &[Layer], layer: &Layer) -> bool
-    ensures { result ≡ is_broken layers.now layer.now }
+/// Whether a space may fail, and sees what is inconsistent.
+fn is_broken(layer: &Layer, seen: &Seen) -> bool
+    ensures { result ≡ broken_by seen.now layer.now }
 {
-    may_fail(layer.status) && !is_consistent(layers, &layer.space)
+    may_fail(layer.status) && !seen.is_consistent()
 }
 
-fn is_broken_top(layers: &[Layer], layer: &Layer) -> bool
-    ensures { result ≡ (is_top layer.now.space && is_broken layers.now layer.now) }
+fn is_broken_top(layer: &Layer, seen: &Seen) -> bool
+    ensures { result ≡ (is_top layer.now.space && broken_by seen.now layer.now) }
 {
-    is_top(&layer.space) && is_broken(layers, layer)
+    is_top(&layer.space) && is_broken(layer, seen)
 }
 
-fn top_is_broken(layers: &[Layer]) -> bool
+fn top_is_broken(layers: &[Layer], views: &[Seen]) -> bool
+    requires { views.now ≡ views_of layers.now }
     ensures { result ≡ top_is_broken layers.now }
 {
-    layers.iter().any(|layer| is_broken_top(layers, layer))
+    layers
+        .iter()
+        .zip(views)
+        .any(|(layer, seen)| is_broken_top(layer, seen))
 }
 
-fn broken_spaces(alloc: Global, layers: &[Layer]) -> Result<Vec<Sequence<u32>>, AllocError>
+fn broken_spaces(
+    alloc: Global,
+    layers: &[Layer],
+    views: &[Seen],
+) -> Result<Vec<Sequence<u32>>, AllocError>
+    requires { views.now ≡ views_of layers.now }
     ensures { IfOk result (λ spaces. spaces.items ≡ broken_spaces layers.now) }
 {
     let mut spaces = Vec::new(alloc);
-    for layer in layers {
-        if is_broken(layers, layer) {
+    for (layer, seen) in layers.iter().zip(views) {
+        if is_broken(layer, seen) {
             spaces.push(layer.space.copied(alloc)?)?;
         }
     }
@@ -94,27 +107,62 @@ fn fail_spaces(alloc: Global, layers: &mut Sequence<Layer>, spaces: &[Sequence<u
     }
 }
 
-/// Does what follows a step of the mover, if there is one. Where the top is inconsistent, it answers that, and changes nothing.
+/// Every space whose view is inconsistent fails.
+fn drop_broken(
+    alloc: Global,
+    layers: &mut Sequence<Layer>,
+    views: &mut Sequence<Seen>,
+) -> Result<(), AllocError>
+    requires { views.old ≡ views_of layers.old }
+    ensures layers { OnOk result (layers.new ≡ without_broken layers.old) }
+    ensures views { OnOk result (views.new ≡ views_of layers.new) }
+{
+    let spaces = broken_spaces(alloc, layers.as_slice(), views.as_slice())?;
+    if spaces.is_empty() {
+        return Ok(());
+    }
+    fail_spaces(alloc, layers, spaces.as_slice());
+    *views = views_of(alloc, layers.as_slice())?;
+    Ok(())
+}
+
+/// Does what follows a step of the mover, if there is one. Where the top is inconsistent, it answers that, and changes nothing. The
+/// views are those of the layers, before and after it.
 pub fn settle(
     alloc: Global,
     statements: &[Statement],
     mover: Option<&Ident>,
     configuration: &mut Configuration,
+    views: &mut Sequence<Seen>,
 ) -> Result<bool, AllocError>
-    ensures { IfOk result (λ broken. (cost : ℕ) → settled statements.now (option_copied mover.entry) cost configuration.old ≡ is_settled broken cost configuration.new) }
+    requires { views.old ≡ views_of configuration.old.layers }
+    ensures turn { IfOk result (λ broken. (cost : ℕ) → settled statements.now (option_copied mover.entry) cost configuration.old ≡ is_settled broken cost configuration.new) }
+    ensures views { OnOk result (views.new ≡ views_of configuration.new.layers) }
 {
-    let layers = &mut configuration.layers;
-    if top_is_broken(layers.as_slice()) {
+    if top_is_broken(configuration.layers.as_slice(), views.as_slice()) {
         return Ok(true);
     }
-    let spaces = broken_spaces(alloc, layers.as_slice())?;
-    fail_spaces(alloc, layers, spaces.as_slice());
+    drop_broken(alloc, &mut configuration.layers, views)?;
     configuration.queue = queue_after(
         alloc,
         statements,
         configuration.layers.as_slice(),
+        views.as_slice(),
         mover,
         &configuration.queue,
     )?;
     Ok(false)
+}
+
+/// Does what follows an edit by the search.
+pub fn settle_edit(
+    alloc: Global,
+    statements: &[Statement],
+    configuration: &mut Configuration,
+) -> Result<(), AllocError>
+    ensures { OnOk result ((cost : ℕ) → left_by (settled statements.now None cost configuration.old) ≡ configuration.new) }
+{
+    let mut views = views_of(alloc, configuration.layers.as_slice())?;
+    settle(alloc, statements, None, configuration, &mut views)?;
+    Ok(())
 }

@@ -1,33 +1,29 @@
 //! The state of a space.
-ghost use Rattle.std.specs.Prelude.{◌≡◌, ◌++◌, ◌&&◌, not, false, IfOk, OnOk, option_copied};
+ghost use Rattle.std.specs.Prelude.{◌≡◌, ◌++◌, ◌&&◌, not, false, List, [], IfOk, OnOk, option_copied};
 ghost use Rattle.std.specs.List.{list_any, list_all, filter_map};
-ghost use Rattle.oz_base.specs.Lists.{first};
-ghost use Rattle.oz_semantics.specs.Names.{ident_eq, is_below, parent_of};
-ghost use Rattle.oz_semantics.specs.Store.{value_of};
+ghost use Rattle.oz_base.specs.Lists.{first, iff};
+ghost use Rattle.oz_semantics.specs.Names.{is_below, parent_of};
+ghost use Rattle.oz_semantics.specs.Store.{same, value_of};
 ghost use Rattle.oz_semantics.specs.Configurations.{is_open, view, variables_of, ancestor_variables};
 ghost use Rattle.oz_semantics.specs.Statements.{thread_ready, steps, waits_of, offer_of};
-ghost use Rattle.oz_semantics.specs.Spaces.{layer_goes_on, goes_on, is_held, layer_waits, waits_outside, values_eq, alike_on, is_stable, offer_in, stable_state, open_state, state_by, state};
+ghost use Rattle.oz_semantics.specs.Spaces.{goes_on, is_held, waits_outside, values_eq, alike_on, is_stable, offer_in, stable_state, open_state, state_by, state};
 ghost use Rattle.oz_semantics.specs.declared.configuration.Layer.{Layer};
-ghost use Rattle.oz_machine.specs.Waits.{listed};
+ghost use Rattle.oz_machine.specs.Views.{views_of, goes_on_by, waits_by, waits_for};
 
 use crate::places::layer_place;
-use crate::readiness::{thread_offer, thread_steps, thread_wait};
-use crate::store::{is_below, is_determined, is_like, is_properly_below, value_of};
-use oz_base::{Copies, Ident, Sequence, same_ident};
+use crate::readiness::{thread_offer, thread_steps, thread_waits};
+use crate::spaces::{is_below, is_properly_below};
+use oz_base::{Copies, Ident, Sequence};
 use oz_semantics::{Layer, State, Statement, Status, Thread, Value};
+use oz_store::{Seen, is_like, seen_by};
 use std::alloc::{AllocError, Global};
 
-fn any_steps(
-    statements: &[Statement],
-    layers: &[Layer],
-    space: &Sequence<u32>,
-    threads: &[Thread],
-) -> bool
-    ensures { result ≡ list_any (λ t. steps (thread_ready statements.now (view layers.now space.now) t)) threads.now }
+fn any_steps(alloc: Global, statements: &[Statement], seen: &Seen, threads: &[Thread]) -> bool
+    ensures { result ≡ list_any (λ t. steps (thread_ready statements.now seen.now t)) threads.now }
 {
     threads
         .iter()
-        .any(|thread| thread_steps(statements, layers, space, thread))
+        .any(|thread| thread_steps(alloc, statements, seen, thread))
 }
 
 fn is_open(status: Status) -> bool
@@ -39,30 +35,38 @@ fn is_open(status: Status) -> bool
     }
 }
 
-fn layer_goes_on(statements: &[Statement], layers: &[Layer], layer: &Layer) -> bool
-    ensures { result ≡ layer_goes_on statements.now layers.now layer.now }
+fn layer_goes_on(alloc: Global, statements: &[Statement], layer: &Layer, seen: &Seen) -> bool
+    ensures { result ≡ goes_on_by statements.now seen.now layer.now }
 {
-    is_open(layer.status) && any_steps(statements, layers, &layer.space, layer.threads.as_slice())
+    is_open(layer.status) && any_steps(alloc, statements, seen, layer.threads.as_slice())
 }
 
 fn goes_on_below(
+    alloc: Global,
     statements: &[Statement],
-    layers: &[Layer],
     space: &Sequence<u32>,
     layer: &Layer,
+    seen: &Seen,
 ) -> bool
-    ensures { result ≡ (is_below space.now layer.now.space && layer_goes_on statements.now layers.now layer.now) }
+    ensures { result ≡ (is_below space.now layer.now.space && goes_on_by statements.now seen.now layer.now) }
 {
-    is_below(space, &layer.space) && layer_goes_on(statements, layers, layer)
+    is_below(space, &layer.space) && layer_goes_on(alloc, statements, layer, seen)
 }
 
-/// Whether something of the subtree can step.
-pub fn goes_on(statements: &[Statement], layers: &[Layer], space: &Sequence<u32>) -> bool
+/// Whether something of the subtree can step. The views are those of the layers.
+pub fn goes_on(
+    alloc: Global,
+    statements: &[Statement],
+    layers: &[Layer],
+    views: &[Seen],
+    space: &Sequence<u32>,
+) -> bool
+    requires { views.now ≡ views_of layers.now }
     ensures { result ≡ goes_on statements.now layers.now space.now }
 {
-    layers
-        .iter()
-        .any(|layer| goes_on_below(statements, layers, space, layer))
+    layers.iter().zip(views).any(|(layer, seen)| goes_on_below(
+        alloc, statements, space, layer, seen,
+    ))
 }
 
 /// Adds the variables that a layer gave out.
@@ -95,96 +99,58 @@ fn ancestor_variables(
     Ok(variables)
 }
 
-fn is_among(variable: &Ident, held: &[Ident]) -> bool
-    ensures { result ≡ list_any (ident_eq variable.now) held.now }
-{
-    held.iter().any(|other| same_ident(variable, other))
-}
-
-fn is_held(layers: &[Layer], space: &Sequence<u32>, held: &[Ident], variable: &Ident) -> bool
-    ensures { result ≡ is_held (view layers.now space.now) held.now variable.now }
-{
-    !is_determined(layers, space, variable) && is_among(variable, held)
-}
-
-fn waits_for_held(
-    layers: &[Layer],
-    space: &Sequence<u32>,
-    held: &[Ident],
-    awaited: Option<&Ident>,
-) -> bool
-    ensures { result ≡ list_any (is_held (view layers.now space.now) held.now) (listed (option_copied awaited.entry)) }
-{
-    match awaited {
-        None => false,
-        Some(variable) => is_held(layers, space, held, variable),
-    }
-}
-
-fn thread_waits(
-    statements: &[Statement],
-    layers: &[Layer],
-    space: &Sequence<u32>,
-    held: &[Ident],
-    thread: &Thread,
-) -> bool
-    ensures { result ≡ list_any (is_held (view layers.now space.now) held.now) (waits_of (thread_ready statements.now (view layers.now space.now) thread.now)) }
-{
-    waits_for_held(
-        layers,
-        space,
-        held,
-        thread_wait(statements, layers, space, thread),
-    )
-}
-
 fn any_waits(
+    alloc: Global,
     statements: &[Statement],
-    layers: &[Layer],
-    space: &Sequence<u32>,
+    seen: &Seen,
     held: &[Ident],
     threads: &[Thread],
 ) -> bool
-    ensures { result ≡ list_any (λ t. list_any (is_held (view layers.now space.now) held.now) (waits_of (thread_ready statements.now (view layers.now space.now) t))) threads.now }
+    ensures { result ≡ list_any (λ t. list_any (is_held seen.now held.now) (waits_of (thread_ready statements.now seen.now t))) threads.now }
 {
-    threads.iter().any(|thread| thread_waits(statements, layers, space, held, thread))
+    threads.iter().any(|thread| thread_waits(alloc, statements, seen, held, thread))
 }
 
-fn layer_waits(statements: &[Statement], layers: &[Layer], held: &[Ident], layer: &Layer) -> bool
-    ensures { result ≡ layer_waits statements.now layers.now held.now layer.now }
+fn layer_waits(
+    alloc: Global,
+    statements: &[Statement],
+    held: &[Ident],
+    layer: &Layer,
+    seen: &Seen,
+) -> bool
+    ensures { result ≡ waits_by statements.now held.now seen.now layer.now }
 {
-    is_open(layer.status)
-        && any_waits(
-            statements,
-            layers,
-            &layer.space,
-            held,
-            layer.threads.as_slice(),
-        )
+    is_open(layer.status) && any_waits(alloc, statements, seen, held, layer.threads.as_slice())
 }
 
 fn waits_below(
+    alloc: Global,
     statements: &[Statement],
-    layers: &[Layer],
     space: &Sequence<u32>,
     held: &[Ident],
     layer: &Layer,
+    seen: &Seen,
 ) -> bool
-    ensures { result ≡ (is_below space.now layer.now.space && layer_waits statements.now layers.now held.now layer.now) }
+    ensures { result ≡ (is_below space.now layer.now.space && waits_by statements.now held.now seen.now layer.now) }
 {
-    is_below(space, &layer.space) && layer_waits(statements, layers, held, layer)
+    is_below(space, &layer.space) && layer_waits(alloc, statements, held, layer, seen)
 }
 
 /// Whether something of the subtree waits for one of these variables.
 fn waits_for(
+    alloc: Global,
     statements: &[Statement],
     layers: &[Layer],
+    views: &[Seen],
     space: &Sequence<u32>,
     held: &[Ident],
 ) -> bool
-    ensures { result ≡ list_any (λ (l : Layer). is_below space.now l.space && layer_waits statements.now layers.now held.now l) layers.now }
+    requires { views.now ≡ views_of layers.now }
+    ensures { result ≡ waits_for statements.now layers.now space.now held.now }
 {
-    layers.iter().any(|layer| waits_below(statements, layers, space, held, layer))
+    layers.iter().zip(views).any(|(layer, seen)| waits_below(
+        alloc, statements, space, held, layer, seen,
+    ))
 }
 
 fn values_eq(left: Option<&Value>, right: Option<&Value>) -> bool
@@ -197,43 +163,46 @@ fn values_eq(left: Option<&Value>, right: Option<&Value>) -> bool
     }
 }
 
-fn same_value(
-    layers: &[Layer],
-    one: &Sequence<u32>,
-    other: &Sequence<u32>,
-    variable: &Ident,
-) -> bool
-    ensures { result ≡ values_eq (value_of (view layers.now one.now) variable.now) (value_of (view layers.now other.now) variable.now) }
+fn same_value(one: &Seen, other: &Seen, variable: &Ident) -> bool
+    ensures { result ≡ values_eq (value_of one.now variable.now) (value_of other.now variable.now) }
 {
-    values_eq(
-        value_of(layers, one, variable),
-        value_of(layers, other, variable),
-    )
+    values_eq(one.value(variable), other.value(variable))
 }
 
-fn same_values(
-    layers: &[Layer],
-    variables: &[Ident],
-    one: &Sequence<u32>,
-    other: &Sequence<u32>,
-) -> bool
-    ensures { result ≡ list_all (λ x. values_eq (value_of (view layers.now one.now) x) (value_of (view layers.now other.now) x)) variables.now }
+fn iff(left: bool, right: bool) -> bool
+    ensures { result ≡ iff left right }
+{
+    if left { right } else { !right }
+}
+
+fn same_equality(one: &Seen, other: &Seen, left: &Ident, right: &Ident) -> bool
+    ensures { result ≡ iff (same one.now left.now right.now) (same other.now left.now right.now) }
+{
+    iff(one.same(left, right), other.same(left, right))
+}
+
+fn same_equalities(one: &Seen, other: &Seen, variable: &Ident, variables: &[Ident]) -> bool
+    ensures { result ≡ list_all (λ y. iff (same one.now variable.now y) (same other.now variable.now y)) variables.now }
 {
     variables
         .iter()
-        .all(|variable| same_value(layers, one, other, variable))
+        .all(|right| same_equality(one, other, variable, right))
 }
 
-/// Whether two spaces see these variables alike. They make no two variables equal, so their values decide.
-fn alike_on(
-    layers: &[Layer],
-    variables: &[Ident],
-    one: &Sequence<u32>,
-    other: &Sequence<u32>,
-) -> bool
-    ensures { result ≡ alike_on variables.now (view layers.now one.now) (view layers.now other.now) }
+fn alike_at(one: &Seen, other: &Seen, variable: &Ident, variables: &[Ident]) -> bool
+    ensures { result ≡ (values_eq (value_of one.now variable.now) (value_of other.now variable.now)
+        && list_all (λ y. iff (same one.now variable.now y) (same other.now variable.now y)) variables.now) }
 {
-    same_values(layers, variables, one, other)
+    same_value(one, other, variable) && same_equalities(one, other, variable, variables)
+}
+
+/// Whether two views have the same values and equalities of these variables.
+fn alike_on(variables: &[Ident], one: &Seen, other: &Seen) -> bool
+    ensures { result ≡ alike_on variables.now one.now other.now }
+{
+    variables
+        .iter()
+        .all(|variable| alike_at(one, other, variable, variables))
 }
 
 #[tactic(auto, using(crate::proofs::StateLaws::parent_take))]
@@ -251,58 +220,50 @@ fn is_apart(waits: bool, alike: bool) -> bool
     !waits && alike
 }
 
-/// Whether nothing of the subtree waits for these variables of its ancestors, and it sees them as its parent does.
-fn stays_apart(
-    statements: &[Statement],
-    layers: &[Layer],
-    space: &Sequence<u32>,
-    held: &[Ident],
-    parent: &Sequence<u32>,
-) -> bool
-    ensures { result ≡ (not (list_any (λ (l : Layer). is_below space.now l.space && layer_waits statements.now layers.now held.now l) layers.now)
-        && alike_on held.now (view layers.now space.now) (view layers.now parent.now)) }
-{
-    let waits = waits_for(statements, layers, space, held);
-    is_apart(waits, alike_on(layers, held, space, parent))
-}
-
 /// Whether a space of which nothing can step is stable.
 fn is_stable(
     alloc: Global,
     statements: &[Statement],
     layers: &[Layer],
+    views: &[Seen],
     space: &Sequence<u32>,
+    here: &Seen,
 ) -> Result<bool, AllocError>
+    requires views { views.now ≡ views_of layers.now }
+    requires here { here.now ≡ view layers.now space.now }
     ensures { IfOk result (λ stable. goes_on statements.now layers.now space.now ≡ false → stable ≡ is_stable statements.now layers.now space.now) }
 {
     let held = ancestor_variables(alloc, layers, space)?;
-    let parent = parent_of(alloc, space)?;
-    Ok(stays_apart(statements, layers, space, held.as_slice(), &parent))
+    let above = seen_by(alloc, layers, &parent_of(alloc, space)?)?;
+    let waits = waits_for(alloc, statements, layers, views, space, held.as_slice());
+    Ok(is_apart(waits, alike_on(held.as_slice(), here, &above)))
 }
 
-fn offer_among(
-    statements: &[Statement],
-    layers: &[Layer],
-    space: &Sequence<u32>,
-    threads: &[Thread],
-) -> Option<u64>
-    ensures { result ≡ first (filter_map (λ t. offer_of (thread_ready statements.now (view layers.now space.now) t)) threads.now) }
+fn offer_among(statements: &[Statement], threads: &[Thread]) -> Option<u64>
+    ensures { result ≡ first (filter_map (λ t. offer_of (thread_ready statements.now [] t)) threads.now) }
 {
     for thread in threads {
-        if let Some(size) = thread_offer(statements, layers, space, thread) {
+        if let Some(size) = thread_offer(statements, thread) {
             return Some(size);
         }
     }
     None
 }
 
-fn stable_state(statements: &[Statement], layers: &[Layer], layer: &Layer) -> State
-    ensures { result ≡ stable_state (offer_in statements.now layers.now layer.now) layer.now.threads }
+/// The first offer of a layer's threads.
+fn offer_in(statements: &[Statement], layer: &Layer) -> Option<u64>
+    ensures { (layers : List Layer) → result ≡ offer_in statements.now layers layer.now }
 {
-    match offer_among(statements, layers, &layer.space, layer.threads.as_slice()) {
+    offer_among(statements, layer.threads.as_slice())
+}
+
+fn stable_state(offer: Option<u64>, threads: &Sequence<Thread>) -> State
+    ensures { result ≡ stable_state offer threads.now }
+{
+    match offer {
         Some(size) => State::Alternatives(size),
         None => {
-            if layer.threads.len() == 0 {
+            if threads.len() == 0 {
                 State::Solved
             } else {
                 State::Stuck
@@ -315,15 +276,19 @@ fn open_state(
     alloc: Global,
     statements: &[Statement],
     layers: &[Layer],
+    views: &[Seen],
     layer: &Layer,
+    here: &Seen,
 ) -> Result<State, AllocError>
+    requires views { views.now ≡ views_of layers.now }
+    requires here { here.now ≡ view layers.now layer.now.space }
     ensures { IfOk result (λ state. state ≡ open_state statements.now layers.now layer.now) }
 {
-    if goes_on(statements, layers, &layer.space) {
+    if goes_on(alloc, statements, layers, views, &layer.space) {
         return Ok(State::Running);
     }
-    if is_stable(alloc, statements, layers, &layer.space)? {
-        Ok(stable_state(statements, layers, layer))
+    if is_stable(alloc, statements, layers, views, &layer.space, here)? {
+        Ok(stable_state(offer_in(statements, layer), &layer.threads))
     } else {
         Ok(State::Suspended)
     }
@@ -333,28 +298,41 @@ fn layer_state(
     alloc: Global,
     statements: &[Statement],
     layers: &[Layer],
+    views: &[Seen],
     layer: &Layer,
+    here: &Seen,
 ) -> Result<State, AllocError>
+    requires views { views.now ≡ views_of layers.now }
+    requires here { here.now ≡ view layers.now layer.now.space }
     ensures { IfOk result (λ state. state ≡ state_by statements.now layers.now layer.now.status layer.now) }
 {
     match layer.status {
         Status::Failed => Ok(State::Failed),
         Status::Raised(raise) => Ok(State::Raised(raise)),
-        Status::Open => open_state(alloc, statements, layers, layer),
+        Status::Open => open_state(alloc, statements, layers, views, layer, here),
     }
 }
 
-/// The state of a space.
+/// The state of a space. The views are those of the layers.
 pub fn state(
     alloc: Global,
     statements: &[Statement],
     layers: &Sequence<Layer>,
+    views: &Sequence<Seen>,
     space: &Sequence<u32>,
 ) -> Result<State, AllocError>
+    requires { views.now ≡ views_of layers.now }
     ensures { IfOk result (λ found. found ≡ state statements.now layers.now space.now) }
 {
     match layer_place(layers, space) {
         None => Ok(State::Failed),
-        Some(place) => layer_state(alloc, statements, layers.as_slice(), layers.get(place)),
+        Some(place) => layer_state(
+            alloc,
+            statements,
+            layers.as_slice(),
+            views.as_slice(),
+            layers.get(place),
+            views.get(place),
+        ),
     }
 }

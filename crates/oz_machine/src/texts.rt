@@ -1,15 +1,15 @@
 //! The text that is shown of a leaf.
-ghost use Rattle.std.specs.Prelude.{◌≡◌, IfOk, option_copied};
+ghost use Rattle.std.specs.Prelude.{◌≡◌, ℕ, [], IfOk};
 ghost use Rattle.oz_semantics.specs.Names.{root_of};
-ghost use Rattle.oz_semantics.specs.Kernels.{word_text};
 ghost use Rattle.oz_semantics.specs.Configurations.{view};
-ghost use Rattle.oz_semantics.specs.Texts.{value_text, term_text, raise_text};
+ghost use Rattle.oz_semantics.specs.Texts.{Printed, term_text, raise_text};
 ghost use Rattle.oz_semantics.specs.Search.{state_text};
-ghost use Rattle.oz_machine.specs.Texts.{IsPrinted};
+ghost use Rattle.term_text.specs.TextWithin.{IsTextWithin};
+ghost use Rattle.oz_machine.specs.Texts.{IsPrinted, PrintsWithin};
 
-use crate::store::value_of;
 use oz_base::{Copies, Ident, Sequence};
-use oz_semantics::{Configuration, Raise, State, Value};
+use oz_semantics::{Configuration, Raise, State};
+use oz_store::seen_by;
 use std::alloc::{AllocError, Global};
 
 /// A text, and what printing it costs: a step for each node of its term.
@@ -28,31 +28,14 @@ fn make_text(alloc: Global, bytes: &[u8], steps: u64) -> Result<Text, AllocError
     })
 }
 
-fn word_text(words: &[Sequence<u8>], number: u32) -> &[u8]
-    ensures { result.now ≡ word_text words.now number }
+fn within(text: Text, fuel: u64) -> Option<Text>
+    ensures { (printed : Printed) → IsPrinted printed text → PrintsWithin printed fuel result }
 {
-    match words.get(number as usize) {
-        Some(word) => word.as_slice(),
-        None => &[],
-    }
-}
-
-fn value_text(
-    alloc: Global,
-    words: &[Sequence<u8>],
-    value: Option<&Value>,
-) -> Result<Text, AllocError>
-    ensures { IfOk result (IsPrinted (value_text words.now (option_copied value.entry))) }
-{
-    match value {
-        None => make_text(alloc, b"_", 1),
-        Some(Value::Atom(atom)) => make_text(alloc, word_text(words, *atom), 1),
-        Some(Value::Procedure(_)) => make_text(alloc, b"<proc>", 1),
-    }
+    if text.steps <= fuel { Some(text) } else { None }
 }
 
 /// The text of an exception.
-pub fn raise_text(alloc: Global, raise: Raise) -> Result<Text, AllocError>
+fn raise_text(alloc: Global, raise: Raise) -> Result<Text, AllocError>
     ensures { IfOk result (IsPrinted (raise_text raise)) }
 {
     match raise {
@@ -64,37 +47,67 @@ pub fn raise_text(alloc: Global, raise: Raise) -> Result<Text, AllocError>
     }
 }
 
+/// The text of an exception. None exactly where that costs more than the fuel.
+pub fn exception_text(alloc: Global, raise: Raise, fuel: u64) -> Result<Option<Text>, AllocError>
+    ensures { IfOk result (PrintsWithin (raise_text raise) fuel) }
+{
+    Ok(within(raise_text(alloc, raise)?, fuel))
+}
+
+fn no_text(alloc: Global, fuel: u64) -> Result<Option<Text>, AllocError>
+    ensures { IfOk result (PrintsWithin (record { bytes = []; nodes = 0 }) fuel) }
+{
+    Ok(within(make_text(alloc, b"", 0)?, fuel))
+}
+
+/// A node is a step.
+fn counted(text: Option<term_text::Text>) -> Option<Text>
+    ensures { (printed : Printed) (fuel : ℕ) → IsTextWithin printed fuel text → PrintsWithin printed fuel result }
+{
+    match text {
+        None => None,
+        Some(text) => Some(Text {
+            bytes: text.bytes,
+            steps: text.nodes,
+        }),
+    }
+}
+
+/// The term of the root variable, of what its space sees.
 fn root_text(
     alloc: Global,
     words: &[Sequence<u8>],
     configuration: &Configuration,
     space: &Sequence<u32>,
-) -> Result<Text, AllocError>
-    ensures { IfOk result (IsPrinted (term_text words.now (view configuration.now.layers space.now) (root_of space.now))) }
+    fuel: u64,
+) -> Result<Option<Text>, AllocError>
+    ensures { IfOk result (PrintsWithin (term_text words.now (view configuration.now.layers space.now) (root_of space.now)) fuel) }
 {
     let root = Ident {
         space: space.copied(alloc)?,
         number: 0,
     };
-    let layers = configuration.layers.as_slice();
-    value_text(alloc, words, value_of(layers, space, &root))
+    let seen = seen_by(alloc, configuration.layers.as_slice(), space)?;
+    let text = term_text::term_text(alloc, words, &seen, &root, fuel)?;
+    Ok(counted(text))
 }
 
-/// What is shown of a space in this state.
+/// What is shown of a space in this state. None exactly where that costs more than the fuel.
 pub fn state_text(
     alloc: Global,
     words: &[Sequence<u8>],
     configuration: &Configuration,
     space: &Sequence<u32>,
     state: State,
-) -> Result<Text, AllocError>
-    ensures { IfOk result (IsPrinted (state_text words.now configuration.now space.now state)) }
+    fuel: u64,
+) -> Result<Option<Text>, AllocError>
+    ensures { IfOk result (PrintsWithin (state_text words.now configuration.now space.now state) fuel) }
 {
     match state {
-        State::Solved | State::Stuck => root_text(alloc, words, configuration, space),
-        State::Raised(raise) => raise_text(alloc, raise),
+        State::Solved | State::Stuck => root_text(alloc, words, configuration, space, fuel),
+        State::Raised(raise) => exception_text(alloc, raise, fuel),
         State::Running | State::Suspended | State::Failed | State::Alternatives(_) => {
-            make_text(alloc, b"", 0)
+            no_text(alloc, fuel)
         }
     }
 }

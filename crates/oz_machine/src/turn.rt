@@ -1,17 +1,21 @@
 //! One turn of the machine.
-ghost use Rattle.std.specs.Prelude.{◌≡◌, [], Some, IfOk};
+ghost use Rattle.std.specs.Prelude.{◌≡◌, [], Some, IfOk, OnOk};
 ghost use Rattle.oz_semantics.specs.Configurations.{in_layer, in_thread, with_frames, without_gone};
 ghost use Rattle.oz_semantics.specs.Schedule.{status_by, settled, raised, stepped, turn};
 ghost use Rattle.oz_semantics.specs.declared.configuration.Configuration.{Configuration};
 ghost use Rattle.oz_machine.specs.Moves.{HasPlan};
 ghost use Rattle.oz_machine.specs.Settling.{is_settled, CostsOne};
+ghost use Rattle.oz_machine.specs.Views.{views_of};
 
-use crate::moves::{Move, drop_gone, make_move, plan, top_frame};
+use crate::moves::{Move, drop_gone, make_move, refusal, top_frame};
 use crate::places::{layer_place, thread_place};
+use crate::plans::plan;
 use crate::settling::{end_space, settle};
-use crate::store::is_top;
+use crate::spaces::is_top;
+use crate::views::views_of;
 use oz_base::{Ident, Sequence};
 use oz_semantics::{Configuration, Layer, Raise, Statement, Status, Stepped, Thread};
+use oz_store::Seen;
 use std::alloc::{AllocError, Global};
 
 fn status_by(raise: Raise) -> Status
@@ -42,10 +46,13 @@ fn follow(
     statements: &[Statement],
     mover: &Ident,
     configuration: &mut Configuration,
+    views: &mut Sequence<Seen>,
 ) -> Result<Stepped, AllocError>
-    ensures { IfOk result (λ stepped. settled statements.now (Some mover.now) 1 configuration.old ≡ (stepped, configuration.new)) }
+    ensures turn { IfOk result (λ stepped. settled statements.now (Some mover.now) 1 configuration.old ≡ (stepped, configuration.new)) }
+    ensures views { OnOk result (views.new ≡ views_of configuration.new.layers) }
 {
-    let broken = settle(alloc, statements, Some(mover), configuration)?;
+    *views = views_of(alloc, configuration.layers.as_slice())?;
+    let broken = settle(alloc, statements, Some(mover), configuration, views)?;
     Ok(outcome(broken))
 }
 
@@ -80,11 +87,14 @@ fn raise(
     id: &Ident,
     raise: Raise,
     configuration: &mut Configuration,
+    views: &mut Sequence<Seen>,
 ) -> Result<Stepped, AllocError>
-    ensures { IfOk result (λ stepped. raised statements.now id.now raise configuration.old ≡ (stepped, configuration.new)) }
+    ensures turn { IfOk result (λ stepped. raised statements.now id.now raise configuration.old ≡ (stepped, configuration.new)) }
+    ensures views { OnOk result (views.new ≡ views_of configuration.new.layers) }
 {
     if is_top(&id.space) {
         end_top(alloc, &mut configuration.layers, id);
+        *views = views_of(alloc, configuration.layers.as_slice())?;
         return Ok(Stepped::TopEnded { raise, cost: 1 });
     }
     end_space(
@@ -93,22 +103,22 @@ fn raise(
         &id.space,
         status_by(raise),
     );
-    follow(alloc, statements, id, configuration)
+    follow(alloc, statements, id, configuration, views)
 }
 
 /// What the top statement of a thread of the layer does. None where the thread has no statement.
 fn plan_of(
     alloc: Global,
     statements: &[Statement],
-    layers: &[Layer],
+    seen: &Seen,
     layer: &Layer,
     number: u32,
 ) -> Result<Option<Move>, AllocError>
-    ensures { IfOk result (HasPlan statements.now layers.now layer.now number) }
+    ensures { IfOk result (HasPlan statements.now seen.now layer.now number) }
 {
     match top_frame(layer, number) {
         None => Ok(None),
-        Some(frame) => Ok(Some(plan(alloc, statements, layers, layer, frame)?)),
+        Some(frame) => Ok(Some(plan(alloc, statements, seen, layer, frame)?)),
     }
 }
 
@@ -117,42 +127,50 @@ fn step_of(
     statements: &[Statement],
     id: &Ident,
     configuration: &mut Configuration,
+    views: &mut Sequence<Seen>,
 ) -> Result<Stepped, AllocError>
-    ensures { IfOk result (λ outcome. stepped statements.now id.now configuration.old ≡ (outcome, configuration.new)) }
+    requires { views.old ≡ views_of configuration.old.layers }
+    ensures turn { IfOk result (λ outcome. stepped statements.now id.now configuration.old ≡ (outcome, configuration.new)) }
+    ensures views { OnOk result (views.new ≡ views_of configuration.new.layers) }
 {
     let layers = &mut configuration.layers;
     let Some(place) = layer_place(layers, &id.space) else {
-        return follow(alloc, statements, id, configuration);
+        return follow(alloc, statements, id, configuration, views);
     };
     let found = plan_of(
         alloc,
         statements,
-        layers.as_slice(),
+        views.get(place),
         layers.get(place),
         id.number,
     )?;
     let Some(plan) = found else {
-        return follow(alloc, statements, id, configuration);
+        return follow(alloc, statements, id, configuration, views);
     };
-    if let Move::Fails(cause) = plan {
-        return raise(alloc, statements, id, cause, configuration);
+    let refused = refusal(alloc, views.get_mut(place), &plan)?;
+    match refused {
+        Some(cause) => raise(alloc, statements, id, cause, configuration, views),
+        None => {
+            make_move(alloc, layers.get_mut(place), id.number, plan)?;
+            follow(alloc, statements, id, configuration, views)
+        }
     }
-    make_move(alloc, layers.get_mut(place), id.number, plan)?;
-    follow(alloc, statements, id, configuration)
 }
 
-/// One turn: the head of the queue makes one step.
-#[tactic(auto, using(crate::proofs::RunLaws::turn_costs))]
+/// One turn: the head of the queue makes one step. The views are those of the layers, before and after it.
 pub fn step(
     alloc: Global,
     statements: &[Statement],
     configuration: &mut Configuration,
+    views: &mut Sequence<Seen>,
 ) -> Result<Stepped, AllocError>
+    requires { views.old ≡ views_of configuration.old.layers }
     ensures turn { IfOk result (λ stepped. turn statements.now configuration.old ≡ (stepped, configuration.new)) }
     ensures cost { IfOk result CostsOne }
+    ensures views { OnOk result (views.new ≡ views_of configuration.new.layers) }
 {
     let Some(id) = configuration.queue.take_front() else {
         return Ok(Stepped::Quiescent);
     };
-    step_of(alloc, statements, &id, configuration)
+    step_of(alloc, statements, &id, configuration, views)
 }

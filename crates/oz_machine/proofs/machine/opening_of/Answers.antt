@@ -6,5 +6,5 @@ use Rattle.oz_machine.proofs.machine.opening_of.Goals as goal
 
 pub returns : goal.returns
 returns c =
-    opened _ c.args.kernel.now.statements _ (spawning (frames_of opening_environment c.args.kernel.now.body) (new_layer []) ∷ []) _ [] _ _ c.in_ok-settle.ensures c.as_slice.ensures
+    opened _ c.args.kernel.now.statements _ (spawning (frames_of opening_environment c.args.kernel.now.body) (new_layer []) ∷ []) _ [] _ (c.in_ok-settle_edit.ensures 0) c.as_slice.ensures
     (c.in_ok-push.ensures.ok ∙ ap₂ (λ xs l. xs ++ l ∷ []) c.new-layers.ensures c.in_ok-opening_layer.ensures) c.new.ensures

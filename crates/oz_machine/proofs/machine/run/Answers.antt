@@ -18,6 +18,7 @@ turns-preserved c =
     let may = subst (λ (s : List Statement). MayTurn s c.args.space.now c.turns.configuration true) c.as_slice-statements.ensures (sym c.may_turn.ensures ∙ c.turns-test.true) in
     let turned = subst (λ (s : List Statement). turn s c.turns.configuration ≡ (c.in_ok-raise.field-0, c.step.new.configuration)) c.as_slice-statements.ensures c.in_ok-raise.ensures.turn in
     record {
+      viewed = c.in_ok-raise.ensures.views;
       within = let w = c.turns.invariant.within in omega arith;
       same = run_went statements c.args.space.now c.turns.left c.turns.configuration c.step.new.configuration c.in_ok-raise.field-0 may turned c.in_default.not-TopEnded c.if-left-eq0.false
           ∙ c.turns.invariant.same;

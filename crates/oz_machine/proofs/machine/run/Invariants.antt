@@ -1,9 +1,11 @@
 use Rattle.std.proofs.Common.{◌≡◌, ◌≤◌, suc}
 use Rattle.oz_semantics.specs.Runs.{run_for}
+use Rattle.oz_machine.specs.Views.{views_of}
 use Rattle.oz_machine.proofs.machine.run.Given as goal
 
 abbrev pub invariant-turns : goal.invariant-turns
 invariant-turns l = record {
+  viewed : l.views ≡ views_of l.configuration.layers;
   within : l.left ≤ l.fuel;
   same : run_for l.kernel.statements l.space (suc l.left) l.configuration l.left ≡ run_for l.kernel.statements l.space (suc l.fuel) l.fn.configuration l.fuel;
 }

@@ -1,6 +1,5 @@
 use Rattle.std.proofs.Common.{◌≡◌, ◌++◌, take, filter, map}
 use Rattle.oz_semantics.specs.Names.{named}
-use Rattle.oz_semantics.specs.Configurations.{view}
 use Rattle.oz_semantics.specs.Statements.{thread_ready, steps}
 use Rattle.oz_semantics.specs.declared.configuration.Thread.{Thread}
 use Rattle.oz_machine.proofs.queue.add_able.Given as goal
@@ -8,4 +7,4 @@ use Rattle.oz_machine.proofs.queue.add_able.Given as goal
 abbrev pub invariant-loop-thread : goal.invariant-loop-thread
 invariant-loop-thread l =
     l.ids.items ≡ l.initial.ids.items
-    ++ map (λ (t : Thread). named l.layer.space t.number) (filter (λ t. steps (thread_ready l.statements (view l.layers l.layer.space) t)) (take l.thread-index l.thread-items))
+    ++ map (λ (t : Thread). named l.layer.space t.number) (filter (λ t. steps (thread_ready l.statements l.seen t)) (take l.thread-index l.thread-items))

@@ -1,16 +1,8 @@
-use Rattle.std.proofs.Common.{◌∙◌, ◌∷◌, [], ◌++◌, sym, ap, ap₂}
-use Rattle.oz_machine.proofs.StateLaws.{spaces_with, spaces_without}
-use Rattle.oz_semantics.specs.Schedule.{is_broken}
+use Rattle.std.proofs.Common.{inl, inr}
+use Rattle.oz_machine.proofs.Sights.{broken_end}
 use Rattle.oz_machine.proofs.settling.broken_spaces.Goals as goal
-use Rattle.oz_machine.proofs.settling.broken_spaces.Goals.{then-is_broken+in_ok-copied+in_ok-push, else-is_broken}
 
-pub loop-layer-preserved : goal.loop-layer-preserved
-loop-layer-preserved c = elim c.if-is_broken.branch [
-  | then-is_broken+in_ok-copied+in_ok-push w ↦
-      ap (λ v. v.items) w.spaces-is ∙ w.in_ok-push.ensures.items
-      ∙ ap₂ (λ xs s. xs ++ s ∷ []) c.loop-layer.invariant w.in_ok-copied.ensures
-      ∙ sym (spaces_with (is_broken c.args.layers.now) c.args.layers.now c.loop-layer.layer-index c.layer-item.result c.layer-item.is c.loop-layer-test.true (sym c.is_broken.ensures ∙ w.if-is_broken.true))
-  | else-is_broken w ↦
-      ap (λ v. v.items) w.spaces-is ∙ c.loop-layer.invariant
-      ∙ sym (spaces_without (is_broken c.args.layers.now) c.args.layers.now c.loop-layer.layer-index c.layer-item.result c.layer-item.is c.loop-layer-test.true (sym c.is_broken.ensures ∙ w.if-is_broken.false))
-]
+pub returns : goal.returns
+returns c =
+    broken_end c.args.layers.now c.args.views.now c.requires _ c.loop-layer.layer-iterator.a.rest.now c.loop-layer.layer-iterator.b.rest.now
+    (elim c.in-None.ensures.steps [ inl h ↦ inl h.1.0 | inr h ↦ inr h.1.0 ]) c.loop-layer.invariant

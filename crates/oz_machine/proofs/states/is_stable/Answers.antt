@@ -1,18 +1,23 @@
-use Rattle.std.proofs.Common.{◌∙◌, ◌&&◌, not, ap₂}
-use Rattle.std.specs.List.{list_any}
+use Rattle.std.proofs.Common.{◌≡◌, ◌∙◌, ◌&&◌, not, List, ℕ, sym, ap, ap₂}
 use Rattle.oz_base.specs.declared.names.Ident.{Ident}
-use Rattle.std.proofs.Common.{List, ℕ}
-use Rattle.oz_semantics.specs.Names.{is_below}
-use Rattle.oz_semantics.specs.Configurations.{view}
-use Rattle.oz_semantics.specs.Spaces.{layer_waits, alike_on}
-use Rattle.oz_semantics.specs.declared.configuration.Layer.{Layer}
+use Rattle.oz_semantics.specs.Names.{parent_of}
+use Rattle.oz_semantics.specs.Configurations.{view, ancestor_variables}
+use Rattle.oz_semantics.specs.Spaces.{alike_on}
+use Rattle.oz_semantics.specs.declared.configuration.Tell.{Tell}
+use Rattle.oz_machine.specs.Views.{waits_for}
 use Rattle.oz_machine.proofs.StateLaws.{stable_by}
 use Rattle.oz_machine.proofs.states.is_stable.Goals as goal
 
 pub returns : goal.returns
 returns c =
-    λ quiet. c.stays_apart.ensures
-    ∙ ap₂ (λ (held : List Ident) (parent : List ℕ). not (list_any (λ (l : Layer). is_below c.args.space.now l.space && layer_waits c.args.statements.now c.args.layers.now held l) c.args.layers.now)
-    && alike_on held (view c.args.layers.now c.args.space.now) (view c.args.layers.now parent))
-    (c.as_slice.ensures.value ∙ c.in_ok-held.ensures) c.in_ok-parent.ensures
+    let statements = c.args.statements.now in
+    let layers = c.args.layers.now in
+    let space = c.args.space.now in
+    let held : c.as_slice.result.now ≡ ancestor_variables layers space = c.as_slice.ensures.value ∙ c.in_ok-held.ensures in
+    let held-2 : c.as_slice-2.result.now ≡ ancestor_variables layers space = c.as_slice-2.ensures.value ∙ c.in_ok-held.ensures in
+    let above : c.in_ok-above.above ≡ view layers (parent_of space) = c.in_ok-above.ensures ∙ ap (λ (s : List ℕ). view layers s) c.in_ok-parent_of.ensures in
+    λ quiet. c.is_apart.ensures
+    ∙ ap₂ (λ w a. not w && a) (c.waits_for-waits.ensures ∙ ap (waits_for statements layers space) held)
+    (c.alike_on.ensures ∙ ap (λ (xs : List Ident). alike_on xs c.args.here.now c.in_ok-above.above) held-2
+    ∙ ap₂ (λ (one other : List Tell). alike_on (ancestor_variables layers space) one other) c.requires.here above)
     ∙ stable_by _ _ _ quiet

@@ -1,6 +1,0 @@
--- The one variable that a thread waits for, as a list.
-use Rattle.std.specs.Prelude.{List, [], ◌∷◌, Option, Some, None}
-
-abbrev pub listed : {A : Type 0} → Option A → List A
-listed None = []
-listed (Some x) = x ∷ []
