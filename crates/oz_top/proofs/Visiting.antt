@@ -12,7 +12,8 @@ use Rattle.oz_semantics.specs.declared.outcome.Leaf.{Leaf}
 use Rattle.oz_laws.specs.Visits.{Visits, FindsNone}
 use Rattle.oz_laws.proofs.Trees.{front_nil}
 use Rattle.oz_machine.specs.Machines.{Loaded}
-use Rattle.oz_machine.specs.Answers.{IsRun, PrintsWithin}
+use Rattle.oz_machine.specs.Answers.{IsRun}
+use Rattle.oz_machine.specs.Texts.{PrintsWithin}
 use Rattle.oz_machine.specs.declared.texts.Text.{Text}
 use Rattle.oz_machine.specs.declared.machine.Ran.TheVariants.{Ended}
 use Rattle.oz_top.specs.Searching.{children_by, leaf_by}

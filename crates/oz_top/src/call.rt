@@ -117,7 +117,7 @@ fn after_top<G: Gate>(
 ) -> Result<Plan, AllocError>
     ensures { IfOk result (λ plan. (plan.cause, plan.reply.items) ≡ answer_of_top machine.kernel budget (Ended machine.config left)) }
 {
-    match machine.script(alloc) {
+    match machine.script(alloc)? {
         None => no_script(alloc),
         Some(script) => search(alloc, machine, &script, budget, left, gate),
     }
