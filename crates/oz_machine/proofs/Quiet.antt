@@ -1,5 +1,5 @@
 -- Steps that tell nothing leave the views as they are.
-use Rattle.std.proofs.Common.{◌≡◌, ℕ, Bool, true, false, if◌then◌else◌, List, [], ◌∷◌, ◌++◌, map, slice_set, slice_index_or, refl, sym, ap, ◌∙◌}
+use Rattle.std.proofs.Common.{◌≡◌, ℕ, Bool, false, if◌then◌else◌, List, [], ◌∷◌, ◌++◌, map, slice_set, slice_index_or, refl, sym, ap, ◌∙◌}
 use Rattle.std.specs.List.{flat_map}
 use Rattle.std.proofs.Math.Seq.{map-set_same}
 use Rattle.std.proofs.lemmas.Bool.{false≢true}
@@ -13,7 +13,6 @@ use Rattle.oz_machine.specs.Moves.{rest_of, moved, is_telling}
 use Rattle.oz_machine.specs.Views.{views_of}
 use Rattle.oz_machine.specs.declared.moves.Move.{Move}
 use Rattle.oz_machine.specs.declared.moves.Move.TheVariants as move
-use Rattle.oz_machine.proofs.Sights.{viewed_place}
 
 -- what views depend on
 abbrev pub Outline : Type 0
