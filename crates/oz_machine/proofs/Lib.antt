@@ -7,3 +7,4 @@ mod StateLaws
 mod RunLaws
 mod TurnLaws
 mod TextLaws
+mod Quiet

@@ -1,24 +1,22 @@
 -- What the moves of statements stand for, at a place in a layer.
-use Rattle.std.proofs.Common.{◌≡◌, ℕ, ◌==◌, Bool, true, false, if◌then◌else◌, List, [], ◌∷◌, ◌++◌, map, length, Option, Some, None, sym, ap, ap₂, ◌∙◌, refl}
+use Rattle.std.proofs.Common.{◌≡◌, ℕ, Bool, true, false, if◌then◌else◌, List, [], ◌∷◌, ◌++◌, map, length, Option, Some, None, sym, ap, ap₂, ◌∙◌}
 use Rattle.std.specs.List.{range_with_len}
 use Rattle.std.proofs.lemmas.List.FromFn.{length-map-range_with_len}
 use Rattle.oz_base.specs.declared.names.Ident.{Ident}
 use Rattle.oz_semantics.specs.Names.{named}
 use Rattle.oz_semantics.specs.Store.{value_of, is_consistent}
 use Rattle.oz_semantics.specs.Configurations.{telling, bound, bindings, giving_out, fresh_variables}
-use Rattle.oz_semantics.specs.Statements.{Place, Effect, Becomes, Raises, pushing, procedure_made, counting_procedure, tells_then, statement_effect, call_effect}
+use Rattle.oz_semantics.specs.Statements.{Place, Becomes, Raises, pushing, counting_procedure, tells_then, statement_effect, call_effect}
 use Rattle.oz_semantics.specs.declared.kernel.Name.{Name}
-use Rattle.oz_semantics.specs.declared.kernel.Statement.TheVariants.{Local, BindProcedure, Call}
+use Rattle.oz_semantics.specs.declared.kernel.Statement.TheVariants.{Local, BindProcedure}
 use Rattle.oz_semantics.specs.declared.configuration.Binding.{Binding}
 use Rattle.oz_semantics.specs.declared.configuration.Tell.{Tell}
 use Rattle.oz_semantics.specs.declared.configuration.Tell.TheVariants.{Is}
-use Rattle.oz_semantics.specs.declared.configuration.Value.{Value}
 use Rattle.oz_semantics.specs.declared.configuration.Value.TheVariants as value
 use Rattle.oz_semantics.specs.declared.configuration.Layer.{Layer}
 use Rattle.oz_semantics.specs.declared.outcome.Raise.{Raise}
 use Rattle.oz_semantics.specs.declared.outcome.Raise.TheVariants.{FailureTell}
 use Rattle.oz_machine.specs.Moves.{IsPlaceIn, effect_of, RefusesTell, Refuses}
-use Rattle.oz_machine.specs.declared.moves.Move.{Move}
 use Rattle.oz_machine.specs.declared.moves.Move.TheVariants as move
 
 -- a procedure value is named by the layer

@@ -1,5 +1,5 @@
 -- What states of spaces rest on.
-use Rattle.std.proofs.Common.{◌≡◌, ℕ, suc, ◌-◌, ◌&&◌, arith, not, Bool, true, false, List, [], ◌∷◌, take, length, refl, sym, ◌∙◌, ap}
+use Rattle.std.proofs.Common.{◌≡◌, ℕ, suc, ◌-◌, ◌&&◌, arith, not, Bool, false, List, [], ◌∷◌, take, length, refl, sym, ◌∙◌, ap}
 use Rattle.oz_semantics.specs.Names.{parent_of}
 
 -- all but the last number

@@ -1,10 +1,11 @@
 -- What the calls of a machine answer.
-use Rattle.std.specs.Prelude.{ℕ, ◌-◌, ◌≡◌, ◌≤◌, ◌<◌, true, false, List, Option, Some, None}
+use Rattle.std.specs.Prelude.{ℕ, ◌-◌, ◌≡◌, ◌≤◌, true, false, List, Option, Some, None}
 use Rattle.oz_base.specs.declared.names.Ident.{Ident}
 use Rattle.oz_semantics.specs.Spaces.{state}
 use Rattle.oz_semantics.specs.Runs as runs
 use Rattle.oz_semantics.specs.Search.{has_script, script_variable}
 use Rattle.oz_machine.specs.Machines.{Loaded}
+pub use Rattle.oz_machine.specs.Texts.{PrintsWithin}
 use Rattle.oz_machine.specs.declared.machine.Ran.{Ran}
 use Rattle.oz_machine.specs.declared.machine.Ran.TheVariants.{Ended, TopEnded, OutOfFuel}
 

@@ -49,6 +49,14 @@ abbrev pub variable_in : Option Binding → Ident
 variable_in None = nowhere
 variable_in (Some b) = b.variable
 
+abbrev pub is_telling : Move → Bool
+is_telling (move.Tells t) = true
+is_telling (move.Makes t) = true
+is_telling move.Stays = false
+is_telling (move.Enters environment body) = false
+is_telling (move.Opens fresh environment body) = false
+is_telling (move.Fails raise) = false
+
 -- the exception that a tell raises, if it does
 abbrev pub RefusesTell : List Tell → Tell → Option Raise → Type 0
 RefusesTell view t (Some raise) = (raise ≡ FailureTell) × (is_consistent (view ++ t ∷ []) ≡ false)

@@ -1,11 +1,11 @@
 //! What a step does with the layer of its thread.
-ghost use Rattle.std.specs.Prelude.{◌≡◌, ◌++◌, ◌∷◌, [], not, filter, IfOk, OnOk, option_copied};
+ghost use Rattle.std.specs.Prelude.{◌≡◌, ◌++◌, ◌∷◌, [], false, not, filter, IfOk, OnOk, option_copied};
 ghost use Rattle.oz_base.specs.Lists.{first, is_empty};
 ghost use Rattle.oz_semantics.specs.Store.{is_consistent};
 ghost use Rattle.oz_semantics.specs.Configurations.{thread_at, in_thread, with_frames, without_gone, frames_of};
 ghost use Rattle.oz_semantics.specs.Schedule.{frames_in};
 ghost use Rattle.oz_semantics.specs.declared.configuration.Thread.{Thread};
-ghost use Rattle.oz_machine.specs.Moves.{rest_of, moved, RefusesTell, Refuses};
+ghost use Rattle.oz_machine.specs.Moves.{rest_of, moved, RefusesTell, Refuses, is_telling};
 
 use crate::places::thread_place;
 use oz_base::{Copies, Sequence, Stack};
@@ -57,13 +57,24 @@ fn tell_refusal(alloc: Global, seen: &mut Seen, tell: &Tell) -> Result<Option<Ra
 
 /// The exception that a move raises, if it does. What it tells is added to what its space sees.
 pub fn refusal(alloc: Global, seen: &mut Seen, plan: &Move) -> Result<Option<Raise>, AllocError>
-    ensures { IfOk result (Refuses seen.old plan.now) }
+    ensures refuses { IfOk result (Refuses seen.old plan.now) }
+    ensures kept { OnOk result (is_telling plan.now ≡ false → seen.new ≡ seen.old) }
 {
     match plan {
         Move::Fails(raise) => Ok(Some(*raise)),
         Move::Tells(tell) => tell_refusal(alloc, seen, tell),
         Move::Makes(tell) => tell_refusal(alloc, seen, tell),
         Move::Stays | Move::Enters { .. } | Move::Opens { .. } => Ok(None),
+    }
+}
+
+/// Whether a move tells something.
+pub fn is_telling(plan: &Move) -> bool
+    ensures { result ≡ is_telling plan.now }
+{
+    match plan {
+        Move::Tells(_) | Move::Makes(_) => true,
+        Move::Stays | Move::Enters { .. } | Move::Opens { .. } | Move::Fails(_) => false,
     }
 }
 

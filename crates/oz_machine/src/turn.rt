@@ -7,7 +7,7 @@ ghost use Rattle.oz_machine.specs.Moves.{HasPlan};
 ghost use Rattle.oz_machine.specs.Settling.{is_settled, CostsOne};
 ghost use Rattle.oz_machine.specs.Views.{views_of};
 
-use crate::moves::{Move, drop_gone, make_move, refusal, top_frame};
+use crate::moves::{Move, drop_gone, is_telling, make_move, refusal, top_frame};
 use crate::places::{layer_place, thread_place};
 use crate::plans::plan;
 use crate::settling::{end_space, settle};
@@ -41,6 +41,22 @@ fn outcome(broken: bool) -> Stepped
     }
 }
 
+/// What follows a step of the mover that told nothing.
+fn follow_quietly(
+    alloc: Global,
+    statements: &[Statement],
+    mover: &Ident,
+    configuration: &mut Configuration,
+    views: &mut Sequence<Seen>,
+) -> Result<Stepped, AllocError>
+    requires { views.old ≡ views_of configuration.old.layers }
+    ensures turn { IfOk result (λ stepped. settled statements.now (Some mover.now) 1 configuration.old ≡ (stepped, configuration.new)) }
+    ensures views { OnOk result (views.new ≡ views_of configuration.new.layers) }
+{
+    let broken = settle(alloc, statements, Some(mover), configuration, views)?;
+    Ok(outcome(broken))
+}
+
 fn follow(
     alloc: Global,
     statements: &[Statement],
@@ -52,8 +68,7 @@ fn follow(
     ensures views { OnOk result (views.new ≡ views_of configuration.new.layers) }
 {
     *views = views_of(alloc, configuration.layers.as_slice())?;
-    let broken = settle(alloc, statements, Some(mover), configuration, views)?;
-    Ok(outcome(broken))
+    follow_quietly(alloc, statements, mover, configuration, views)
 }
 
 fn clear_thread(threads: &mut Sequence<Thread>, number: u32)
@@ -151,8 +166,12 @@ fn step_of(
     match refused {
         Some(cause) => raise(alloc, statements, id, cause, configuration, views),
         None => {
+            let telling = is_telling(&plan);
             make_move(alloc, layers.get_mut(place), id.number, plan)?;
-            follow(alloc, statements, id, configuration, views)
+            if telling {
+                return follow(alloc, statements, id, configuration, views);
+            }
+            follow_quietly(alloc, statements, id, configuration, views)
         }
     }
 }

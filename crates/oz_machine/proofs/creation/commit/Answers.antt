@@ -1,5 +1,5 @@
-use Rattle.std.proofs.Common.{◌∙◌, ap}
-use Rattle.oz_semantics.specs.Configurations.{view, in_layer}
+use Rattle.std.proofs.Common.{◌∙◌}
+use Rattle.oz_semantics.specs.Configurations.{view}
 use Rattle.oz_semantics.specs.Spaces.{committing}
 use Rattle.oz_machine.proofs.Edits.{edited_by}
 use Rattle.oz_machine.proofs.Readies.{commits_anywhere}

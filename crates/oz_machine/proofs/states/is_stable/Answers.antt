@@ -1,4 +1,4 @@
-use Rattle.std.proofs.Common.{◌≡◌, ◌∙◌, ◌&&◌, not, List, ℕ, sym, ap, ap₂}
+use Rattle.std.proofs.Common.{◌≡◌, ◌∙◌, ◌&&◌, not, List, ℕ, ap, ap₂}
 use Rattle.oz_base.specs.declared.names.Ident.{Ident}
 use Rattle.oz_semantics.specs.Names.{parent_of}
 use Rattle.oz_semantics.specs.Configurations.{view, ancestor_variables}

@@ -1,4 +1,4 @@
-use Rattle.std.proofs.Common.{◌∙◌, ap, List, Option, ℕ, []}
+use Rattle.std.proofs.Common.{◌∙◌, ap, List, []}
 use Rattle.std.specs.List.{filter_map}
 use Rattle.oz_base.specs.Lists.{first}
 use Rattle.oz_semantics.specs.Statements.{thread_ready, offer_of}

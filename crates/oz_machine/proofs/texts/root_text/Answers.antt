@@ -1,4 +1,4 @@
-use Rattle.std.proofs.Common.{◌∙◌, List, ℕ, refl, ap}
+use Rattle.std.proofs.Common.{◌∙◌, List, refl, ap}
 use Rattle.oz_semantics.specs.Names.{root_of}
 use Rattle.oz_semantics.specs.Configurations.{view}
 use Rattle.oz_semantics.specs.Texts.{term_text}

@@ -1,0 +1,54 @@
+-- Steps that tell nothing leave the views as they are.
+use Rattle.std.proofs.Common.{◌≡◌, ℕ, Bool, false, if◌then◌else◌, List, [], ◌∷◌, ◌++◌, map, slice_set, slice_index_or, refl, sym, ap, ◌∙◌}
+use Rattle.std.specs.List.{flat_map}
+use Rattle.std.proofs.Math.Seq.{map-set_same}
+use Rattle.std.proofs.lemmas.Bool.{false≢true}
+use Rattle.std.proofs.lemmas.List.{set-get_or}
+use Rattle.oz_semantics.specs.Names.{is_below}
+use Rattle.oz_semantics.specs.Configurations.{view, with_frames, without_gone}
+use Rattle.oz_semantics.specs.declared.configuration.Tell.{Tell}
+use Rattle.oz_semantics.specs.declared.configuration.Layer.{Layer}
+use Rattle.oz_machine.specs.Places.{IsFirst}
+use Rattle.oz_machine.specs.Moves.{rest_of, moved, is_telling}
+use Rattle.oz_machine.specs.Views.{views_of}
+use Rattle.oz_machine.specs.declared.moves.Move.{Move}
+use Rattle.oz_machine.specs.declared.moves.Move.TheVariants as move
+
+-- what views depend on
+abbrev pub Outline : Type 0
+Outline = List ℕ × List Tell
+
+abbrev pub outline : Layer → Outline
+outline l = (l.space, l.tells)
+
+abbrev pub seen_in : List Outline → List ℕ → List Tell
+seen_in os space = flat_map (λ (o : Outline). if is_below o.0 space then o.1 else []) os
+
+view_outlined : (ls : List Layer) (space : List ℕ) → view ls space ≡ seen_in (map outline ls) space
+view_outlined [] space = refl
+view_outlined (l ∷ ls) space = ap (λ ts. (if is_below l.space space then l.tells else []) ++ ts) (view_outlined ls space)
+
+views_by : (all ls : List Layer) → map (λ (l : Layer). view all l.space) ls ≡ map (λ (o : Outline). seen_in (map outline all) o.0) (map outline ls)
+views_by all [] = refl
+views_by all (l ∷ ls) =
+    ap (λ (v : List Tell). v ∷ map (λ (m : Layer). view all m.space) ls) (view_outlined all l.space)
+    ∙ ap (λ (vs : List (List Tell)). seen_in (map outline all) l.space ∷ vs) (views_by all ls)
+
+same_views : (ls ks : List Layer) → map outline ls ≡ map outline ks → views_of ls ≡ views_of ks
+same_views ls ks e = views_by ls ls ∙ ap (λ (os : List Outline). map (λ (o : Outline). seen_in os o.0) os) e ∙ sym (views_by ks ks)
+
+-- the views where a layer and its view are replaced by others that are the same in what counts
+pub kept_views : (layers : List Layer) (views : List (List Tell)) → views ≡ views_of layers → {test : Layer → Bool} {place : ℕ} {l : Layer} → IsFirst test layers place l
+    → (v s : List Tell) → v ≡ slice_index_or views place v → s ≡ v → (m : Layer) → outline m ≡ outline l → slice_set views place s ≡ views_of (slice_set layers place m)
+kept_views layers views e {test} {place} {l} h v s seen same m o =
+    ap (slice_set views place) (same ∙ seen) ∙ set-get_or views place v ∙ e
+    ∙ sym (same_views (slice_set layers place m) layers (map-set_same outline layers place m l (o ∙ ap outline (sym h.item))))
+
+-- a move that tells nothing keeps what views depend on
+pub quiet_keeps : (number : ℕ) (m : Move) (l : Layer) → is_telling m ≡ false → outline (without_gone (moved number m (with_frames number rest_of l))) ≡ outline l
+quiet_keeps number move.Stays l e = refl
+quiet_keeps number (move.Enters environment body) l e = refl
+quiet_keeps number (move.Opens fresh environment body) l e = refl
+quiet_keeps number (move.Fails raise) l e = refl
+quiet_keeps number (move.Tells t) l e = absurd (false≢true (sym e))
+quiet_keeps number (move.Makes t) l e = absurd (false≢true (sym e))
