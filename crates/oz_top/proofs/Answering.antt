@@ -8,7 +8,7 @@ use Rattle.oz_semantics.specs.Runs.{Ran, Ended, TopRaised, Over, run, opening}
 use Rattle.oz_semantics.specs.Search.{Found, depth_first, has_script, script_variable, search_space, with_root}
 use Rattle.oz_semantics.specs.Refusals.{Program, Accepts, IsRefused}
 use Rattle.oz_semantics.specs.Translation.{kernel_of}
-use Rattle.oz_semantics.specs.Commands.{IsUsage, AsksAll, Spells}
+use Rattle.oz_semantics.specs.Commands.{IsUsage, AsksAll}
 use Rattle.oz_semantics.specs.Replies.{Answer, IsReply, Searches, line, spent, text_limit, usage_reply, too_large_reply, leaves_reply, refused_reply, answer_of_tree, answer_of_raise, answer_of_top, answer_to}
 use Rattle.oz_semantics.specs.declared.command.Command.{Command}
 use Rattle.oz_semantics.specs.declared.command.Command.TheVariants as commands
@@ -22,8 +22,7 @@ use Rattle.oz_semantics.specs.declared.outcome.Cause.TheVariants as causes
 use Rattle.oz_machine.specs.Machines.{Loaded}
 use Rattle.oz_machine.specs.Answers.{IsRun}
 use Rattle.oz_machine.specs.declared.machine.Ran.TheVariants as ran
-use Rattle.oz_top.specs.Call.{Reading, Writing, HasRead, ProgramGives, TextGives, ReadGives, AsText, Asks, Plans, IsDue, IsRead, Ends, IsExcused}
-use Rattle.oz_reader.specs.Reading.{Refuses}
+use Rattle.oz_top.specs.Call.{Reading, Writing, HasRead, ProgramGives, TextGives, ReadGives, AsText, budget_in, IsCommand, Asks, Plans, IsDue, IsRead, Ends, IsExcused}
 
 -- a text gives the plan of the call
 pub plans_text : (words : List (List ℕ)) (old new : Reading) (text : List ℕ) (budget : ℕ) (cause : Cause) (reply : List ℕ) → Asks words budget → HasRead old new text → TextGives text budget cause reply → Plans words old new cause reply
@@ -118,6 +117,50 @@ memory_gives text budget cause reply c e = subst (λ (x : Cause). TextGives text
 pub memory_due : (text : List ℕ) (budget : ℕ) (cause : Cause) (reply : List ℕ) → cause ≡ causes.NoMemory → AsText text budget (cause, reply)
 memory_due text budget cause reply c = record { refused = λ n f r. absurd (n c); accepted = λ n p a. absurd (n c) }
 
+-- Words
+
+-- the command that was read asks for its budget and no other
+pub asks_by : (words : List (List ℕ)) (c : Command) (budget : ℕ) → budget ≡ budget_in c → IsCommand words c → Asks words budget
+asks_by words (commands.All workers other) budget e h = subst (λ (n : ℕ). Asks words n) (sym e) (record {
+  asked = record { workers = workers; spelled = h.spelled };
+  only = λ n asked. ap budget_in (h.only (commands.All asked.workers n) asked.spelled);
+})
+
+-- no command
+pub usage_due : (words : List (List ℕ)) (bytes : List ℕ) (cause : Cause) (reply : List ℕ) → IsUsage words
+    → ((cause ≡ causes.Usage) × (reply ≡ usage_reply)) ⊎ ((cause ≡ causes.NoMemory) × (reply ≡ [])) → IsDue words bytes cause reply
+usage_due words bytes cause reply u (inr h) = λ read memory. absurd (memory h.0)
+usage_due words bytes cause reply u (inl h) = λ read memory. record {
+  usage = λ v. ap (λ (x : Cause). (x, reply)) h.0 ∙ ap (λ (x : List ℕ). (causes.Usage, x)) h.1;
+  all = λ budget asked. absurd (u (commands.All asked.workers budget) asked.spelled);
+}
+
+-- words that ask for something are no usage
+pub no_usage : (words : List (List ℕ)) (budget : ℕ) → AsksAll words budget → IsUsage words → ⊥
+no_usage words budget w u = u (commands.All w.workers budget) w.spelled
+
+usage_planned : (words : List (List ℕ)) (old new : Reading) (planned : Cause) (reply : List ℕ) → IsUsage words → Plans words old new planned reply → (planned ≡ causes.Usage) ⊎ (planned ≡ causes.NoMemory)
+usage_planned words old new causes.Usage reply u p = inl refl
+usage_planned words old new causes.NoMemory reply u p = inr refl
+usage_planned words old new causes.ReadFault reply u p = absurd (no_usage words p.0.0 p.0.1 u)
+usage_planned words old new (causes.TooLarge count) reply u p = absurd (no_usage words p.0.0 p.0.1 u)
+usage_planned words old new causes.WriteFault reply u p = absurd p
+usage_planned words old new (causes.Refused fault) reply u p = absurd (no_usage words p.budget p.asked u)
+usage_planned words old new causes.Done reply u p = absurd (no_usage words p.budget p.asked u)
+usage_planned words old new (causes.Raised shown) reply u p = absurd (no_usage words p.budget p.asked u)
+usage_planned words old new (causes.Spent total) reply u p = absurd (no_usage words p.budget p.asked u)
+usage_planned words old new causes.NoScript reply u p = absurd (no_usage words p.budget p.asked u)
+
+-- a call with words that are no command
+pub usage_ended : (words : List (List ℕ)) (old new : Reading) (before after : Writing) (planned cause : Cause) (reply : List ℕ) → IsUsage words → Plans words old new planned reply → Ends planned reply before after cause
+    → (cause ≡ causes.Usage) ⊎ IsExcused cause
+usage_ended words old new before after planned cause reply u p (inr e) = inr (inr (inl e.0))
+usage_ended words old new before after planned cause reply u p (inl e) =
+    elim (usage_planned words old new planned reply u p) [
+      | inl h ↦ inl (e.0 ∙ h)
+      | inr h ↦ inr (inr (inr (e.0 ∙ h)))
+    ]
+
 -- Reading
 
 -- what was read to the end is all that there was
@@ -140,17 +183,13 @@ part_read (Some xs) (Some ys) bytes text b l c =
       ap Some (sym (drop-append_seam text ys) ∙ ap (λ n. drop n (text ++ ys)) l ∙ ap (drop (text_limit + 1)) (sym c ∙ same)),
     )
 
--- words that ask for `all` are no usage, and ask for one budget
-asked_usage : (words : List (List ℕ)) (budget : ℕ) → Asks words budget → IsUsage words → ⊥
-asked_usage words budget w u = u (commands.All w.asked.workers budget) w.asked.spelled
-
 -- a text that was read to its end
 pub due_text : (words : List (List ℕ)) (bytes text : List ℕ) (budget : ℕ) (before after : Option (List ℕ)) (answer : Answer) → Asks words budget → before ≡ Some bytes → Consumes before after text → IsAtEnd after → length text ≤ text_limit
     → AsText text budget answer → IsDue words bytes answer.0 answer.1
 due_text words bytes text budget before after answer w b c e l a =
     let same = (whole_read before after bytes text b c e).0 in
     λ read memory. record {
-      usage = λ u. absurd (asked_usage words budget w u);
+      usage = λ u. absurd (no_usage words budget w.asked u);
       all = λ other asked. record {
         too_large = λ long. absurd (let k = ap length same in omega arith);
         refused = λ short f r. a.refused memory f (subst (λ (xs : List ℕ). IsRefused xs f) (sym same) r);
@@ -178,7 +217,7 @@ due_large words bytes text budget before after cause reply w b l c (inr h) = λ 
 due_large words bytes text budget before after cause reply w b l c (inl h) =
     let long = (part_read before after bytes text b l c).0 in
     λ read memory. record {
-      usage = λ u. absurd (asked_usage words budget w u);
+      usage = λ u. absurd (no_usage words budget w.asked u);
       all = λ other asked. record {
         too_large = λ q. ap (λ (x : Cause). (x, reply)) h.0 ∙ ap (λ (x : List ℕ). (causes.TooLarge (text_limit + 1), x)) h.1;
         refused = λ short f r. absurd (omega arith);
@@ -278,11 +317,6 @@ asked words bytes before after cause answer only h = go (excused_or cause)
     go : IsNoExcuse cause ⊎ IsExcused cause → (cause ≡ answer.0) ⊎ IsExcused cause
     go (inr e) = inr e
     go (inl n) = inl (answered words bytes before after cause answer only h n.0 n.1 n.2).0
-
--- Where the words are no command
-
-pub asked_usage_reply : (words : List (List ℕ)) (bytes : List ℕ) (before after : Writing) (cause : Cause) → IsUsage words → Replied words bytes before after cause → (cause ≡ causes.Usage) ⊎ IsExcused cause
-asked_usage_reply words bytes before after cause u h = asked words bytes before after cause (causes.Usage, usage_reply) (λ x r. r.usage u) h
 
 -- Where they ask for `all`
 

@@ -1,10 +1,12 @@
 -- What a call of the program answers, reads and writes.
-use Rattle.std.specs.Prelude.{ℕ, ◌≡◌, ◌≢◌, ◌<◌, ◌≤◌, ◌+◌, ◌⊎◌, true, false, List, [], take, drop, length, Option, Some}
+use Rattle.std.specs.Prelude.{ℕ, ◌≡◌, ◌≢◌, ◌<◌, ◌≤◌, ◌+◌, ◌⊎◌, List, [], take, drop, length, Option, Some}
 use Rattle.std.specs.Io.KnownBytes.{Appends, Consumes, IsAtEnd}
 use Rattle.oz_outside.specs.Counts.{Rose}
 use Rattle.oz_semantics.specs.Refusals.{Program, Accepts, IsRefused}
 use Rattle.oz_semantics.specs.Translation.{kernel_of}
-use Rattle.oz_semantics.specs.Commands.{IsUsage, AsksAll}
+use Rattle.oz_semantics.specs.Commands.{Spells, IsUsage, AsksAll}
+use Rattle.oz_semantics.specs.declared.command.Command.{Command}
+use Rattle.oz_semantics.specs.declared.command.Command.TheVariants as command
 use Rattle.oz_semantics.specs.Replies.{Answer, IsReply, text_limit, usage_reply, too_large_reply, refused_reply, answer_to}
 use Rattle.oz_semantics.specs.declared.outcome.Fault.{Fault}
 use Rattle.oz_semantics.specs.declared.outcome.Cause.{Cause}
@@ -89,6 +91,14 @@ IsExcused cause = (cause ≡ causes.ReadFault) ⊎ ((cause ≡ causes.WriteFault
 pub record AsText (text : List ℕ) (budget : ℕ) (answer : Answer) : Type 0 where
   pub refused : answer.0 ≢ causes.NoMemory → (fault : Fault) → IsRefused text fault → answer ≡ (causes.Refused fault, refused_reply fault)
   pub accepted : answer.0 ≢ causes.NoMemory → (p : Program) → Accepts text p → answer ≡ answer_to (kernel_of p) budget
+
+abbrev pub budget_in : Command → ℕ
+budget_in (command.All workers budget) = budget
+
+-- the words spell this command and no other
+pub record IsCommand (words : List (List ℕ)) (c : Command) : Type 0 where
+  pub spelled : Spells words c
+  pub only : (d : Command) → Spells words d → d ≡ c
 
 -- the words ask for `all` with this budget and no other
 pub record Asks (words : List (List ℕ)) (budget : ℕ) : Type 0 where

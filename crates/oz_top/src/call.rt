@@ -9,11 +9,11 @@ ghost use Rattle.oz_semantics.specs.Commands.{IsUsage, AsksAll};
 ghost use Rattle.oz_semantics.specs.Runs.{Ended};
 ghost use Rattle.oz_semantics.specs.Search.{with_root, search_space, depth_first};
 ghost use Rattle.oz_semantics.specs.Texts.{raise_text};
-ghost use Rattle.oz_semantics.specs.Replies.{IsReply, Searches, status_of, text_limit, spent, too_large_reply, leaves_reply, kind_text, refused_reply, answer_of_tree, answer_of_raise, answer_of_top, answer_to};
+ghost use Rattle.oz_semantics.specs.Replies.{IsReply, Searches, status_of, text_limit, spent, usage_reply, too_large_reply, leaves_reply, kind_text, refused_reply, answer_of_tree, answer_of_raise, answer_of_top, answer_to};
 ghost use Rattle.oz_semantics.specs.declared.outcome.Fault.{Fault};
 ghost use Rattle.oz_semantics.specs.declared.outcome.Leaf.{Leaf};
 ghost use Rattle.oz_semantics.specs.declared.outcome.Cause.{Cause};
-ghost use Rattle.oz_top.specs.Call.{TextGives, AsText, Asks, Plans, IsDue, IsRead, Ends, Answers, IsExcused};
+ghost use Rattle.oz_top.specs.Call.{TextGives, AsText, budget_in, IsCommand, Asks, Plans, IsDue, IsRead, Ends, Answers, IsExcused};
 
 use crate::reply::{add_decimal, leaves_reply};
 use crate::search::depth_first;
@@ -182,12 +182,7 @@ fn answer_for<G: Gate>(
 }
 
 /// What `all` answers for a text.
-fn answer<G: Gate>(
-    alloc: Global,
-    text: &[u8],
-    budget: u64,
-    gate: &G,
-) -> Result<Plan, AllocError>
+fn answer<G: Gate>(alloc: Global, text: &[u8], budget: u64, gate: &G) -> Result<Plan, AllocError>
     requires { length text.now ≤ text_limit }
     ensures gives { IfOk result (λ plan. TextGives text.now budget plan.cause plan.reply.items) }
     ensures due { IfOk result (λ plan. AsText text.now budget (plan.cause, plan.reply.items)) }
@@ -247,6 +242,57 @@ fn plan_all<S: Source, G: Gate>(alloc: Global, budget: u64, source: &mut S, gate
         Err(SourceError::TooLarge) => plan_too_large(alloc),
         Err(SourceError::Fault) => silent(alloc, Cause::ReadFault),
         Err(SourceError::Memory) => silent(alloc, Cause::NoMemory),
+    }
+}
+
+fn budget_in(command: Command) -> u64
+    ensures { result ≡ budget_in command }
+{
+    match command {
+        Command::All { budget, .. } => budget,
+    }
+}
+
+/// What a command answers for the text of a source, before anything is written.
+fn plan_command<S: Source, G: Gate>(
+    alloc: Global,
+    command: Command,
+    source: &mut S,
+    gate: &G,
+) -> Plan
+    ensures plans { (words : List (List ℕ)) → IsCommand words command → Plans words
+        (record { left = S.left source.old; faults = S.faults source.old })
+        (record { left = S.left source.new; faults = S.faults source.new }) result.cause result.reply.items }
+    ensures due { (words : List (List ℕ)) (bytes : List ℕ) → IsCommand words command → S.left source.old ≡ Some bytes → IsDue words bytes result.cause result.reply.items }
+    ensures read { (bytes : List ℕ) → S.left source.old ≡ Some bytes → IsRead bytes (S.left source.new) result.cause }
+{
+    plan_all(alloc, budget_in(command), source, gate)
+}
+
+/// The words spell no command.
+fn plan_usage(alloc: Global) -> Plan
+    ensures { ((result.cause ≡ Cause.Usage) × (result.reply.items ≡ usage_reply))
+        ⊎ ((result.cause ≡ Cause.NoMemory) × (result.reply.items ≡ [])) }
+{
+    match make_plan(alloc, Cause::Usage, b"usage\n") {
+        Ok(plan) => plan,
+        Err(_) => silent(alloc, Cause::NoMemory),
+    }
+}
+
+/// What the words ask for, before anything is written.
+fn plan_words<S: Source, G: Gate>(alloc: Global, words: &[String], source: &mut S, gate: &G) -> Plan
+    ensures plans { Plans (map string_bytes words.now)
+        (record { left = S.left source.old; faults = S.faults source.old })
+        (record { left = S.left source.new; faults = S.faults source.new }) result.cause result.reply.items }
+    ensures due { (bytes : List ℕ) → S.left source.old ≡ Some bytes → IsDue (map string_bytes words.now) bytes result.cause result.reply.items }
+    ensures read { (budget : ℕ) (bytes : List ℕ) → AsksAll (map string_bytes words.now) budget → S.left source.old ≡ Some bytes → IsRead bytes (S.left source.new) result.cause }
+    ensures unread { IsUsage (map string_bytes words.now) → source.new ≡ source.old }
+{
+    match read_command(alloc, words) {
+        Ok(Some(command)) => plan_command(alloc, command, source, gate),
+        Ok(None) => plan_usage(alloc),
+        Err(_) => silent(alloc, Cause::NoMemory),
     }
 }
 
@@ -357,10 +403,6 @@ pub fn oz_call<S: Source, K: Sink, G: Gate>(
     ensures write_fault { result.cause ≡ Cause.WriteFault → Rose (K.faults sink.old) (K.faults sink.new) }
     ensures silent { (result.cause ≡ Cause.ReadFault) ⊎ (result.cause ≡ Cause.NoMemory) → Appends (K.written sink.old) (K.written sink.new) [] }
 {
-    let Plan { cause, reply } = match read_command(alloc, words) {
-        Ok(Some(Command::All { budget, .. })) => plan_all(alloc, budget, source, gate),
-        Ok(None) => return finish(Cause::Usage, b"usage\n", sink),
-        Err(_) => return finish(Cause::NoMemory, b"", sink),
-    };
+    let Plan { cause, reply } = plan_words(alloc, words, source, gate);
     finish(cause, reply.as_slice(), sink)
 }

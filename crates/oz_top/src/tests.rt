@@ -17,10 +17,10 @@ const SLOT_LEAVES: &str =
     "solved 1 mon\nsolved 2 wed\nsolved 3 mon\ntotal solved=3 stuck=0 raised=0 suspended=0\n";
 
 /// One leaf of each state, and one alternative that fails.
-const ENDS: &[u8] =
-    b"Y in proc {Script R} choice R=f(R) [] {R} [] {Script} [] Y=1 [] fail end end";
+const ENDS: &[u8] = b"Y in proc {Script R} choice R=f(R) [] {R} [] {Script} [] Y=1 [] fail end end";
 
-const END_LEAVES: &str = "solved 1 f(^1)\nstuck 2 _\nraised 3 error(kernel(arity))\nsuspended 4\ntotal solved=1 stuck=1 raised=1 suspended=1\n";
+const END_LEAVES: &str =
+    "solved 1 f(^1)\nstuck 2 _\nraised 3 error(kernel(arity))\nsuspended 4\ntotal solved=1 stuck=1 raised=1 suspended=1\n";
 
 const ENDLESS: &[u8] = b"proc {Script R} choice R=a [] {Script R} end end";
 
@@ -56,7 +56,12 @@ fn answers_each_text(rt: HostRuntime) -> Result<(), Fail> {
         (&["all"], b"proc {Script R} skip", "refused syntax 20\n", 3),
         (&["all"], b"X=1", "refused unbound 0\n", 3),
         (&["all"], b"Script=1.5", "refused byte 8\n", 3),
-        (&["all"], b"proc {Script X X} skip end", "refused linear 15\n", 3),
+        (
+            &["all"],
+            b"proc {Script X X} skip end",
+            "refused linear 15\n",
+            3,
+        ),
         (&[], TWO, "usage\n", 2),
         (&["All"], TWO, "usage\n", 2),
         (&["all", "all"], TWO, "usage\n", 2),
