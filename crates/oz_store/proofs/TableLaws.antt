@@ -77,6 +77,7 @@ looks t x y s absent = by_place (position (ident_eq y) t.keys) refl
         not_yet
         (ap (λ o. class_or y (option_and_then (slice_get t.labels) o)) none)
         (ap (λ o. class_or y (option_and_then (slice_get (t.labels ++ length t.labels ∷ [])) o)) (place_push (ident_eq y) t.keys x ∙ ap₂ (λ o b. after o b (length t.keys)) none e))
+
     by_place : (o : Option ℕ) → position (ident_eq y) t.keys ≡ o → Look t x y
     by_place None none = by_test (ident_eq y x) refl none
     by_place (Some i) e =
@@ -134,7 +135,6 @@ pub going_key : (ts : List Tell) (t : Table) (x : Ident) (rest : List ℕ) (ps :
 going_key ts t x rest ps absent h =
     let s : Shape t = record { labelled = h.labelled; inside = h.inside } in
     let l = λ (y : Ident). looks t x y s absent in
-    
     record {
       labelled = length-append t.labels (length t.labels ∷ []) ∙ ap (λ n. n + 1) h.labelled ∙ sym (length-append t.keys (x ∷ []));
       valued = length-append t.values ([] ∷ []) ∙ ap (λ n. n + 1) h.valued ∙ sym (length-append t.labels (length t.labels ∷ []));
@@ -143,8 +143,8 @@ going_key ts t x rest ps absent h =
         | inr k ↦ omega (arith, k.1, length-append t.labels (length t.labels ∷ []))
       ];
       closing = closing_by ts (class_of t) (class_of (with_key t x)) (λ n r. Contains (values_at t n) r) (λ n r. Contains (values_at (with_key t x) n) r) (Contains rest) ps h.closing
-      (λ a b e. look_to t x a b (l a) (l b) e) (λ a b e. look_back t x a b (l a) (l b) e) (λ n y e. look_keeps t x y n (l y) e)
-      (λ n r c. subst (λ (vs : List ℕ). Contains vs r) (sym (push_values t.values n)) c) (λ n r c. subst (λ (vs : List ℕ). Contains vs r) (push_values t.values n) c);
+          (λ a b e. look_to t x a b (l a) (l b) e) (λ a b e. look_back t x a b (l a) (l b) e) (λ n y e. look_keeps t x y n (l y) e)
+          (λ n r c. subst (λ (vs : List ℕ). Contains vs r) (sym (push_values t.values n)) c) (λ n r c. subst (λ (vs : List ℕ). Contains vs r) (push_values t.values n) c);
     }
 
 pub going_none : Going [] no_classes [] []
@@ -182,6 +182,7 @@ renumbered_class t from to y = by_place (position (ident_eq y) t.keys)
     by_label : (o : Option ℕ) → class_or y (option_map (moved from to) o) ≡ moved_class from to (class_or y o)
     by_label None = refl
     by_label (Some n) = refl
+
     by_place : (o : Option ℕ) → class_or y (option_and_then (slice_get (map (moved from to) t.labels)) o) ≡ moved_class from to (class_or y (option_and_then (slice_get t.labels) o))
     by_place None = refl
     by_place (Some i) = ap (class_or y) (slice_get-map (moved from to) t.labels i) ∙ by_label (slice_get t.labels i)
@@ -207,6 +208,7 @@ class_within t y n s e = by_place (position (ident_eq y) t.keys) e
     by_label : (i : ℕ) (o : Option ℕ) → slice_get t.labels i ≡ o → class_or y o ≡ numbered n → n < length t.labels
     by_label i None f g = apart n y (sym g)
     by_label i (Some m) f g = subst (λ k. k < length t.labels) (number_inj m n g) (s.inside i m f)
+
     by_place : (o : Option ℕ) → class_or y (option_and_then (slice_get t.labels) o) ≡ numbered n → n < length t.labels
     by_place None g = apart n y (sym g)
     by_place (Some i) g = by_label i (slice_get t.labels i) refl g
@@ -227,42 +229,49 @@ going_merge ts t ps a b from to h ea eb ne =
       valued = length-set t.values from [] ∙ h.valued ∙ sym (length-map t.labels (moved from to));
       inside = λ i n e. within i n (slice_get t.labels i) refl (sym (slice_get-map (moved from to) t.labels i) ∙ e);
       closing = closing_merge ts (class_of t) (class_of t') (λ n r. Contains (values_at t n) r) (λ n r. Contains (values_at t' n) r) (Contains (values_at t from)) ps a b h.closing
-      (record {
-        keeps = λ x y e. is x ∙ ap (moved_class from to) e ∙ sym (is y);
-        joins = is a ∙ ap (moved_class from to) ea ∙ ap (λ k. numbered k) (to_stays ∙ sym (moved_to from to from (same_number from))) ∙ sym (ap (moved_class from to) eb) ∙ sym (is b);
-        cases = λ x y e. elim (moved_cases from to (class_of t x) (class_of t y) (sym (is x) ∙ e ∙ is y)) [
-          | inl k ↦ inl k
-          | inr (inl k) ↦ inr (inl (k.0 ∙ sym ea, k.1 ∙ sym eb))
-          | inr (inr k) ↦ inr (inr (k.0 ∙ sym eb, k.1 ∙ sym ea))
-        ];
-      })
-      (λ n r c. rep n r (n == from) refl c) (λ r c. (from, c)) (λ n r c. (rep_back n r (n == from) refl c));
+          (record {
+            keeps = λ x y e. is x ∙ ap (moved_class from to) e ∙ sym (is y);
+            joins = is a ∙ ap (moved_class from to) ea ∙ ap (λ k. numbered k) (to_stays ∙ sym (moved_to from to from (same_number from))) ∙ sym (ap (moved_class from to) eb) ∙ sym (is b);
+            cases = λ x y e. elim (moved_cases from to (class_of t x) (class_of t y) (sym (is x) ∙ e ∙ is y)) [
+              | inl k ↦ inl k
+              | inr (inl k) ↦ inr (inl (k.0 ∙ sym ea, k.1 ∙ sym eb))
+              | inr (inr k) ↦ inr (inr (k.0 ∙ sym eb, k.1 ∙ sym ea))
+            ];
+          })
+          (λ n r c. rep n r (n == from) refl c) (λ r c. (from, c)) (λ n r c. (rep_back n r (n == from) refl c));
     }
   where
     same_number : (n : ℕ) → (n == n) ≡ true
     same_number n = grind (arith, nat_tests)
+
     to_stays : moved from to to ≡ to
     to_stays = by (to == from) refl
       where
         by : (b : Bool) → (to == from) ≡ b → moved from to to ≡ to
         by true e = moved_to from to to e
         by false e = moved_not from to to e
+
     within : (i n : ℕ) (o : Option ℕ) → slice_get t.labels i ≡ o → option_map (moved from to) o ≡ Some n → n < length (map (moved from to) t.labels)
     within i n None e k = absurd (cc)
     within i n (Some m) e k = by (m == from) refl
       where
         small : m < length t.labels
         small = h.inside i m e
+
         to_small : to < length t.labels
         to_small = class_within t a to (record { labelled = h.labelled; inside = h.inside }) ea
+
         is_n : moved from to m ≡ n
         is_n = cc
+
         by : (b : Bool) → (m == from) ≡ b → n < length (map (moved from to) t.labels)
         by true f = omega (arith, to_small, is_n, moved_to from to m f, length-map t.labels (moved from to))
         by false f = omega (arith, small, is_n, moved_not from to m f, length-map t.labels (moved from to))
+
     rep : (n r : ℕ) (b : Bool) → (n == from) ≡ b → Contains (values_at t n) r → Contains (get_or (set t.values from []) n []) r ⊎ Contains (values_at t from) r
     rep n r true e c = inr (subst (λ k. Contains (values_at t k) r) (number_equal n from e) c)
     rep n r false e c = inl (subst (λ (vs : List ℕ). Contains vs r) (sym (get_or-set_other t.values from n [] [] (number_apart n from e))) c)
+
     rep_back : (n r : ℕ) (b : Bool) → (n == from) ≡ b → Contains (get_or (set t.values from []) n []) r → Contains (values_at t n) r × ((x : Ident) → class_of t x ≡ numbered n → class_of (renumbered (with_values t from []) from to) x ≡ numbered n)
     rep_back n r true e c = none_in r (subst (λ (vs : List ℕ). Contains vs r) (ap (λ k. get_or (set t.values from []) k []) (number_equal n from e) ∙ emptied t.values from) c)
     rep_back n r false e c = (
@@ -347,6 +356,7 @@ module _ (ts : List Tell) (t : Table) (c r : ℕ) (y : Ident) (w : Value) (rest 
           let k = number_equal n c e in
           subst (λ m. Contains (values_at (put t c grown) m) q) (sym k) (subst (λ (vs : List ℕ). Contains vs q) (sym (put_here t c grown within)) (Contains-append_left (values_at t c) (r ∷ []) q (subst (λ m. Contains (values_at t m) q) k d)))
       rep n q false e d = subst (λ (vs : List ℕ). Contains vs q) (sym (put_other t c n grown (number_apart n c e))) d
+
       back : (n q : ℕ) (b : Bool) → (n == c) ≡ b → Contains (values_at (put t c grown) n) q → Contains (values_at t n) q ⊎ ((n ≡ c) × (q ≡ r))
       back n q true e d =
           let k = number_equal n c e in
@@ -378,16 +388,22 @@ module _ (ts : List Tell) (t : Table) (c r : ℕ) (y : Ident) (w : Value) (rest 
     where
       there : (i < length (values_at t c)) × (like_at w (slice_get ts (get_or (values_at t c) i 0)) ≡ true)
       there = let s = position-Some (λ p. like_at w (slice_get ts p)) (values_at t c) i 0 found in (s.0, s.1)
+
       q_in : Contains (values_at t c) (get_or (values_at t c) i 0)
       q_in = Contains-get_or (values_at t c) i 0 there.0
+
       same_q : get_or (values_at t c) i r ≡ get_or (values_at t c) i 0
       same_q = get_or_default (values_at t c) i r 0 there.0
+
       m_left : min (get_or (values_at t c) i r) r ≤ get_or (values_at t c) i 0
       m_left = omega (arith, same_q)
+
       m_right : min (get_or (values_at t c) i r) r ≤ r
       m_right = omega arith
+
       m_which : (min (get_or (values_at t c) i r) r ≡ get_or (values_at t c) i 0) ⊎ (min (get_or (values_at t c) i r) r ≡ r)
       m_which = min_which (get_or (values_at t c) i r) r (get_or (values_at t c) i 0) same_q
+
       rep : (n p : ℕ) (b : Bool) → (n == c) ≡ b → Contains (values_at t n) p → Contains (values_at (put t c (changed i)) n) p ⊎ (p ≡ reached i)
       rep n p true e d =
           let k = number_equal n c e in
@@ -396,6 +412,7 @@ module _ (ts : List Tell) (t : Table) (c r : ℕ) (y : Ident) (w : Value) (rest 
             | inr a ↦ inr a
           ]
       rep n p false e d = inl (subst (λ (vs : List ℕ). Contains vs p) (sym (put_other t c n (changed i) (number_apart n c e))) d)
+
       back : (n p : ℕ) (b : Bool) → (n == c) ≡ b → Contains (values_at (put t c (changed i)) n) p → Contains (values_at t n) p ⊎ ((n ≡ c) × (p ≡ least i))
       back n p true e d =
           let k = number_equal n c e in
@@ -449,7 +466,7 @@ looked : (ts : List Tell) (t : Table) (y : Ident) (n : ℕ) (rest : List ℕ) (p
 looked ts t y n rest ps None e en h = record {
   going = going_key ts t y rest ps e h;
   class = ap (λ o. class_or y (option_and_then (slice_get (t.labels ++ length t.labels ∷ [])) o)) (place_push (ident_eq y) t.keys y ∙ ap₂ (λ o b. after o b (length t.keys)) e (ident_eq-itself y))
-  ∙ ap (class_or y) (ap (slice_get (t.labels ++ length t.labels ∷ [])) (sym h.labelled) ∙ last_at t.labels (length t.labels)) ∙ ap (λ m. numbered m) (some_number (length t.labels) n en);
+      ∙ ap (class_or y) (ap (slice_get (t.labels ++ length t.labels ∷ [])) (sym h.labelled) ∙ last_at t.labels (length t.labels)) ∙ ap (λ m. numbered m) (some_number (length t.labels) n en);
   stays = weight_push ts t.values;
 }
 looked ts t y n rest ps (Some i) e en h = record {
@@ -501,3 +518,26 @@ module _ (ts : List Tell) (t : Table) (c r : ℕ) (y : Ident) (w : Value) (rest 
         let z = length_zip (fields_at (slice_get ts q)) (fields_of w) lw.1 in
         omega (arith, a, b, l, z, mw, lw.0, rw_);
   }
+
+pub took : (ts : List Tell) (t t1 t2 t3 : Table) (r n : ℕ) (y : Ident) (w : Value) (rest places new : List ℕ) (ps ps' : List (Ident × Ident)) → slice_get ts r ≡ Some (Is y w) → t1 ≡ looked_at (position (ident_eq y) t.keys) t y
+    → number_at (position (ident_eq y) t.keys) t.labels ≡ Some n → t2 ≡ with_values t1 n [] → places ≡ values_at t1 n → new ≡ joined_places (position (λ p. like_at w (slice_get ts p)) places) places r
+    → ps' ≡ ps ++ pairs_with ts (position (λ p. like_at w (slice_get ts p)) places) places w → t3 ≡ with_values t2 n new → Going ts t (r ∷ rest) ps → TakesIn ts t t3 rest ps ps' (width_of (slice_get ts r))
+took ts t t1 t2 t3 r n y w rest places new ps ps' at e1 en e2 ep enew eps e3 h =
+    let l0 = going_look ts t y n (r ∷ rest) ps en h in
+    let g1 : Going ts t1 (r ∷ rest) ps = subst (λ u. Going ts u (r ∷ rest) ps) (sym e1) l0.going in
+    let c1 : class_of t1 y ≡ numbered n = ap (λ u. class_of u y) e1 ∙ l0.class in
+    let o = position (λ p. like_at w (slice_get ts p)) (values_at t1 n) in
+    let b = taken_by ts t1 n r y w rest ps g1 at c1 o refl in
+    let f3 : t3 ≡ put t1 n (joined_places o (values_at t1 n) r) = e3 ∙ ap₂ (λ u v. with_values u n v) e2 (enew ∙ ap (λ vs. joined_places (position (λ p. like_at w (slice_get ts p)) vs) vs r) ep) in
+    let fp : ps' ≡ ps ++ pairs_with ts o (values_at t1 n) w = eps ∙ ap (λ vs. ps ++ pairs_with ts (position (λ p. like_at w (slice_get ts p)) vs) vs w) ep in
+    record {
+      going = subst (λ u. Going ts u rest ps') (sym f3) (subst (λ qs. Going ts (put t1 n (joined_places o (values_at t1 n) r)) rest qs) (sym fp) b.going);
+      kept = omega (arith, b.kept, l0.stays, ap (λ (u : Table). weight ts u.values) f3, ap (λ (u : Table). weight ts u.values) e1, ap length fp);
+    }
+
+-- what waits is a value
+pub not_none : {A : Type 0} (ts : List Tell) (t : Table) (r : ℕ) (rest : List ℕ) (ps : List (Ident × Ident)) → slice_get ts r ≡ None → Going ts t (r ∷ rest) ps → A
+not_none ts t r rest ps e h = let o = h.closing.rest r (head_in r rest) in let k = o.told in absurd (cc)
+
+pub not_equal : {A : Type 0} (ts : List Tell) (t : Table) (r : ℕ) (rest : List ℕ) (ps : List (Ident × Ident)) (x y : Ident) → slice_get ts r ≡ Some (Equal x y) → Going ts t (r ∷ rest) ps → A
+not_equal ts t r rest ps x y e h = let o = h.closing.rest r (head_in r rest) in let k = o.told in absurd (cc)

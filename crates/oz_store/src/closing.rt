@@ -1,8 +1,9 @@
 //! The closing of what is told: pairs of variables that are to be joined wait in a list, until none is left.
-ghost use Rattle.std.specs.Prelude.{◌≡◌, ◌+◌, ◌∷◌, ◌++◌, ℕ, List, [], Some, length, position, slice_get, slice_set, min, OnOk, IfOk};
+ghost use Rattle.std.specs.Prelude.{◌≡◌, ◌+◌, ◌∷◌, ◌++◌, ℕ, List, [], Some, length, position, option_copied, slice_get, slice_set, min, OnOk, IfOk};
 ghost use Rattle.std.specs.List.{zip};
 ghost use Rattle.oz_semantics.specs.Values.{fields_of};
 ghost use Rattle.oz_semantics.specs.declared.configuration.Tell.{Tell};
+ghost use Rattle.oz_semantics.specs.declared.configuration.Tell.TheVariants.{Is};
 ghost use Rattle.oz_store.specs.Classes.{Table, no_classes};
 ghost use Rattle.oz_store.specs.Closing.{Going, TakesIn, IsLast, width_of, width};
 ghost use Rattle.oz_store.specs.Places.{fields_at, like_at, joined_places, pairs_with};
@@ -98,6 +99,13 @@ fn earlier(left: usize, right: usize) -> usize
     if left < right { left } else { right }
 }
 
+/// The tell at a place.
+fn told_at(tells: &[Tell], place: usize) -> Option<&Tell>
+    ensures { option_copied result ≡ slice_get tells.now place }
+{
+    tells.get(place)
+}
+
 /// Looks at the place of a value that waits.
 fn take_in(
     alloc: Global,
@@ -108,9 +116,43 @@ fn take_in(
 ) -> Result<(), AllocError>
     ensures { OnOk result ((rest : List ℕ) → Going tells.now classes.old (place ∷ rest) pending.old.items → TakesIn tells.now classes.old classes.new rest pending.old.items pending.new.items (width_of (slice_get tells.now place))) }
 {
-    let Some(Tell::Is { variable, value }) = tells.get(place) else {
-        return Ok(());
-    };
+    match told_at(tells, place) {
+        None => Ok(()),
+        Some(tell) => take_tell_in(alloc, tells, classes, pending, place, tell),
+    }
+}
+
+fn take_tell_in(
+    alloc: Global,
+    tells: &[Tell],
+    classes: &mut Classes,
+    pending: &mut Vec<(Ident, Ident)>,
+    place: usize,
+    tell: &Tell,
+) -> Result<(), AllocError>
+    requires { slice_get tells.now place ≡ Some tell.now }
+    ensures { OnOk result ((rest : List ℕ) → Going tells.now classes.old (place ∷ rest) pending.old.items → TakesIn tells.now classes.old classes.new rest pending.old.items pending.new.items (width_of (slice_get tells.now place))) }
+{
+    match tell {
+        Tell::Equal { .. } => Ok(()),
+        Tell::Is { variable, value } => {
+            take_value_in(alloc, tells, classes, pending, place, variable, value)
+        }
+    }
+}
+
+fn take_value_in(
+    alloc: Global,
+    tells: &[Tell],
+    classes: &mut Classes,
+    pending: &mut Vec<(Ident, Ident)>,
+    place: usize,
+    variable: &Ident,
+    value: &Value,
+) -> Result<(), AllocError>
+    requires { slice_get tells.now place ≡ Some (Is variable.now value.now) }
+    ensures { OnOk result ((rest : List ℕ) → Going tells.now classes.old (place ∷ rest) pending.old.items → TakesIn tells.now classes.old classes.new rest pending.old.items pending.new.items (width_of (slice_get tells.now place))) }
+{
     let number = classes.look(alloc, variable)?;
     let mut places = classes.take_values(alloc, number);
     put_place(alloc, tells, &mut places, pending, place, value)?;
