@@ -1,2 +1,3 @@
 mod Pushes
-mod Rounds
+pub mod ClosingLaws
+pub mod TableLaws
