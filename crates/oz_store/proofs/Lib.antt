@@ -1,3 +1,4 @@
 mod Pushes
 pub mod ClosingLaws
 pub mod TableLaws
+mod JoinLaws

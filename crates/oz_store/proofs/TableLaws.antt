@@ -54,16 +54,16 @@ place_within p xs n e = omega (arith, from_within p 0 xs n (sym (position_from-z
 
 -- One variable more
 
-record Shape (t : Table) : Type 0 where
-  labelled : length t.labels ≡ length t.keys
-  inside : (i n : ℕ) → slice_get t.labels i ≡ Some n → n < length t.labels
+pub record Shape (t : Table) : Type 0 where
+  pub labelled : length t.labels ≡ length t.keys
+  pub inside : (i n : ℕ) → slice_get t.labels i ≡ Some n → n < length t.labels
 
-data Look (t : Table) (x y : Ident) : Type 0 where
+pub data Look (t : Table) (x y : Ident) : Type 0 where
   numbered_before : (n : ℕ) → n < length t.labels → class_of t y ≡ numbered n → class_of (with_key t x) y ≡ numbered n → Look t x y
   numbered_now : y ≡ x → class_of t y ≡ alone x → class_of (with_key t x) y ≡ numbered (length t.labels) → Look t x y
   not_yet : class_of t y ≡ alone y → class_of (with_key t x) y ≡ alone y → Look t x y
 
-looks : (t : Table) (x y : Ident) → Shape t → position (ident_eq x) t.keys ≡ None → Look t x y
+pub looks : (t : Table) (x y : Ident) → Shape t → position (ident_eq x) t.keys ≡ None → Look t x y
 looks t x y s absent = by_place (position (ident_eq y) t.keys) refl
   where
     by_test : (b : Bool) → ident_eq y x ≡ b → position (ident_eq y) t.keys ≡ None → Look t x y
@@ -89,13 +89,13 @@ looks t x y s absent = by_place (position (ident_eq y) t.keys) refl
         (ap (λ o. class_or y (option_and_then (slice_get (t.labels ++ length t.labels ∷ [])) o)) (place_push (ident_eq y) t.keys x ∙ ap (λ o. after o (ident_eq y x) (length t.keys)) e)
         ∙ ap (class_or y) (more_at t.labels (length t.labels ∷ []) i n at))
 
-number_inj : (m n : ℕ) → numbered m ≡ numbered n → m ≡ n
+pub number_inj : (m n : ℕ) → numbered m ≡ numbered n → m ≡ n
 number_inj m n e = cc
 
-alone_inj : (x y : Ident) → alone x ≡ alone y → x ≡ y
+pub alone_inj : (x y : Ident) → alone x ≡ alone y → x ≡ y
 alone_inj x y e = cc
 
-apart : {A : Type 0} (n : ℕ) (x : Ident) → numbered n ≡ alone x → A
+pub apart : {A : Type 0} (n : ℕ) (x : Ident) → numbered n ≡ alone x → A
 apart n x e = absurd (cc)
 
 look_to : (t : Table) (x a b : Ident) → Look t x a → Look t x b → class_of t a ≡ class_of t b → class_of (with_key t x) a ≡ class_of (with_key t x) b
@@ -120,7 +120,7 @@ look_back t x a b (not_yet p q) (numbered_before n l r s) e = apart n a (sym s �
 look_back t x a b (not_yet p q) (numbered_now l r s) e = apart (length t.labels) a (sym s ∙ sym e ∙ q)
 look_back t x a b (not_yet p q) (not_yet r s) e = p ∙ sym q ∙ e ∙ s ∙ sym r
 
-look_keeps : (t : Table) (x y : Ident) (n : ℕ) → Look t x y → class_of t y ≡ numbered n → class_of (with_key t x) y ≡ numbered n
+pub look_keeps : (t : Table) (x y : Ident) (n : ℕ) → Look t x y → class_of t y ≡ numbered n → class_of (with_key t x) y ≡ numbered n
 look_keeps t x y n (numbered_before m l p q) e = q ∙ sym p ∙ e
 look_keeps t x y n (numbered_now k p q) e = apart n x (sym e ∙ p)
 look_keeps t x y n (not_yet p q) e = apart n y (sym e ∙ p)
@@ -202,7 +202,7 @@ moved_cases from to (numbered m) (numbered n) e = by (m == from) (n == from) ref
     by false true f g = inr (inl (ap (λ k. numbered k) (sym (moved_not from to m f)) ∙ e ∙ ap (λ k. numbered k) (moved_to from to n g), ap (λ k. numbered k) (number_equal n from g)))
     by false false f g = inl (ap (λ k. numbered k) (sym (moved_not from to m f)) ∙ e ∙ ap (λ k. numbered k) (moved_not from to n g))
 
-class_within : (t : Table) (y : Ident) (n : ℕ) → Shape t → class_of t y ≡ numbered n → n < length t.labels
+pub class_within : (t : Table) (y : Ident) (n : ℕ) → Shape t → class_of t y ≡ numbered n → n < length t.labels
 class_within t y n s e = by_place (position (ident_eq y) t.keys) e
   where
     by_label : (i : ℕ) (o : Option ℕ) → slice_get t.labels i ≡ o → class_or y o ≡ numbered n → n < length t.labels
@@ -424,7 +424,7 @@ module _ (ts : List Tell) (t : Table) (c r : ℕ) (y : Ident) (w : Value) (rest 
 
 -- How many fields wait in all
 
-width_push : (ts : List Tell) (xs : List ℕ) (r : ℕ) → width ts (xs ++ r ∷ []) ≡ width ts xs + width_of (slice_get ts r)
+pub width_push : (ts : List Tell) (xs : List ℕ) (r : ℕ) → width ts (xs ++ r ∷ []) ≡ width ts xs + width_of (slice_get ts r)
 width_push ts [] r = omega arith
 width_push ts (x ∷ xs) r = omega (arith, width_push ts xs r)
 

@@ -1,9 +1,13 @@
-use Rattle.std.proofs.Common.{rules, ◌≡◌, ◌==◌, ◌↔◌, false, IsTrue, Some, position, map, if◌then◌else◌, List, [], None, length, OnOk, IfOk, slice_set, ℕ, ◌+◌, ◌-◌, ◌*◌, ◌<◌, ◌≤◌, ◌/◌, ◌%◌, Bool, true, nat_eq, nat_lt, ◌∷◌, ◌++◌, slice_index_or, bit_and, bit_or, Fits, w8, w32, w64, Bor, MutBor}
-use Rattle.std.specs.List.{list_any}
-use Rattle.oz_base.specs.Names.{ident_eq}
-use Rattle.oz_store.specs.Classes.{Table, no_classes, number_in, class_of, values_at, with_key, looked_at, number_at, moved, renumbered, with_values}
+use Rattle.std.proofs.Common.{◌∙◌, ◌<◌, length, arith, ap}
+use Rattle.oz_store.specs.Classes.{moved}
+use Rattle.oz_store.proofs.JoinLaws.{moved_more, moved_next}
 use Rattle.oz_store.proofs.classes.renumber_all.Goals as goal
 
--- src/classes.rt:133:5
 pub loop-label-preserved : goal.loop-label-preserved
-loop-label-preserved c = ?
+loop-label-preserved c =
+    let f = moved c.args.from c.args.to in
+    let old = c.args.labels.now.items in
+    let i = c.loop-label.label-index in
+    let lt : i < length old = omega (arith, c.loop-label-test.true, ap length c.deref_mut-label-items.ensures.value) in
+    let next = moved_next f c.loop-label.label-items old i 0 lt c.loop-label.invariant in
+    moved_more f c.loop-label.label-items old i c.renumber_one.result lt c.loop-label.invariant (c.renumber_one.ensures ∙ ap f next)
