@@ -1,6 +1,6 @@
 -- How a closing begins, goes on and ends.
-use Rattle.std.proofs.Common.{ℕ, zero, suc, ◌≡◌, ◌∙◌, ◌+◌, ◌<◌, ◌≤◌, ◌⊎◌, inl, inr, true, List, [], ◌∷◌, ◌++◌, map, length, Option, Some, None, refl, sym, ap, subst, arith, slice_get}
-use Rattle.std.specs.Prelude.{Contains, IsTrue}
+use Rattle.std.proofs.Common.{ℕ, zero, suc, ◌≡◌, ◌∙◌, ◌<◌, ◌≤◌, ◌⊎◌, inl, inr, true, List, [], ◌∷◌, ◌++◌, map, length, Some, refl, sym, ap, subst, arith, slice_get}
+use Rattle.std.specs.Prelude.{Contains}
 use Rattle.std.specs.List.{zip}
 use Rattle.std.proofs.Math.ListN.{get_or}
 use Rattle.std.proofs.lemmas.List.Elements.{Contains-append_left, Contains-append_right, Contains-append_cases, Contains-push, Contains-push_cases}
@@ -15,8 +15,8 @@ use Rattle.oz_semantics.specs.declared.configuration.Value.{Value}
 use Rattle.oz_semantics.specs.declared.configuration.Value.TheVariants as value
 use Rattle.oz_semantics.specs.declared.configuration.Tell.{Tell}
 use Rattle.oz_semantics.specs.declared.configuration.Tell.TheVariants.{Equal, Is}
-use Rattle.oz_store.specs.Classes.{Class, numbered, alone}
-use Rattle.oz_store.specs.Closing.{Coarser, Joins, Agree, Gives, GivesClass, Stands, Closing}
+use Rattle.oz_store.specs.Classes.{Class, numbered}
+use Rattle.oz_store.specs.Closing.{Coarser, Joins, Agree, Gives, Stands, Closing}
 
 -- Lists
 
@@ -410,19 +410,19 @@ module _ (ts : List Tell) (f : Ident → Class) (Rep : ℕ → ℕ → Type 0) (
   no_pairs : (g : Ident → Class) → Joins g []
   no_pairs g x y c = none_in (x, y) c
 
-  record Has (k : ℕ) (y : Ident) (w : Value) : Type 0 where
-    number : ℕ
-    place : ℕ
-    variable : Ident
-    value : Value
-    told : slice_get ts place ≡ Some (Is variable value)
-    rep : Rep number place
-    early : place ≤ k
-    class : f y ≡ numbered number
-    like : is_like value w ≡ true
-    agree : map f (fields_of value) ≡ map f (fields_of w)
+  pub record Has (k : ℕ) (y : Ident) (w : Value) : Type 0 where
+    pub number : ℕ
+    pub place : ℕ
+    pub variable : Ident
+    pub value : Value
+    pub told : slice_get ts place ≡ Some (Is variable value)
+    pub rep : Rep number place
+    pub early : place ≤ k
+    pub class : f y ≡ numbered number
+    pub like : is_like value w ≡ true
+    pub agree : map f (fields_of value) ≡ map f (fields_of w)
 
-  has : (k : ℕ) (y : Ident) (w : Value) → slice_get ts k ≡ Some (Is y w) → Has k y w
+  pub has : (k : ℕ) (y : Ident) (w : Value) → slice_get ts k ≡ Some (Is y w) → Has k y w
   has k y w e =
       let o = h.kept k y w e in
       elim o.among [

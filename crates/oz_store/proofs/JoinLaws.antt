@@ -1,5 +1,5 @@
 -- Two variables joined: what a join makes due is taken in place by place.
-use Rattle.std.proofs.Common.{ℕ, zero, suc, ◌≡◌, ◌≢◌, ◌∙◌, ◌+◌, ◌==◌, ◌<◌, ◌≤◌, ◌⊎◌, inl, inr, Bool, true, false, List, [], ◌∷◌, ◌++◌, map, length, take, drop, Result, Ok, Err, Option, Some, None, refl, sym, ap, ap₂, subst, arith, slice_get, position}
+use Rattle.std.proofs.Common.{ℕ, ◌≡◌, ◌≢◌, ◌∙◌, ◌+◌, ◌<◌, inl, inr, Bool, true, List, [], ◌∷◌, ◌++◌, map, length, take, drop, Result, Ok, Err, Option, Some, None, refl, sym, ap, subst, arith, slice_get, position}
 use Rattle.std.specs.Prelude.{Contains, OnOk}
 use Rattle.std.proofs.Math.ListN.{get_or, set}
 use Rattle.std.proofs.lemmas.List.{take_more, drop_more, set_at, map-append, append_assoc, length-map, length-take-le, get_or_at}
@@ -11,10 +11,10 @@ use Rattle.oz_semantics.specs.Store.{Same, told}
 use Rattle.oz_semantics.specs.declared.configuration.Value.{Value}
 use Rattle.oz_semantics.specs.declared.configuration.Tell.{Tell}
 use Rattle.oz_semantics.specs.declared.configuration.Tell.TheVariants.{Equal, Is}
-use Rattle.oz_store.specs.Classes.{Class, numbered, Table, number_in, class_or, class_of, values_at, looked_at, number_at, moved, renumbered, with_values}
+use Rattle.oz_store.specs.Classes.{Class, numbered, Table, number_in, class_or, class_of, values_at, looked_at, number_at, renumbered, with_values}
 use Rattle.oz_store.specs.Closing.{Joins, Going, Gives, TakesIn, IsLast, width_of, width, weight}
 use Rattle.oz_store.proofs.ClosingLaws.{closing_skip, closing_told, none_in, head_in, cons_cases, last_at}
-use Rattle.oz_store.proofs.TableLaws.{Shape, looks, look_keeps, class_within, width_push, alone_inj, Looked, going_look, going_merge, weight_taken}
+use Rattle.oz_store.proofs.TableLaws.{Shape, looks, look_keeps, class_within, width_push, alone_inj, going_look, going_merge, weight_taken}
 
 -- Variables that were never looked at
 

@@ -2,3 +2,4 @@ mod Pushes
 pub mod ClosingLaws
 pub mod TableLaws
 mod JoinLaws
+mod SeenLaws

@@ -1,6 +1,6 @@
 -- Tables of classes: a variable more, a class renumbered, places put in and taken out.
 use Rattle.std.proofs.Common.{ℕ, zero, suc, ◌≡◌, ◌≢◌, ◌∙◌, ◌+◌, ◌==◌, ◌<◌, ◌≤◌, ◌⊎◌, inl, inr, Bool, true, false, cond, if◌then◌else◌, List, [], ◌∷◌, ◌++◌, map, length, Option, Some, None, refl, sym, ap, ap₂, subst, arith, slice_get, position, min, nat_lt}
-use Rattle.std.specs.Prelude.{Contains, IsTrue, slice_index_or, slice_set}
+use Rattle.std.specs.Prelude.{Contains}
 use Rattle.std.specs.List.{zip, position_from}
 use Rattle.std.specs.Option.{option_and_then, option_map}
 use Rattle.std.proofs.Math.ListN.{get_or, set}
@@ -10,7 +10,7 @@ use Rattle.std.proofs.lemmas.Iterator.Adapters.{position_from-zero}
 use Rattle.std.proofs.lemmas.List.Quantifiers.{position-Some}
 use Rattle.std.proofs.lemmas.List.Elements.{Contains-get_or, Contains-push, Contains-push_cases, Contains-append_left}
 use Rattle.std.proofs.lemmas.List.{get_or_default, length-set, length-map, get_or-set_same, get_or-set_other, length-append, append-nil}
-use Rattle.std.proofs.lemmas.Option.{slice_get-get_or, slice_get_within, get_or_from_slice_get, slice_get-map, slice_get_past}
+use Rattle.std.proofs.lemmas.Option.{slice_get-get_or, slice_get-map}
 use Rattle.oz_base.specs.IdentLaws.{ident_eq-equal, ident_eq-itself}
 use Rattle.oz_base.specs.Names.{ident_eq}
 use Rattle.oz_base.specs.declared.names.Ident.{Ident}
@@ -18,10 +18,10 @@ use Rattle.oz_semantics.specs.Values.{is_like, fields_of}
 use Rattle.oz_semantics.specs.declared.configuration.Value.{Value}
 use Rattle.oz_semantics.specs.declared.configuration.Tell.{Tell}
 use Rattle.oz_semantics.specs.declared.configuration.Tell.TheVariants.{Equal, Is}
-use Rattle.oz_store.specs.Classes.{Class, numbered, alone, Table, no_classes, number_in, class_or, class_of, values_at, with_key, looked_at, number_at, moved, renumbered, with_values}
-use Rattle.oz_store.specs.Closing.{Coarser, Joins, Closing, Going, TakesIn, width_of, width, weight}
+use Rattle.oz_store.specs.Classes.{Class, numbered, alone, Table, no_classes, class_or, class_of, values_at, with_key, looked_at, number_at, moved, renumbered, with_values}
+use Rattle.oz_store.specs.Closing.{Closing, Going, TakesIn, width_of, width, weight}
 use Rattle.oz_store.specs.Places.{like_at, fields_at, joined_places, pairs_with}
-use Rattle.oz_store.proofs.ClosingLaws.{closing_none, closing_by, closing_merge, closing_added, closing_joined, like_length, Merges, none_in, head_in, tail_in, cons_cases, more_at, push_at, last_at}
+use Rattle.oz_store.proofs.ClosingLaws.{closing_none, closing_by, closing_merge, closing_added, closing_joined, like_length, none_in, head_in, tail_in, cons_cases, more_at, push_at, last_at}
 
 -- Where a name stands
 

@@ -149,8 +149,15 @@ fn are_alike(tells: &[Tell], places: &[usize]) -> bool
 {
     match places.first() {
         None => true,
-        Some(first) => places.iter().all(|place| alike(tells, *first, *place)),
+        Some(first) => are_like(tells, *first, places),
     }
+}
+
+/// Whether the values at all places are like that at one.
+fn are_like(tells: &[Tell], place: usize, places: &[usize]) -> bool
+    ensures { result ≡ list_all (λ q. alike (slice_get tells.now place) (slice_get tells.now q)) places.now }
+{
+    places.iter().all(|other| alike(tells, place, *other))
 }
 
 fn all_alike(tells: &[Tell], classes: &[Sequence<usize>]) -> bool
