@@ -1,2 +1,5 @@
 mod Pushes
-mod Rounds
+pub mod ClosingLaws
+pub mod TableLaws
+mod JoinLaws
+mod SeenLaws

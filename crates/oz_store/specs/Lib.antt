@@ -1,1 +1,3 @@
-pub mod Joins
+pub mod Places
+pub mod Classes
+pub mod Closing

@@ -1,109 +1,18 @@
-//! Which variables tells make equal: replacements, added until they make equal all that they lead to.
-ghost use Rattle.std.specs.Prelude.{◌≡◌, ◌+◌, ◌∷◌, ◌++◌, [], length, fold, OnOk, IfOk};
-ghost use Rattle.std.specs.List.{list_all, flat_map, zip};
-ghost use Rattle.oz_semantics.specs.Store.{stands_for, same_by, joining, told_pairs, field_pairs, next_pairs, closed, named_by, replacements};
+//! The closing of what is told: pairs of variables that are to be joined wait in a list, until none is left.
+ghost use Rattle.std.specs.Prelude.{◌≡◌, ◌+◌, ◌∷◌, ◌++◌, ℕ, List, [], Some, length, position, option_copied, slice_get, slice_set, min, OnOk, IfOk};
+ghost use Rattle.std.specs.List.{zip};
 ghost use Rattle.oz_semantics.specs.Values.{fields_of};
-ghost use Rattle.oz_store.specs.Joins.{with_new};
+ghost use Rattle.oz_semantics.specs.declared.configuration.Tell.{Tell};
+ghost use Rattle.oz_semantics.specs.declared.configuration.Tell.TheVariants.{Is};
+ghost use Rattle.oz_store.specs.Classes.{Table, no_classes};
+ghost use Rattle.oz_store.specs.Closing.{Going, TakesIn, IsLast, width_of, width};
+ghost use Rattle.oz_store.specs.Places.{fields_at, like_at, joined_places, pairs_with};
 
+use crate::classes::Classes;
 use crate::values::is_like;
-use oz_base::{Copies, Ident, Stack, same_ident};
+use oz_base::{Copies, Ident};
 use oz_semantics::{Tell, Value};
 use std::alloc::{AllocError, Global};
-
-/// Replacements of variables, the last one on top.
-pub type Replacements = Stack<(Ident, Ident)>;
-
-/// The variable that stands for another one.
-fn stands_for<'a>(replaced: &'a Replacements, variable: &'a Ident) -> &'a Ident
-    ensures { result.now ≡ stands_for replaced.now variable.now }
-{
-    let mut at = variable;
-    let steps = replaced.from_bottom();
-    for step in steps {
-        at = replaced_by(step, at);
-    }
-    at
-}
-
-fn replaced_by<'a>(step: &'a (Ident, Ident), variable: &'a Ident) -> &'a Ident
-    ensures { result.now ≡ stands_for (step.now ∷ []) variable.now }
-{
-    if same_ident(variable, &step.0) {
-        &step.1
-    } else {
-        variable
-    }
-}
-
-/// Whether one variable stands for both.
-pub fn same_by(replaced: &Replacements, left: &Ident, right: &Ident) -> bool
-    ensures { result ≡ same_by replaced.now left.now right.now }
-{
-    same_ident(stands_for(replaced, left), stands_for(replaced, right))
-}
-
-/// The replacement that makes one variable stand for both of a pair.
-fn joining(
-    alloc: Global,
-    replaced: &Replacements,
-    pair: &(Ident, Ident),
-) -> Result<Option<(Ident, Ident)>, AllocError>
-    ensures { IfOk result (λ new. with_new new replaced.now ≡ joining replaced.now pair.now) }
-{
-    let left = stands_for(replaced, &pair.0);
-    let right = stands_for(replaced, &pair.1);
-    if same_ident(left, right) {
-        return Ok(None);
-    }
-    Ok(Some((right.copied(alloc)?, left.copied(alloc)?)))
-}
-
-fn join(alloc: Global, replaced: &mut Replacements, pair: &(Ident, Ident)) -> Result<(), AllocError>
-    ensures { OnOk result (replaced.new ≡ joining replaced.old pair.now) }
-{
-    match joining(alloc, replaced, pair)? {
-        None => Ok(()),
-        Some(new) => replaced.push(new),
-    }
-}
-
-fn join_all(
-    alloc: Global,
-    replaced: &mut Replacements,
-    pairs: &[(Ident, Ident)],
-) -> Result<(), AllocError>
-    ensures { OnOk result (replaced.new ≡ fold joining replaced.old pairs.now) }
-{
-    for pair in pairs {
-        join(alloc, replaced, pair)?;
-    }
-    Ok(())
-}
-
-fn push_told(alloc: Global, pairs: &mut Vec<(Ident, Ident)>, tell: &Tell) -> Result<(), AllocError>
-    ensures { OnOk result (pairs.new.items ≡ pairs.old.items ++ told_pairs tell.now) }
-{
-    match tell {
-        Tell::Equal { left, right } => {
-            pairs.push((left.copied(alloc)?, right.copied(alloc)?))?;
-            Ok(())
-        }
-        Tell::Is { .. } => Ok(()),
-    }
-}
-
-fn push_all_told(
-    alloc: Global,
-    pairs: &mut Vec<(Ident, Ident)>,
-    tells: &[Tell],
-) -> Result<(), AllocError>
-    ensures { OnOk result (pairs.new.items ≡ pairs.old.items ++ flat_map told_pairs tells.now) }
-{
-    for tell in tells {
-        push_told(alloc, pairs, tell)?;
-    }
-    Ok(())
-}
 
 fn fields_of(value: &Value) -> &[Ident]
     ensures { result.now ≡ fields_of value.now }
@@ -112,6 +21,35 @@ fn fields_of(value: &Value) -> &[Ident]
         Value::Tuple(tuple) => tuple.fields.as_slice(),
         _ => &[],
     }
+}
+
+/// The fields of the value that is told at a place.
+fn fields_at(tells: &[Tell], place: usize) -> &[Ident]
+    ensures { result.now ≡ fields_at (slice_get tells.now place) }
+{
+    match tells.get(place) {
+        Some(Tell::Is { value, .. }) => fields_of(value),
+        _ => &[],
+    }
+}
+
+/// Whether the value that is told at a place is like another.
+fn like_at(tells: &[Tell], place: usize, value: &Value) -> bool
+    ensures { result ≡ like_at value.now (slice_get tells.now place) }
+{
+    match tells.get(place) {
+        Some(Tell::Is { value: told, .. }) => is_like(told, value),
+        _ => false,
+    }
+}
+
+/// Where a place stands whose value is like another.
+fn like_among(tells: &[Tell], places: &[usize], value: &Value) -> Option<usize>
+    ensures { result ≡ position (λ p. like_at value.now (slice_get tells.now p)) places.now }
+{
+    places
+        .iter()
+        .position(|place| like_at(tells, *place, value))
 }
 
 fn push_zipped(
@@ -128,121 +66,188 @@ fn push_zipped(
     Ok(())
 }
 
-fn push_fields(
+/// Puts a place among those of its class: where the value of one of them is like its value, their fields are to be joined, and
+/// the earlier place stays.
+fn put_place(
     alloc: Global,
-    replaced: &Replacements,
-    pairs: &mut Vec<(Ident, Ident)>,
+    tells: &[Tell],
+    places: &mut Vec<usize>,
+    pending: &mut Vec<(Ident, Ident)>,
+    place: usize,
+    value: &Value,
+) -> Result<(), AllocError>
+    ensures places { OnOk result (places.new.items ≡ joined_places (position (λ p. like_at value.now (slice_get tells.now p)) places.old.items) places.old.items place) }
+    ensures pending { OnOk result (pending.new.items ≡ pending.old.items ++ pairs_with tells.now (position (λ p. like_at value.now (slice_get tells.now p)) places.old.items) places.old.items value.now) }
+{
+    match like_among(tells, places.as_slice(), value) {
+        None => {
+            places.push(place)?;
+            Ok(())
+        }
+        Some(at) => {
+            let other = places[at];
+            push_zipped(alloc, pending, fields_at(tells, other), fields_of(value))?;
+            places[at] = earlier(other, place);
+            Ok(())
+        }
+    }
+}
+
+fn earlier(left: usize, right: usize) -> usize
+    ensures { result ≡ min left right }
+{
+    if left < right { left } else { right }
+}
+
+/// The tell at a place.
+fn told_at(tells: &[Tell], place: usize) -> Option<&Tell>
+    ensures { option_copied result ≡ slice_get tells.now place }
+{
+    tells.get(place)
+}
+
+/// Looks at the place of a value that waits.
+fn take_in(
+    alloc: Global,
+    tells: &[Tell],
+    classes: &mut Classes,
+    pending: &mut Vec<(Ident, Ident)>,
+    place: usize,
+) -> Result<(), AllocError>
+    ensures { OnOk result ((rest : List ℕ) → Going tells.now classes.old (place ∷ rest) pending.old.items → TakesIn tells.now classes.old classes.new rest pending.old.items pending.new.items (width_of (slice_get tells.now place))) }
+{
+    match told_at(tells, place) {
+        None => Ok(()),
+        Some(tell) => take_tell_in(alloc, tells, classes, pending, place, tell),
+    }
+}
+
+fn take_tell_in(
+    alloc: Global,
+    tells: &[Tell],
+    classes: &mut Classes,
+    pending: &mut Vec<(Ident, Ident)>,
+    place: usize,
     tell: &Tell,
-    other: &Tell,
 ) -> Result<(), AllocError>
-    ensures { OnOk result (pairs.new.items ≡ pairs.old.items ++ field_pairs replaced.now tell.now other.now) }
-{
-    let Tell::Is {
-        variable: x,
-        value: v,
-    } = tell
-    else {
-        return Ok(());
-    };
-    let Tell::Is {
-        variable: y,
-        value: w,
-    } = other
-    else {
-        return Ok(());
-    };
-    if same_by(replaced, x, y) && is_like(v, w) {
-        return push_zipped(alloc, pairs, fields_of(v), fields_of(w));
-    }
-    Ok(())
-}
-
-fn push_fields_with(
-    alloc: Global,
-    replaced: &Replacements,
-    pairs: &mut Vec<(Ident, Ident)>,
-    tell: &Tell,
-    tells: &[Tell],
-) -> Result<(), AllocError>
-    ensures { OnOk result (pairs.new.items ≡ pairs.old.items ++ flat_map (field_pairs replaced.now tell.now) tells.now) }
-{
-    for other in tells {
-        push_fields(alloc, replaced, pairs, tell, other)?;
-    }
-    Ok(())
-}
-
-fn push_all_fields(
-    alloc: Global,
-    replaced: &Replacements,
-    pairs: &mut Vec<(Ident, Ident)>,
-    tells: &[Tell],
-) -> Result<(), AllocError>
-    ensures { OnOk result (pairs.new.items ≡ pairs.old.items ++ flat_map (λ t. flat_map (field_pairs replaced.now t) tells.now) tells.now) }
-{
-    for tell in tells {
-        push_fields_with(alloc, replaced, pairs, tell, tells)?;
-    }
-    Ok(())
-}
-
-fn next_pairs(
-    alloc: Global,
-    replaced: &Replacements,
-    tells: &[Tell],
-) -> Result<Vec<(Ident, Ident)>, AllocError>
-    ensures { IfOk result (λ pairs. pairs.items ≡ next_pairs replaced.now tells.now) }
-{
-    let mut pairs = Vec::new(alloc);
-    push_all_told(alloc, &mut pairs, tells)?;
-    push_all_fields(alloc, replaced, &mut pairs, tells)?;
-    Ok(pairs)
-}
-
-fn all_same(replaced: &Replacements, pairs: &[(Ident, Ident)]) -> bool
-    ensures { result ≡ list_all (λ p. same_by replaced.now p.0 p.1) pairs.now }
-{
-    pairs.iter().all(|pair| same_by(replaced, &pair.0, &pair.1))
-}
-
-fn named_by(tell: &Tell) -> usize
-    ensures { result ≡ length (named_by tell.now) }
+    requires { slice_get tells.now place ≡ Some tell.now }
+    ensures { OnOk result ((rest : List ℕ) → Going tells.now classes.old (place ∷ rest) pending.old.items → TakesIn tells.now classes.old classes.new rest pending.old.items pending.new.items (width_of (slice_get tells.now place))) }
 {
     match tell {
-        Tell::Equal { .. } => 2,
-        Tell::Is { value, .. } => fields_of(value).len() + 1,
-    }
-}
-
-/// How many variables the tells name, each as often as it is named. It refuses where they are 2^64 or more.
-fn named_count(tells: &[Tell]) -> Result<usize, AllocError>
-    ensures { IfOk result (λ count. count ≡ length (flat_map named_by tells.now)) }
-{
-    let mut count: usize = 0;
-    for tell in tells {
-        count = count.checked_add(named_by(tell)).ok_or(AllocError)?;
-    }
-    Ok(count)
-}
-
-fn closed(alloc: Global, rounds: usize, tells: &[Tell]) -> Result<Replacements, AllocError>
-    ensures { IfOk result (λ replaced. replaced ≡ closed rounds tells.now []) }
-{
-    let mut replaced = Stack::new(alloc);
-    for _round in 0..rounds {
-        let pairs = next_pairs(alloc, &replaced, tells)?;
-        if all_same(&replaced, pairs.as_slice()) {
-            return Ok(replaced);
+        Tell::Equal { .. } => Ok(()),
+        Tell::Is { variable, value } => {
+            take_value_in(alloc, tells, classes, pending, place, variable, value)
         }
-        join_all(alloc, &mut replaced, pairs.as_slice())?;
     }
-    Ok(replaced)
 }
 
-/// The replacements that make equal what the tells do.
-pub fn replacements(alloc: Global, tells: &[Tell]) -> Result<Replacements, AllocError>
-    ensures { IfOk result (λ replaced. replaced ≡ replacements tells.now) }
+fn take_value_in(
+    alloc: Global,
+    tells: &[Tell],
+    classes: &mut Classes,
+    pending: &mut Vec<(Ident, Ident)>,
+    place: usize,
+    variable: &Ident,
+    value: &Value,
+) -> Result<(), AllocError>
+    requires { slice_get tells.now place ≡ Some (Is variable.now value.now) }
+    ensures { OnOk result ((rest : List ℕ) → Going tells.now classes.old (place ∷ rest) pending.old.items → TakesIn tells.now classes.old classes.new rest pending.old.items pending.new.items (width_of (slice_get tells.now place))) }
 {
-    let rounds = named_count(tells)?.checked_add(1).ok_or(AllocError)?;
-    closed(alloc, rounds, tells)
+    let number = classes.look(alloc, variable)?;
+    let mut places = classes.take_values(alloc, number);
+    put_place(alloc, tells, &mut places, pending, place, value)?;
+    classes.put_values(number, places);
+    Ok(())
+}
+
+fn take_all_in(
+    alloc: Global,
+    tells: &[Tell],
+    classes: &mut Classes,
+    pending: &mut Vec<(Ident, Ident)>,
+    places: &[usize],
+) -> Result<(), AllocError>
+    requires { Going tells.now classes.old places.now pending.old.items }
+    ensures { OnOk result (TakesIn tells.now classes.old classes.new [] pending.old.items pending.new.items (width tells.now places.now)) }
+{
+    for place in places {
+        take_in(alloc, tells, classes, pending, *place)?;
+    }
+    Ok(())
+}
+
+/// Joins two variables that are to be joined.
+fn join(
+    alloc: Global,
+    tells: &[Tell],
+    classes: &mut Classes,
+    pending: &mut Vec<(Ident, Ident)>,
+    left: &Ident,
+    right: &Ident,
+) -> Result<(), AllocError>
+    requires { Going tells.now classes.old [] (pending.old.items ++ (left.now, right.now) ∷ []) }
+    ensures { OnOk result (TakesIn tells.now classes.old classes.new [] pending.old.items pending.new.items 0) }
+{
+    let to = classes.look(alloc, left)?;
+    let from = classes.look(alloc, right)?;
+    if from == to {
+        return Ok(());
+    }
+    let places = classes.take_values(alloc, from);
+    classes.renumber(from, to);
+    take_all_in(alloc, tells, classes, pending, places.as_slice())
+}
+
+/// Joins all pairs that wait, and what follows.
+fn settle(
+    alloc: Global,
+    tells: &[Tell],
+    classes: &mut Classes,
+    pending: &mut Vec<(Ident, Ident)>,
+) -> Result<(), AllocError>
+    requires { Going tells.now classes.old [] pending.old.items }
+    ensures { OnOk result (Going tells.now classes.new [] []) }
+{
+    while let Some((left, right)) = pending.pop() {
+        join(alloc, tells, classes, pending, &left, &right)?;
+    }
+    Ok(())
+}
+
+/// Notes what the last of the tells makes due.
+fn note(
+    alloc: Global,
+    tells: &[Tell],
+    classes: &mut Classes,
+    pending: &mut Vec<(Ident, Ident)>,
+    tell: &Tell,
+    place: usize,
+) -> Result<(), AllocError>
+    requires last { IsLast tells.now classes.old tell.now place }
+    requires none { pending.old.items ≡ [] }
+    ensures { OnOk result (Going tells.now classes.new [] pending.new.items) }
+{
+    match tell {
+        Tell::Equal { left, right } => {
+            pending.push((left.copied(alloc)?, right.copied(alloc)?))?;
+            Ok(())
+        }
+        Tell::Is { .. } => take_in(alloc, tells, classes, pending, place),
+    }
+}
+
+/// Goes on with one tell more, the last of all.
+pub fn close_last(
+    alloc: Global,
+    tells: &[Tell],
+    classes: &mut Classes,
+    tell: &Tell,
+    place: usize,
+) -> Result<(), AllocError>
+    requires { IsLast tells.now classes.old tell.now place }
+    ensures { OnOk result (Going tells.now classes.new [] []) }
+{
+    let mut pending = Vec::new(alloc);
+    note(alloc, tells, classes, &mut pending, tell, place)?;
+    settle(alloc, tells, classes, &mut pending)
 }

@@ -2,6 +2,7 @@
 //! they are consistent.
 #![tactic(auto)]
 
+mod classes;
 mod closing;
 mod seen;
 mod values;

@@ -1,39 +1,40 @@
 //! What a space sees: the tells of its ancestors and its own, and what they make equal.
-ghost use Rattle.std.specs.Prelude.{◌≡◌, ◌∷◌, ◌++◌, List, [], length, nat_eq, option_copied, if◌then◌else◌, OnOk, OnErr, IfOk};
+ghost use Rattle.std.specs.Prelude.{◌≡◌, ◌≤◌, ◌∷◌, ◌++◌, ℕ, List, [], length, nat_eq, option_copied, if◌then◌else◌, slice_get, Contains, OnOk, OnErr, IfOk, MatchOption};
 ghost use Rattle.std.specs.List.{starts_with, list_all};
-ghost use Rattle.oz_base.specs.Lists.{first_given, holds_of};
 ghost use Rattle.oz_semantics.specs.Names.{is_below};
-ghost use Rattle.oz_semantics.specs.Store.{same, same_by, replacements, value_given, value_of, is_determined, fits, is_consistent};
-ghost use Rattle.oz_semantics.specs.Values.{is_like};
+ghost use Rattle.oz_semantics.specs.Store.{same, value_of, is_determined, is_consistent};
 ghost use Rattle.oz_semantics.specs.Configurations.{view};
+ghost use Rattle.oz_store.specs.Places.{value_told, alike, are_alike};
 
-use crate::closing::{Replacements, replacements, same_by};
+use crate::classes::Classes;
+use crate::closing::close_last;
 use crate::values::is_like;
-use oz_base::{Copies, Ident, Sequence, Stack, copies_of};
+use oz_base::{Copies, Ident, Sequence};
 use oz_semantics::{Layer, Tell, Value};
 use std::alloc::{AllocError, Global};
 use std::marker::Model;
+use std::mem;
 
 #[cfg(test)]
 mod tests;
 
-/// What a space sees: tells, which contracts see as such, with the variables that they make equal.
+/// What a space sees: tells, which contracts see as such, with the classes of variables that they make equal.
 #[derive(Drop)]
 pub struct Seen {
     tells: Vec<Tell>,
-    replaced: Replacements,
+    classes: Classes,
 }
 
 impl Model for Seen {
-    ghost use Rattle.std.specs.Prelude.{◌≡◌, List};
-    ghost use Rattle.oz_semantics.specs.Store.{replacements};
+    ghost use Rattle.std.specs.Prelude.{List, []};
     ghost use Rattle.oz_semantics.specs.declared.configuration.Tell.{Tell};
+    ghost use Rattle.oz_store.specs.Closing.{Going};
 
     ghost Value = { List Tell };
 
     ghost view = { λ s. s.tells.items };
 
-    ghost invariant = { λ s. s.replaced ≡ replacements s.tells.items };
+    ghost invariant = { λ s. Going s.tells.items s.classes [] [] };
 }
 
 impl Seen {
@@ -43,26 +44,32 @@ impl Seen {
     {
         Seen {
             tells: Vec::new(alloc),
-            replaced: Stack::new(alloc),
+            classes: Classes::new(alloc),
         }
     }
 
-    fn of_tells(alloc: Global, tells: Vec<Tell>) -> Result<Seen, AllocError>
-        ensures { IfOk result (λ seen. seen ≡ tells.items) }
-    {
-        let replaced = replacements(alloc, tells.as_slice())?;
-        Ok(Seen { tells, replaced })
-    }
-
-    /// One thing more is told. It refuses where there is no memory, and then what is seen stays as it was.
+    /// One thing more is told. It refuses where there is no memory, and then nothing is seen any more.
     pub fn tell(&mut self, alloc: Global, tell: &Tell) -> Result<(), AllocError>
         ensures ok { OnOk result (self.new ≡ self.old ++ tell.now ∷ []) }
-        ensures err { OnErr result (self.new ≡ self.old) }
+        ensures err { OnErr result (self.new ≡ []) }
     {
-        let mut tells = copies_of(alloc, self.tells.as_slice())?;
-        tells.push(tell.copied(alloc)?)?;
-        *self = Seen::of_tells(alloc, tells)?;
+        let seen = mem::replace(self, Seen::new(alloc));
+        *self = seen.with(alloc, tell)?;
         Ok(())
+    }
+
+    /// With one tell more.
+    fn with(self, alloc: Global, tell: &Tell) -> Result<Seen, AllocError>
+        ensures { IfOk result (λ seen. seen ≡ self ++ tell.now ∷ []) }
+    {
+        let Seen {
+            mut tells,
+            mut classes,
+        } = self;
+        let place = tells.len();
+        tells.push(tell.copied(alloc)?)?;
+        close_last(alloc, tells.as_slice(), &mut classes, tell, place)?;
+        Ok(Seen { tells, classes })
     }
 
     /// How many tells there are.
@@ -73,19 +80,21 @@ impl Seen {
     }
 
     /// Whether the tells make two variables equal.
-    #[tactic(auto, unfolding(oz_semantics::specs::Store::same))]
     pub fn same(&self, left: &Ident, right: &Ident) -> bool
         ensures { result ≡ same self.now left.now right.now }
     {
-        same_by(&self.replaced, left, right)
+        oz_laws::tests_same();
+        self.classes.are_one(left, right)
     }
 
     /// The value of a variable: the first one that was told of a variable equal to it.
-    #[tactic(auto, unfolding(oz_semantics::specs::Store::same))]
     pub fn value(&self, variable: &Ident) -> Option<&Value>
         ensures { option_copied result ≡ value_of self.now variable.now }
     {
-        value_by(&self.replaced, self.tells.as_slice(), variable)
+        oz_laws::tests_same();
+        let number = self.classes.number(variable)?;
+        let place = earliest(self.classes.values(number))?;
+        value_at(self.tells.as_slice(), place)
     }
 
     /// Whether a variable has a value.
@@ -95,58 +104,68 @@ impl Seen {
         self.value(variable).is_some()
     }
 
-    fn fits(&self, tell: &Tell) -> bool
-        ensures { result ≡ fits self.now tell.now }
-    {
-        match tell {
-            Tell::Equal { .. } => true,
-            Tell::Is { variable, value } => is_like_first(value, self.value(variable)),
-        }
-    }
-
     /// Whether no two equal variables have values that differ.
     pub fn is_consistent(&self) -> bool
         ensures { result ≡ is_consistent self.now }
     {
-        self.tells.iter().all(|tell| self.fits(tell))
+        oz_laws::tests_same();
+        oz_laws::tests_consistent();
+        all_alike(self.tells.as_slice(), self.classes.all_values())
     }
 }
 
-/// The value that a tell gives a variable.
-fn value_given<'a>(replaced: &Replacements, tell: &'a Tell, variable: &Ident) -> Option<&'a Value>
-    ensures { option_copied result ≡ value_given (λ y. same_by replaced.now y variable.now) tell.now }
+fn earliest(places: &[usize]) -> Option<usize>
+    ensures { MatchOption result (places.now ≡ []) (λ p. Contains places.now p × ((q : ℕ) → Contains places.now q → p ≤ q)) }
 {
-    match tell {
-        Tell::Equal { .. } => None,
-        Tell::Is { variable: y, value } => {
-            if same_by(replaced, y, variable) {
-                Some(value)
-            } else {
-                None
-            }
-        }
+    places.iter().copied().min()
+}
+
+/// The value that is told at a place.
+fn value_at(tells: &[Tell], place: usize) -> Option<&Value>
+    ensures { option_copied result ≡ value_told (slice_get tells.now place) }
+{
+    match tells.get(place) {
+        Some(Tell::Is { value, .. }) => Some(value),
+        _ => None,
     }
 }
 
-/// The first value that tells give a variable.
-fn value_by<'a>(replaced: &Replacements, tells: &'a [Tell], variable: &Ident) -> Option<&'a Value>
-    ensures { option_copied result ≡ first_given (value_given (λ y. same_by replaced.now y variable.now)) tells.now }
+/// Whether the values at two places are alike.
+fn alike(tells: &[Tell], left: usize, right: usize) -> bool
+    ensures { result ≡ alike (slice_get tells.now left) (slice_get tells.now right) }
 {
-    for tell in tells {
-        if let Some(value) = value_given(replaced, tell, variable) {
-            return Some(value);
-        }
-    }
-    None
+    let Some(Tell::Is { value: v, .. }) = tells.get(left) else {
+        return false;
+    };
+    let Some(Tell::Is { value: w, .. }) = tells.get(right) else {
+        return false;
+    };
+    is_like(v, w)
 }
 
-fn is_like_first(value: &Value, first: Option<&Value>) -> bool
-    ensures { result ≡ holds_of (is_like value.now) (option_copied first.entry) }
+/// Whether the values at all places are like that at the first.
+fn are_alike(tells: &[Tell], places: &[usize]) -> bool
+    ensures { result ≡ are_alike tells.now places.now }
 {
-    match first {
-        None => false,
-        Some(first) => is_like(value, first),
+    match places.first() {
+        None => true,
+        Some(first) => are_like(tells, *first, places),
     }
+}
+
+/// Whether the values at all places are like that at one.
+fn are_like(tells: &[Tell], place: usize, places: &[usize]) -> bool
+    ensures { result ≡ list_all (λ q. alike (slice_get tells.now place) (slice_get tells.now q)) places.now }
+{
+    places.iter().all(|other| alike(tells, place, *other))
+}
+
+fn all_alike(tells: &[Tell], classes: &[Sequence<usize>]) -> bool
+    ensures { result ≡ list_all (are_alike tells.now) classes.now }
+{
+    classes
+        .iter()
+        .all(|places| are_alike(tells, places.as_slice()))
 }
 
 fn begins_with(whole: &[u32], front: &[u32]) -> bool
@@ -162,29 +181,39 @@ fn is_below(space: &Sequence<u32>, other: &Sequence<u32>) -> bool
     begins_with(other.as_slice(), space.as_slice())
 }
 
-/// Adds what one layer tells a space.
-fn push_layer(
+/// Tells all of a list in turn.
+fn tell_all(alloc: Global, seen: &mut Seen, tells: &[Tell]) -> Result<(), AllocError>
+    ensures { OnOk result (seen.new ≡ seen.old ++ tells.now) }
+{
+    for tell in tells {
+        seen.tell(alloc, tell)?;
+    }
+    Ok(())
+}
+
+/// Tells what one layer tells a space.
+fn tell_layer(
     alloc: Global,
-    tells: &mut Vec<Tell>,
+    seen: &mut Seen,
     layer: &Layer,
     space: &Sequence<u32>,
 ) -> Result<(), AllocError>
-    ensures { OnOk result (tells.new.items ≡ tells.old.items ++ (if is_below layer.now.space space.now then layer.now.tells else [])) }
+    ensures { OnOk result (seen.new ≡ seen.old ++ (if is_below layer.now.space space.now then layer.now.tells else [])) }
 {
-    if !is_below(&layer.space, space) {
-        return Ok(());
+    if is_below(&layer.space, space) {
+        tell_all(alloc, seen, layer.tells.as_slice())
+    } else {
+        Ok(())
     }
-    let mut own = copies_of(alloc, layer.tells.as_slice())?;
-    tells.append(&mut own)
 }
 
 /// What a space sees of layers: what its ancestors and itself were told. It refuses where there is no memory.
 pub fn seen_by(alloc: Global, layers: &[Layer], space: &Sequence<u32>) -> Result<Seen, AllocError>
     ensures { IfOk result (λ seen. seen ≡ view layers.now space.now) }
 {
-    let mut tells = Vec::new(alloc);
+    let mut seen = Seen::new(alloc);
     for layer in layers {
-        push_layer(alloc, &mut tells, layer, space)?;
+        tell_layer(alloc, &mut seen, layer, space)?;
     }
-    Seen::of_tells(alloc, tells)
+    Ok(seen)
 }

@@ -1,0 +1,46 @@
+-- The places of values among those of their class.
+use Rattle.std.specs.Prelude.{ℕ, Bool, true, false, List, [], ◌∷◌, ◌++◌, Option, Some, None, slice_get, slice_set, slice_index_or, min}
+use Rattle.std.specs.List.{zip, list_all}
+use Rattle.oz_base.specs.declared.names.Ident.{Ident}
+use Rattle.oz_semantics.specs.Values.{is_like, fields_of}
+use Rattle.oz_semantics.specs.declared.configuration.Value.{Value}
+use Rattle.oz_semantics.specs.declared.configuration.Tell.{Tell}
+use Rattle.oz_semantics.specs.declared.configuration.Tell.TheVariants.{Equal, Is}
+
+abbrev pub fields_at : Option Tell → List Ident
+fields_at None = []
+fields_at (Some (Equal x y)) = []
+fields_at (Some (Is x v)) = fields_of v
+
+abbrev pub like_at : Value → Option Tell → Bool
+like_at v None = false
+like_at v (Some (Equal x y)) = false
+like_at v (Some (Is x w)) = is_like w v
+
+-- a place more, or the earlier of two at the place of one
+abbrev pub joined_places : Option ℕ → List ℕ → ℕ → List ℕ
+joined_places None ps p = ps ++ p ∷ []
+joined_places (Some at) ps p = slice_set ps at (min (slice_index_or ps at p) p)
+
+abbrev pub pairs_with : List Tell → Option ℕ → List ℕ → Value → List (Ident × Ident)
+pairs_with ts None ps v = []
+pairs_with ts (Some at) ps v = zip (fields_at (slice_get ts (slice_index_or ps at 0))) (fields_of v)
+
+abbrev pub value_told : Option Tell → Option Value
+value_told None = None
+value_told (Some (Equal x y)) = None
+value_told (Some (Is x v)) = Some v
+
+abbrev pub alike_with : Option Value → Option Value → Bool
+alike_with (Some v) (Some w) = is_like v w
+alike_with None o = false
+alike_with (Some v) None = false
+
+-- whether the values at two places are alike
+abbrev pub alike : Option Tell → Option Tell → Bool
+alike t u = alike_with (value_told t) (value_told u)
+
+-- whether the values at all places are like that at the first
+abbrev pub are_alike : List Tell → List ℕ → Bool
+are_alike ts [] = true
+are_alike ts (p ∷ ps) = list_all (λ q. alike (slice_get ts p) (slice_get ts q)) (p ∷ ps)
