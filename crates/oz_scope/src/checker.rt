@@ -9,7 +9,7 @@ ghost use Rattle.oz_scope.specs.Finds.{Finds};
 
 use crate::declarations::{declare, look_for_repeats};
 use crate::stop::Stop;
-use crate::tally::Tally;
+use oz_base::Tally;
 use oz_semantics::{Fault, RefusalKind};
 use oz_syntax::Phrase;
 use std::alloc::{AllocError, Global};

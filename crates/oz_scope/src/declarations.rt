@@ -7,7 +7,7 @@ ghost use Rattle.oz_scope.specs.Declares.{name_of, declared, seen_with};
 ghost use Rattle.oz_scope.specs.Finds.{Finds};
 
 use crate::stop::Stop;
-use crate::tally::Tally;
+use oz_base::Tally;
 use oz_semantics::{Fault, RefusalKind};
 use oz_syntax::Phrase;
 use std::alloc::AllocError;

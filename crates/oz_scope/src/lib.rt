@@ -4,7 +4,6 @@
 mod checker;
 mod declarations;
 mod stop;
-mod tally;
 #[cfg(test)]
 mod tests;
 
