@@ -171,7 +171,7 @@ fn a_machine_by_hand(rt: HostRuntime) -> Result<(), Fail> {
     let mut machine = Machine::load(alloc, kernel)?;
     assert!(rt; matches!(machine.step(alloc)?, Stepped::Moved { cost: 1 }));
     assert!(rt; matches!(machine.step(alloc)?, Stepped::Quiescent));
-    let script = machine.script(alloc).expect(&rt, "a script");
+    let script = machine.script(alloc)?.expect(&rt, "a script");
     let space = machine.root(alloc, &script)?;
     let ran = machine.run(alloc, &space, 1)?;
     assert_eq!(rt;
