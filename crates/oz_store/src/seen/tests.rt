@@ -82,21 +82,23 @@ fn tuples_of_one_label_have_equal_fields(rt: HostRuntime) -> Result<(), Fail> {
     Ok(())
 }
 
+/// Two chains of tuples, the first of which ends in an integer.
+fn chains(alloc: Global) -> Result<Vec<Tell>, AllocError> {
+    Ok(vec![in alloc;
+        tuple(alloc, 0, &[1])?,
+        tuple(alloc, 1, &[2])?,
+        tuple(alloc, 2, &[3])?,
+        tuple(alloc, 10, &[11])?,
+        tuple(alloc, 11, &[12])?,
+        tuple(alloc, 12, &[13])?,
+        int(alloc, 3, 5)?,
+    ]?)
+}
+
 #[test]
 fn a_chain_of_tuples_reaches_the_integer(rt: HostRuntime) -> Result<(), Fail> {
     let alloc = rt.alloc();
-    let mut seen = told(
-        alloc,
-        vec![in alloc;
-            tuple(alloc, 0, &[1])?,
-            tuple(alloc, 1, &[2])?,
-            tuple(alloc, 2, &[3])?,
-            tuple(alloc, 10, &[11])?,
-            tuple(alloc, 11, &[12])?,
-            tuple(alloc, 12, &[13])?,
-            int(alloc, 3, 5)?,
-        ]?,
-    )?;
+    let mut seen = told(alloc, chains(alloc)?)?;
     assert!(rt; !seen.is_determined(&var(alloc, 13)?));
     seen.tell(alloc, &equal(alloc, 0, 10)?)?;
     assert!(rt; int_of(&seen, alloc, 13)? == Some(5));
