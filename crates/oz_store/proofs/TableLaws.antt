@@ -167,9 +167,6 @@ number_equal m n e = grind (arith, nat_tests, e)
 number_apart : (m n : ℕ) → (m == n) ≡ false → m ≡ n → ⊥
 number_apart m n e k = grind (arith, nat_tests, e, k)
 
-number_other : (m n : ℕ) → m ≢ n → (m == n) ≡ false
-number_other m n ne = grind (arith, nat_tests)
-
 moved_to : (from to n : ℕ) → (n == from) ≡ true → moved from to n ≡ to
 moved_to from to n e = ap (λ (b : Bool). if b then to else n) e
 

@@ -29,6 +29,7 @@ impl Model for Classes {
 }
 
 impl Classes {
+    /// No variable was looked at. It takes no memory.
     pub fn new(alloc: Global) -> Classes
         ensures { result ≡ no_classes }
     {
@@ -71,7 +72,8 @@ impl Classes {
         Ok(number)
     }
 
-    /// Looks at a variable: the number of its class.
+    /// Looks at a variable: the number of its class, a new one if it was not looked at before. It refuses where there is no
+    /// memory.
     pub fn look(&mut self, alloc: Global, variable: &Ident) -> Result<usize, AllocError>
         ensures table { OnOk result (self.new ≡ looked_at (position (ident_eq variable.now) self.old.keys) self.old variable.now) }
         ensures number { IfOk result (λ n. number_at (position (ident_eq variable.now) self.old.keys) self.old.labels ≡ Some n) }
@@ -89,7 +91,7 @@ impl Classes {
         renumber_all(&mut self.labels, from, to);
     }
 
-    /// Takes the places out that stand for a class.
+    /// Takes the places out that stand for a class: none where no class has the number.
     pub fn take_values(&mut self, alloc: Global, number: usize) -> Vec<usize>
         ensures table { self.new ≡ with_values self.old number [] }
         ensures taken { result.items ≡ values_at self.old number }
@@ -101,6 +103,7 @@ impl Classes {
         taken.into_vec()
     }
 
+    /// Puts the places in that stand for a class. A number that no class has changes nothing.
     pub fn put_values(&mut self, number: usize, places: Vec<usize>)
         ensures { self.new ≡ with_values self.old number places.items }
     {
@@ -109,7 +112,7 @@ impl Classes {
         }
     }
 
-    /// The places that stand for a class.
+    /// The places that stand for a class: none where no class has the number.
     pub fn values(&self, number: usize) -> &[usize]
         ensures { result.now ≡ values_at self.now number }
     {

@@ -236,7 +236,7 @@ fn note(
     }
 }
 
-/// Goes on with one tell more, the last of all.
+/// Goes on with one tell more, the last of all. It refuses where there is no memory.
 pub fn close_last(
     alloc: Global,
     tells: &[Tell],
