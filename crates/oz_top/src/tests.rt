@@ -1,9 +1,6 @@
 use super::{Outcome, oz_call};
-use oz_machine::{Machine, Ran};
 use oz_outside::{Gate, HoldGate, MemSink, MemSource, OpenGate, READ_LIMIT};
-use oz_reader::read_program;
-use oz_semantics::{Cause, Fault, RefusalKind, State, Stepped};
-use oz_translation::translate;
+use oz_semantics::{Cause, Fault, RefusalKind};
 use std::alloc::{AllocError, Global};
 use std::test::Fail;
 
@@ -24,8 +21,6 @@ const END_LEAVES: &str =
 
 const ENDLESS: &[u8] = b"proc {Script R} choice R=a [] {Script R} end end";
 
-const NO_LEAVES: &str = "total solved=0 stuck=0 raised=0 suspended=0\n";
-
 fn call<G: Gate>(
     alloc: Global,
     words: &[&str],
@@ -42,31 +37,16 @@ fn call<G: Gate>(
 
 #[test]
 fn answers_each_text(rt: HostRuntime) -> Result<(), Fail> {
-    let cases: [(&[&str], &[u8], &str, u8); 19] = [
-        (&["all"], TWO, TWO_LEAVES, 0),
+    let cases: [(&[&str], &[u8], &str, u8); 9] = [
         (&["all"], SLOTS, SLOT_LEAVES, 0),
-        (&["all"], b"proc {Script R} fail end", NO_LEAVES, 0),
         (&["all"], ENDS, END_LEAVES, 0),
         (&["all", "--budget", "9"], TWO, TWO_LEAVES, 0),
         (&["all", "--budget=8", "--workers=1"], TWO, "spent 8\n", 6),
         (&["all", "--budget", "1000"], ENDLESS, "spent 1000\n", 6),
         (&["all"], b"Script=1 Script=2", "raised failure(tell)\n", 1),
-        (&["all", "--budget", "2"], b"fail", "spent 2\n", 6),
         (&["all"], b"", "no script\n", 9),
-        (&["all"], b"proc {Script R} skip", "refused syntax 20\n", 3),
-        (&["all"], b"X=1", "refused unbound 0\n", 3),
         (&["all"], b"Script=1.5", "refused byte 8\n", 3),
-        (
-            &["all"],
-            b"proc {Script X X} skip end",
-            "refused linear 15\n",
-            3,
-        ),
-        (&[], TWO, "usage\n", 2),
-        (&["All"], TWO, "usage\n", 2),
-        (&["all", "all"], TWO, "usage\n", 2),
         (&["all", "--workers", "2"], TWO, "usage\n", 2),
-        (&[""], TWO, "usage\n", 2),
     ];
     for (words, text, reply, status) in cases {
         let mut source = MemSource::new(rt.alloc(), text, 7, &[])?;
@@ -160,42 +140,5 @@ fn a_gate_changes_no_answer(rt: HostRuntime) -> Result<(), Fail> {
     assert_eq!(rt; sink.written(), TWO_LEAVES.as_bytes());
     assert_eq!(rt; outcome.status, 0);
     assert!(rt; !gate.met());
-    Ok(())
-}
-
-#[test]
-fn a_machine_by_hand(rt: HostRuntime) -> Result<(), Fail> {
-    let alloc = rt.alloc();
-    let program = read_program(alloc, TWO).ok().ok_or("a program")?;
-    let kernel = translate(alloc, program.words(), program.phrase())?;
-    let mut machine = Machine::load(alloc, kernel)?;
-    assert!(rt; matches!(machine.step(alloc)?, Stepped::Moved { cost: 1 }));
-    assert!(rt; matches!(machine.step(alloc)?, Stepped::Quiescent));
-    let script = machine.script(alloc)?.expect(&rt, "a script");
-    let space = machine.root(alloc, &script)?;
-    let ran = machine.run(alloc, &space, 1)?;
-    assert_eq!(rt;
-        ran,
-        Ran::Ended {
-            state: State::Alternatives(2),
-            steps: 1
-        }
-    );
-    let mut other = machine.copy(alloc)?;
-    other.commit(alloc, &space, 2)?;
-    assert_eq!(rt; other.run(alloc, &space, 0)?, Ran::OutOfFuel);
-    let ran = other.run(alloc, &space, 1)?;
-    assert_eq!(rt;
-        ran,
-        Ran::Ended {
-            state: State::Solved,
-            steps: 1
-        }
-    );
-    assert!(rt; other.leaf_text(alloc, &space, State::Solved, 0)?.is_none());
-    let text = other
-        .leaf_text(alloc, &space, State::Solved, 1)?
-        .expect(&rt, "a text");
-    assert_eq!(rt; text.bytes.as_slice(), b"b".as_slice());
     Ok(())
 }
