@@ -4,7 +4,7 @@ ghost use Rattle.std.specs.Prelude.{◌≡◌, IfOk, false};
 ghost use Rattle.clap.specs.Words.{app_of, rule_of};
 ghost use Rattle.clap.specs.declared.builder.Command.TheViews.{out-Command as fields_of};
 ghost use Rattle.oz_semantics.specs.Commands.{workers, budget};
-ghost use Rattle.command_line.specs.Table.{all_app, option_rule, oz_app, oz_start};
+ghost use Rattle.command_line.specs.Table.{all_app, option_rule, oz_app, oz_start, run_app};
 
 use clap::{Arg, Command, value_parser};
 use std::alloc::{AllocError, Global};
@@ -37,6 +37,14 @@ fn all<'a>(alloc: Global) -> Result<Command<'a>, AllocError>
         .arg(budget(alloc))
 }
 
+/// The command `run`.
+fn run<'a>(alloc: Global) -> Result<Command<'a>, AllocError>
+    ensures app { IfOk result (λ c. app_of c ≡ run_app) }
+    ensures local { IfOk result (λ c. (fields_of c).has_globals ≡ false) }
+{
+    Command::new(alloc, "run").arg(budget(alloc))
+}
+
 /// The program without its commands. There is no help, and no version.
 fn start<'a>(alloc: Global) -> Command<'a>
     ensures { app_of result ≡ oz_start }
@@ -52,5 +60,7 @@ fn start<'a>(alloc: Global) -> Command<'a>
 pub(crate) fn program<'a>(alloc: Global) -> Result<Command<'a>, AllocError>
     ensures { IfOk result (λ c. app_of c ≡ oz_app) }
 {
-    start(alloc).subcommand(all(alloc)?)
+    start(alloc)
+        .subcommand(all(alloc)?)?
+        .subcommand(run(alloc)?)
 }

@@ -43,10 +43,13 @@ fn found_command(matches: &ArgMatches) -> Option<Command>
         → result ≡ Some (command_by verb given) }
 {
     let (name, found) = matches.subcommand()?;
-    let workers = number(found, "workers").unwrap_or(1) as u32;
     let budget = number(found, "budget").unwrap_or(1_000_000);
     match name {
-        "all" => Some(Command::All { workers, budget }),
+        "all" => {
+            let workers = number(found, "workers").unwrap_or(1) as u32;
+            Some(Command::All { workers, budget })
+        }
+        "run" => Some(Command::Run { budget }),
         _ => None,
     }
 }

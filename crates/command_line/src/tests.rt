@@ -29,6 +29,20 @@ fn words_that_spell_a_command(rt: HostRuntime) -> Result<(), Fail> {
 }
 
 #[test]
+fn words_that_spell_a_run(rt: HostRuntime) -> Result<(), Fail> {
+    let cases: [(&[&str], u64); 3] = [
+        (&["run"], 1_000_000),
+        (&["run", "--budget", "5"], 5),
+        (&["run", "--budget=281474976710656"], 281_474_976_710_656),
+    ];
+    for (words, budget) in cases {
+        let expected = Some(Command::Run { budget });
+        assert_eq!(rt; command(rt.alloc(), words)?, expected);
+    }
+    Ok(())
+}
+
+#[test]
 fn words_that_spell_none(rt: HostRuntime) -> Result<(), Fail> {
     let cases: [&[&str]; 22] = [
         &[],
@@ -53,6 +67,21 @@ fn words_that_spell_none(rt: HostRuntime) -> Result<(), Fail> {
         &["help"],
         &["--version"],
         &["--budget", "5", "all"],
+    ];
+    for words in cases {
+        assert_eq!(rt; command(rt.alloc(), words)?, None);
+    }
+    Ok(())
+}
+
+#[test]
+fn words_that_spell_no_run(rt: HostRuntime) -> Result<(), Fail> {
+    let cases: [&[&str]; 5] = [
+        &["Run"],
+        &["run", "all"],
+        &["run", "--workers", "1"],
+        &["run", "--budget", "0"],
+        &["run", "--budget=5", "--budget=5"],
     ];
     for words in cases {
         assert_eq!(rt; command(rt.alloc(), words)?, None);

@@ -1,8 +1,10 @@
-//! What `benchmarks/run` measures beside the program: passes of propagators, and claims of a pool. The one word says which.
+//! What `benchmarks/run` measures beside the program: passes of propagators, claims of a pool, and texts of deep terms. The one
+//! word says which.
 #![tactic(auto)]
 
 mod passes;
 mod pool;
+mod texts;
 
 use passes::make_passes;
 use pool::explore;
@@ -10,6 +12,7 @@ use std::alloc::{AllocError, Global};
 use std::env::Env;
 use std::process::ExitCode;
 use std::{env, io};
+use texts::print_chain;
 
 /// The words after the program's name.
 fn words(rt: &(impl Env + AllocGlobal), alloc: Global) -> io::Result<Vec<String>> {
@@ -25,6 +28,8 @@ fn measure(alloc: Global, word: &str) -> Result<bool, AllocError> {
         "terms" => make_passes(alloc, &[1; 64], 100_000),
         // a node with 1,000,000 children, and a claim and a leaf for each of them
         "claims" => explore(alloc, 1_000_000),
+        // the text of 100,000 records inside one another
+        "text" => print_chain(alloc, 100_000),
         _ => Ok(false),
     }
 }

@@ -1,65 +1,90 @@
 -- Being alike is an equivalence: it is equality of what is left of a value without its fields and bodies.
-use Rattle.std.proofs.Common.{◌≡◌, ℕ, true, length, refl, sym, ◌∙◌, ap}
+use Rattle.std.proofs.Common.{◌≡◌, ℕ, true, List, [], ◌∷◌, length, refl, sym, ◌∙◌, ap, ap₂}
 use Rattle.std.proofs.lemmas.Bool.{false≢true}
 use Rattle.std.proofs.lemmas.Bool.Decides.{Decides-int_eq}
 use Rattle.std.proofs.lemmas.Cmp.{int_eq_equiv}
 use Rattle.oz_base.specs.declared.names.Ident.{Ident}
-use Rattle.oz_semantics.specs.Values.{literal_eq, constant_eq, is_like}
+use Rattle.oz_semantics.specs.Values.{literal_eq, constant_eq, same_arity, builtin_eq, is_like}
 use Rattle.oz_laws.proofs.SameLaws.{ident_eq-true, ident_eq-refl, and-left, and-right, eq-true, eq-refl}
 use Rattle.oz_semantics.specs.declared.token.Literal.{Literal}
 use Rattle.oz_semantics.specs.declared.token.Literal.TheVariants.{Atom, False, True, Unit as NoInfo}
 use Rattle.oz_semantics.specs.declared.kernel.Constant.{Constant}
 use Rattle.oz_semantics.specs.declared.kernel.Constant.TheVariants as constant
+use Rattle.oz_semantics.specs.declared.configuration.Builtin.{Builtin}
+use Rattle.oz_semantics.specs.declared.configuration.Builtin.TheVariants.{Show}
 use Rattle.oz_semantics.specs.declared.configuration.Value.{Value}
 use Rattle.oz_semantics.specs.declared.configuration.Value.TheVariants as value
 
 data Key : Type 0 where
   constant_key : Constant → Key
-  tuple_key : Literal → ℕ → Key
+  record_key : Literal → List Constant → ℕ → Key
   procedure_key : Ident → Key
+  builtin_key : Builtin → Key
 
 abbrev key : Value → Key
 key (value.Constant c) = constant_key c
-key (value.Tuple t) = tuple_key t.label (length t.fields)
+key (value.Record r) = record_key r.label r.features (length r.fields)
 key (value.Procedure p) = procedure_key p.name
+key (value.Builtin b) = builtin_key b
 
-literal_eq-true : (a b : Literal) → literal_eq a b ≡ true → a ≡ b
+pub literal_eq-true : (a b : Literal) → literal_eq a b ≡ true → a ≡ b
 literal_eq-true (Atom a) (Atom b) e = ap (λ t. Atom t) (eq-true a b e)
 literal_eq-true False False e = refl
 literal_eq-true True True e = refl
 literal_eq-true NoInfo NoInfo e = refl
 literal_eq-true a b e = absurd (false≢true e)
 
-literal_eq-refl : (a : Literal) → literal_eq a a ≡ true
+pub literal_eq-refl : (a : Literal) → literal_eq a a ≡ true
 literal_eq-refl (Atom a) = eq-refl a
 literal_eq-refl False = refl
 literal_eq-refl True = refl
 literal_eq-refl NoInfo = refl
 
-constant_eq-true : (a b : Constant) → constant_eq a b ≡ true → a ≡ b
+pub constant_eq-true : (a b : Constant) → constant_eq a b ≡ true → a ≡ b
 constant_eq-true (constant.Int m) (constant.Int n) e = ap (λ k. constant.Int k) ((Decides-int_eq m n).0 e)
 constant_eq-true (constant.Literal a) (constant.Literal b) e = ap (λ l. constant.Literal l) (literal_eq-true a b e)
 constant_eq-true a b e = absurd (false≢true e)
 
-constant_eq-refl : (a : Constant) → constant_eq a a ≡ true
+pub constant_eq-refl : (a : Constant) → constant_eq a a ≡ true
 constant_eq-refl (constant.Int m) = int_eq_equiv.refl m
 constant_eq-refl (constant.Literal a) = literal_eq-refl a
+
+pub same_arity-true : (fs gs : List Constant) → same_arity fs gs ≡ true → fs ≡ gs
+same_arity-true [] [] e = refl
+same_arity-true (f ∷ fs) (g ∷ gs) e = ap₂ (λ c cs. c ∷ cs) (constant_eq-true f g (and-left _ _ e)) (same_arity-true fs gs (and-right _ _ e))
+same_arity-true fs gs e = absurd (false≢true e)
+
+pub same_arity-refl : (fs : List Constant) → same_arity fs fs ≡ true
+same_arity-refl [] = refl
+same_arity-refl (f ∷ fs) = rw (constant_eq-refl f) (same_arity-refl fs)
+
+builtin_eq-true : (a b : Builtin) → builtin_eq a b ≡ true → a ≡ b
+builtin_eq-true Show Show e = refl
+
+builtin_eq-refl : (a : Builtin) → builtin_eq a a ≡ true
+builtin_eq-refl Show = refl
 
 -- alike values have one key
 alike_key : (v w : Value) → is_like v w ≡ true → key v ≡ key w
 alike_key (value.Constant a) (value.Constant b) e = ap (λ s. constant_key s) (constant_eq-true a b e)
-alike_key (value.Tuple a) (value.Tuple b) e =
-    ap (λ l. tuple_key l (length a.fields)) (literal_eq-true a.label b.label (and-left _ _ e)) ∙ ap (λ n. tuple_key b.label n) (eq-true (length a.fields) (length b.fields) (and-right _ _ e))
+alike_key (value.Record a) (value.Record b) e =
+    let form = and-right _ _ e in
+    ap (λ l. record_key l a.features (length a.fields)) (literal_eq-true a.label b.label (and-left _ _ e))
+    ∙ ap (λ fs. record_key b.label fs (length a.fields)) (same_arity-true a.features b.features (and-left _ _ form))
+    ∙ ap (λ n. record_key b.label b.features n) (eq-true (length a.fields) (length b.fields) (and-right _ _ form))
 alike_key (value.Procedure a) (value.Procedure b) e = ap (λ n. procedure_key n) (ident_eq-true a.name b.name e)
+alike_key (value.Builtin a) (value.Builtin b) e = ap (λ c. builtin_key c) (builtin_eq-true a b e)
 alike_key v w e = absurd (false≢true e)
 
 key_alike : (v w : Value) → key v ≡ key w → is_like v w ≡ true
 key_alike (value.Constant a) (value.Constant b) e = let k : a ≡ b = cc in rw k (constant_eq-refl b)
-key_alike (value.Tuple a) (value.Tuple b) e =
+key_alike (value.Record a) (value.Record b) e =
     let k : a.label ≡ b.label = cc in
+    let f : a.features ≡ b.features = cc in
     let l : length a.fields ≡ length b.fields = cc in
-    rw (k, l, literal_eq-refl b.label) (eq-refl (length b.fields))
+    rw (k, f, l, literal_eq-refl b.label, same_arity-refl b.features) (eq-refl (length b.fields))
 key_alike (value.Procedure a) (value.Procedure b) e = let k : a.name ≡ b.name = cc in rw k (ident_eq-refl b.name)
+key_alike (value.Builtin a) (value.Builtin b) e = let k : a ≡ b = cc in rw k (builtin_eq-refl b)
 key_alike v w e = cc
 
 pub alike-refl : (v : Value) → is_like v v ≡ true

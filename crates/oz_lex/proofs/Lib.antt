@@ -5,3 +5,4 @@ pub mod Longest
 pub mod Readings
 pub mod Sorts
 pub mod TokenLaws
+pub mod Tables

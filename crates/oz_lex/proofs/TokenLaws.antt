@@ -66,13 +66,13 @@ module _ (text : List ℕ) (words : List (List ℕ)) (l : Lexeme) (bytes : List 
       let k = joined_keep text words more bytes n h in
       rw s (rw (sym e) (ap (λ o. token.Var (unwrap_or o 0) l.at) (sym k)))
 
-  pub small_token : (t : Token) → l.sort ≡ sort.Word → ((later : List (List ℕ)) → KeepsNumbers words later → t ≡ word_token later bytes)
+  pub small_token : (t : Token) → l.sort ≡ sort.Word → ((later : List (List ℕ)) → KeepsNumbers words later → t ≡ word_token later l.at bytes)
       → (more : List Lexeme) → t ≡ token_in (fold (joining text) words more) text l
   small_token t s h more = rw s (rw (sym e) (h (fold (joining text) words more) (joined_keep text words more)))
 
   pub label_token : (t : Literal) → l.sort ≡ sort.Label → ((later : List (List ℕ)) → KeepsNumbers words later → t ≡ literal_in later (without_last bytes))
-      → (more : List Lexeme) → token.Label t ≡ token_in (fold (joining text) words more) text l
-  label_token t s h more = rw s (rw (sym e) (ap token.Label (h (fold (joining text) words more) (joined_keep text words more))))
+      → (more : List Lexeme) → token.Label t l.at ≡ token_in (fold (joining text) words more) text l
+  label_token t s h more = rw s (rw (sym e) (ap (λ x. token.Label x l.at) (h (fold (joining text) words more) (joined_keep text words more))))
 
   -- the word of a label
   pub label_word : sort_of (bytes_of text l) ≡ Some l.sort → l.sort ≡ sort.Label → atom_unless (without_last bytes) (constant_of (without_last bytes)) ≡ word_in l.sort (bytes_of text l)
@@ -80,7 +80,7 @@ module _ (text : List ℕ) (words : List (List ℕ)) (l : Lexeme) (bytes : List 
       let r : is_reserved (without_last bytes) ≡ false = label_bytes bytes (ap sort_of e ∙ h ∙ ap Some s) in
       rw s (rw (sym e) (rw r refl))
 
-  pub small_tokens : {E : Type 0} (r : Result Token E) → l.sort ≡ sort.Word → IfOk r (λ t. (later : List (List ℕ)) → KeepsNumbers words later → t ≡ word_token later bytes)
+  pub small_tokens : {E : Type 0} (r : Result Token E) → l.sort ≡ sort.Word → IfOk r (λ t. (later : List (List ℕ)) → KeepsNumbers words later → t ≡ word_token later l.at bytes)
       → IfOk r (λ t. (more : List Lexeme) → t ≡ token_in (fold (joining text) words more) text l)
   small_tokens (Ok t) s h = small_token t s h
   small_tokens (Err x) s h = h

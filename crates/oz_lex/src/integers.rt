@@ -10,20 +10,20 @@ use oz_semantics::Token;
 /// No integer is as great, and only a negative one as far from 0.
 const LIMIT: u128 = 1 << 127;
 
-/// The token that these bytes are, with a `~` before the digits where the integer is negative.
-pub fn int_token(bytes: &[u8]) -> Token
+/// The token that the bytes at this place are, with a `~` before the digits where the integer is negative.
+pub fn int_token(at: usize, bytes: &[u8]) -> Token
     requires { is_int bytes.now ≡ true }
-    ensures { result ≡ int_token bytes.now }
+    ensures { result ≡ int_token at bytes.now }
 {
     match bytes {
-        [b'~', digits @ ..] => negative_token(digits),
-        _ => positive_token(bytes),
+        [b'~', digits @ ..] => negative_token(at, digits),
+        _ => positive_token(at, bytes),
     }
 }
 
-fn positive_token(digits: &[u8]) -> Token
+fn positive_token(at: usize, digits: &[u8]) -> Token
     requires { list_all is_digit digits.now ≡ true }
-    ensures { result ≡ positive_token (digits_value 10 digits.now) }
+    ensures { result ≡ positive_token at (digits_value 10 digits.now) }
 {
     let Some(number) = number_of(digits) else {
         return Token::Other { deepens: false };
@@ -31,12 +31,13 @@ fn positive_token(digits: &[u8]) -> Token
     if number >= LIMIT {
         return Token::Other { deepens: false };
     }
-    Token::Int(number as i128)
+    let value = number as i128;
+    Token::Int { value, at }
 }
 
-fn negative_token(digits: &[u8]) -> Token
+fn negative_token(at: usize, digits: &[u8]) -> Token
     requires { list_all is_digit digits.now ≡ true }
-    ensures { result ≡ negative_token (digits_value 10 digits.now) }
+    ensures { result ≡ negative_token at (digits_value 10 digits.now) }
 {
     let Some(number) = number_of(digits) else {
         return Token::Other { deepens: false };
@@ -44,7 +45,8 @@ fn negative_token(digits: &[u8]) -> Token
     if number > LIMIT {
         return Token::Other { deepens: false };
     }
-    Token::Int(minus(number))
+    let value = minus(number);
+    Token::Int { value, at }
 }
 
 fn minus(number: u128) -> i128

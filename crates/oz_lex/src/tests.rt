@@ -21,6 +21,11 @@ fn only_token(alloc: Global, text: &[u8]) -> Option<Token> {
     }
 }
 
+// An integer at the front of its text.
+fn whole(value: i128) -> Option<Token> {
+    Some(Token::Int { value, at: 0 })
+}
+
 fn bad_byte(alloc: Global, text: &[u8]) -> Option<usize> {
     match lexemes(alloc, text) {
         Err(LexError::BadByte { at }) => Some(at),
@@ -40,19 +45,51 @@ fn splits_a_program(rt: HostRuntime) -> Result<(), Fail> {
         found.as_slice(),
         [
             Token::Local,
-            Token::Var { name: 1, at: 6 },
+            Token::Var { name: 2, at: 6 },
             Token::In,
             Token::OpenBrace,
-            Token::Var { name: 2, at: 19 },
-            Token::Var { name: 1, at: 21 },
+            Token::Var { name: 3, at: 19 },
+            Token::Var { name: 2, at: 21 },
             Token::CloseBrace,
-            Token::Var { name: 1, at: 32 },
+            Token::Var { name: 2, at: 32 },
             Token::Equals,
-            Token::Label(Literal::Atom(3)),
-            Token::Literal(Literal::Atom(4)),
+            Token::Label {
+                literal: Literal::Atom(4),
+                at: 34
+            },
+            Token::Literal {
+                literal: Literal::Atom(5),
+                at: 36
+            },
             Token::Var { name: 0, at: 38 },
             Token::CloseParen,
             Token::End,
+        ]
+        .as_slice()
+    );
+    Ok(())
+}
+
+#[test]
+fn knows_the_words_of_tests(rt: HostRuntime) -> Result<(), Fail> {
+    let found = tokens(rt.alloc(), b"case if of then else : _ _a")
+        .ok()
+        .ok_or("tokens")?;
+    assert_eq!(rt;
+        found.as_slice(),
+        [
+            Token::Case,
+            Token::If,
+            Token::Of,
+            Token::Then,
+            Token::Else,
+            Token::Colon,
+            Token::Any { at: 23 },
+            Token::Any { at: 25 },
+            Token::Literal {
+                literal: Literal::Atom(2),
+                at: 26
+            },
         ]
         .as_slice()
     );
@@ -112,7 +149,10 @@ fn finds_the_longest(rt: HostRuntime) -> Result<(), Fail> {
     );
     assert_eq!(rt;
         only_token(rt.alloc(), b"true("),
-        Some(Token::Label(Literal::True))
+        Some(Token::Label {
+            literal: Literal::True,
+            at: 0
+        })
     );
     Ok(())
 }
@@ -135,7 +175,7 @@ fn keeps_to_the_limits_of_integers(rt: HostRuntime) -> Result<(), Fail> {
     let past = Some(Token::Other { deepens: false });
     assert_eq!(rt;
         only_token(rt.alloc(), b"170141183460469231731687303715884105727"),
-        Some(Token::Int(i128::MAX))
+        whole(i128::MAX)
     );
     assert_eq!(rt;
         only_token(rt.alloc(), b"170141183460469231731687303715884105728"),
@@ -143,7 +183,7 @@ fn keeps_to_the_limits_of_integers(rt: HostRuntime) -> Result<(), Fail> {
     );
     assert_eq!(rt;
         only_token(rt.alloc(), b"~170141183460469231731687303715884105728"),
-        Some(Token::Int(i128::MIN))
+        whole(i128::MIN)
     );
     assert_eq!(rt;
         only_token(rt.alloc(), b"~170141183460469231731687303715884105729"),
@@ -153,6 +193,6 @@ fn keeps_to_the_limits_of_integers(rt: HostRuntime) -> Result<(), Fail> {
         only_token(rt.alloc(), b"9999999999999999999999999999999999999999999"),
         past
     );
-    assert_eq!(rt; only_token(rt.alloc(), b"~007"), Some(Token::Int(-7)));
+    assert_eq!(rt; only_token(rt.alloc(), b"~007"), whole(-7));
     Ok(())
 }

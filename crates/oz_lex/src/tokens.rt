@@ -1,10 +1,10 @@
 //! Tokens as the grammar sees them.
-ghost use Rattle.std.specs.Prelude.{◌≡◌, ◌≤◌, ◌+◌, ℕ, List, IfOk, OnOk, OnErr, length, fold, find, option_map};
+ghost use Rattle.std.specs.Prelude.{◌≡◌, ◌≤◌, ◌+◌, ℕ, List, IfOk, OnOk, OnErr, length, fold, find, map, option_map};
 ghost use Rattle.std.specs.Ffi.{without_last};
 ghost use Rattle.oz_base.specs.Lists.{list_eq};
 ghost use Rattle.oz_semantics.specs.declared.token.Lexeme.{Lexeme};
 ghost use Rattle.oz_semantics.specs.declared.token.Token.{Token};
-ghost use Rattle.oz_semantics.specs.Wording.{bytes_of, first_words, word_in, with_word, atom_word, atom_unless, joining, token_in, word_token, literal_in, constant_of, fixed_token, known};
+ghost use Rattle.oz_semantics.specs.Wording.{bytes_of, first_words, word_in, with_word, atom_word, atom_unless, joining, token_in, word_token, literal_in, constant_of, fixed_token, symbol_token, known};
 ghost use Rattle.oz_lex.specs.Lexing.{IsLexeme, IsNew, KeepsNumbers};
 
 use crate::bytes::{is_among, is_reserved, same_bytes};
@@ -14,26 +14,31 @@ use oz_semantics::{Lexeme, Literal, Sort, Token};
 use std::alloc::{AllocError, Global};
 
 /// The tokens that productions name.
-static KNOWN: [(&[u8], Token); 12] = [
+static KNOWN: [(&[u8], Token); 18] = [
     (b"{", Token::OpenBrace),
     (b"}", Token::CloseBrace),
     (b")", Token::CloseParen),
+    (b":", Token::Colon),
     (b"=", Token::Equals),
     (b"[]", Token::Box),
+    (b"case", Token::Case),
     (b"choice", Token::Choice),
+    (b"else", Token::Else),
     (b"end", Token::End),
     (b"fail", Token::Fail),
+    (b"if", Token::If),
     (b"in", Token::In),
     (b"local", Token::Local),
+    (b"of", Token::Of),
     (b"proc", Token::Proc),
     (b"skip", Token::Skip),
+    (b"then", Token::Then),
 ];
 
 /// Openers and operators of which no production speaks yet.
-static DEEPENING: [&[u8]; 25] = [
-    b"if", b"case", b"thread", b"try", b"fun", b"raise", b"elseif", b"(", b"[", b"orelse",
-    b"andthen", b"==", b"\\=", b"<", b"=<", b">", b">=", b"|", b"#", b"+", b"-", b"*", b"div",
-    b"mod", b".",
+static DEEPENING: [&[u8]; 23] = [
+    b"thread", b"try", b"fun", b"raise", b"elseif", b"(", b"[", b"orelse", b"andthen", b"==",
+    b"\\=", b"<", b"=<", b">", b">=", b"|", b"#", b"+", b"-", b"*", b"div", b"mod", b".",
 ];
 
 /// The words that each text has.
@@ -42,6 +47,7 @@ pub fn first_words(alloc: Global) -> Result<Words, AllocError>
 {
     let mut words = Words::new(alloc);
     words.number(b"Script")?;
+    words.number(b"Show")?;
     Ok(words)
 }
 
@@ -60,24 +66,30 @@ pub fn token_of(words: &mut Words, text: &[u8], lexeme: Lexeme) -> Result<Token,
             name: words.number(bytes)?,
             at: lexeme.at,
         }),
-        Sort::Word => word_token(words, bytes),
-        Sort::Label => Ok(Token::Label(literal_in(words, without_last(bytes))?)),
-        Sort::Int => Ok(int_token(bytes)),
-        Sort::Symbol => Ok(fixed_token(bytes)),
+        Sort::Word => word_token(words, lexeme.at, bytes),
+        Sort::Label => Ok(Token::Label {
+            literal: literal_in(words, without_last(bytes))?,
+            at: lexeme.at,
+        }),
+        Sort::Int => Ok(int_token(lexeme.at, bytes)),
+        Sort::Symbol => Ok(symbol_token(lexeme.at, bytes)),
     }
 }
 
-/// The token of a word that begins with a small letter.
-fn word_token(words: &mut Words, word: &[u8]) -> Result<Token, AllocError>
+/// The token of a word that begins with a small letter, at its place.
+fn word_token(words: &mut Words, at: usize, word: &[u8]) -> Result<Token, AllocError>
     ensures words { OnOk result (words.new ≡ with_word words.old (atom_word word.now)) }
-    ensures token { IfOk result (λ token. (later : List (List ℕ)) → KeepsNumbers words.new later → token ≡ word_token later word.now) }
+    ensures token { IfOk result (λ token. (later : List (List ℕ)) → KeepsNumbers words.new later → token ≡ word_token later at word.now) }
     ensures err { OnErr result (words.new ≡ words.old) }
     ensures refused { OnErr result (IsNew words.old (atom_word word.now)) }
 {
     if is_reserved(word) {
         return Ok(fixed_token(word));
     }
-    Ok(Token::Literal(literal_in(words, word)?))
+    Ok(Token::Literal {
+        literal: literal_in(words, word)?,
+        at,
+    })
 }
 
 /// The literal of a word, which joins the words where it is an atom.
@@ -108,6 +120,16 @@ fn constant_of(word: &[u8]) -> Option<Literal>
     }
 }
 
+/// A symbol as the grammar sees it, at its place.
+fn symbol_token(at: usize, bytes: &[u8]) -> Token
+    ensures { result ≡ symbol_token at bytes.now }
+{
+    if same_bytes(bytes, b"_") {
+        return Token::Any { at };
+    }
+    fixed_token(bytes)
+}
+
 /// A symbol or a reserved word as the grammar sees it.
 fn fixed_token(bytes: &[u8]) -> Token
     ensures { result ≡ fixed_token bytes.now }
@@ -127,11 +149,17 @@ fn known_token(bytes: &[u8]) -> Option<Token>
     token_among(bytes, &KNOWN)
 }
 
-/// The token that stands beside these bytes.
-fn token_among(bytes: &[u8], known: &[(&[u8], Token)]) -> Option<Token>
-    ensures { result ≡ option_map (λ p. p.1) (find (λ p. list_eq bytes.now p.0.now) known.now) }
+/// The token that stands beside these bytes in a table.
+fn token_among(bytes: &[u8], table: &[(&[u8], Token)]) -> Option<Token>
+    ensures { result ≡ option_map (λ (p : List ℕ × Token). p.1) (find (λ (p : List ℕ × Token). list_eq bytes.now p.0) (map (λ p. (p.0.now, p.1)) table.now)) }
 {
-    let (_, token) = known.iter().find(|(text, _)| same_bytes(bytes, text))?;
+    first_beside(bytes, table)
+}
+
+fn first_beside(bytes: &[u8], table: &[(&[u8], Token)]) -> Option<Token>
+    ensures { result ≡ option_map (λ p. p.1) (find (λ p. list_eq bytes.now p.0.now) table.now) }
+{
+    let (_, token) = table.iter().find(|(text, _)| same_bytes(bytes, text))?;
     Some(*token)
 }
 

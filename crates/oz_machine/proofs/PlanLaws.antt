@@ -2,11 +2,10 @@
 use Rattle.std.proofs.Common.{◌≡◌, ℕ, Bool, true, false, if◌then◌else◌, List, [], ◌∷◌, ◌++◌, map, length, Option, Some, None, sym, ap, ap₂, ◌∙◌}
 use Rattle.std.specs.List.{range_with_len}
 use Rattle.std.proofs.lemmas.List.FromFn.{length-map-range_with_len}
-use Rattle.oz_base.specs.declared.names.Ident.{Ident}
 use Rattle.oz_semantics.specs.Names.{named}
-use Rattle.oz_semantics.specs.Store.{value_of, is_consistent}
+use Rattle.oz_semantics.specs.Store.{is_consistent}
 use Rattle.oz_semantics.specs.Configurations.{telling, bound, bindings, giving_out, fresh_variables}
-use Rattle.oz_semantics.specs.Statements.{Place, Becomes, Raises, pushing, counting_procedure, tells_then, statement_effect, call_effect}
+use Rattle.oz_semantics.specs.Statements.{Place, Becomes, Raises, pushing, counting_procedure, tells_then, statement_effect}
 use Rattle.oz_semantics.specs.declared.kernel.Name.{Name}
 use Rattle.oz_semantics.specs.declared.kernel.Statement.TheVariants.{Local, BindProcedure}
 use Rattle.oz_semantics.specs.declared.configuration.Binding.{Binding}
@@ -34,10 +33,6 @@ pub opens_in : {view : List Tell} {l : Layer} {p : Place} → IsPlaceIn view l p
 opens_in {view} {l} {p} h environment names body =
     ap₂ (λ (s : List ℕ) n. Becomes (pushing p (bindings names (map (named s) (range_with_len n (length names))) ++ environment) body (giving_out (length names) p.layer)))
     h.space h.variables
-
--- a call is that of the value which its procedure has in the view
-pub calls_in : (view : List Tell) (p : Place) → p.view ≡ view → (x : Ident) (arguments : List Ident) → call_effect p (value_of p.view x) arguments ≡ call_effect p (value_of view x) arguments
-calls_in view p e x arguments = ap (λ (v : List Tell). call_effect p (value_of v x) arguments) e
 
 pub length_fresh : (l : Layer) (n : ℕ) → length (fresh_variables l n) ≡ n
 length_fresh l n = length-map-range_with_len (named l.space) l.next.variable n

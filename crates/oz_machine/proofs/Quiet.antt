@@ -44,6 +44,11 @@ kept_views layers views e {test} {place} {l} h v s seen same m o =
     ap (slice_set views place) (same ∙ seen) ∙ set-get_or views place v ∙ e
     ∙ sym (same_views (slice_set layers place m) layers (map-set_same outline layers place m l (o ∙ ap outline (sym h.item))))
 
+-- the views where a layer is replaced by one that is the same in what counts
+pub views_kept : (layers : List Layer) (views : List (List Tell)) → views ≡ views_of layers → {test : Layer → Bool} {place : ℕ} {l : Layer} → IsFirst test layers place l
+    → (m : Layer) → outline m ≡ outline l → views ≡ views_of (slice_set layers place m)
+views_kept layers views e {test} {place} {l} h m o = e ∙ sym (same_views (slice_set layers place m) layers (map-set_same outline layers place m l (o ∙ ap outline (sym h.item))))
+
 -- a move that tells nothing keeps what views depend on
 pub quiet_keeps : (number : ℕ) (m : Move) (l : Layer) → is_telling m ≡ false → outline (without_gone (moved number m (with_frames number rest_of l))) ≡ outline l
 quiet_keeps number move.Stays l e = refl

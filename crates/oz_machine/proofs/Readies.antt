@@ -1,15 +1,16 @@
 -- What a call waits for, by whether its procedure is determined; and offers, in which what is seen has no part.
-use Rattle.std.proofs.Common.{◌≡◌, ℕ, ◌&&◌, Bool, true, false, not, List, [], ◌∷◌, Option, Some, None, refl, sym, ap, if◌then◌else◌}
+use Rattle.std.proofs.Common.{◌≡◌, ℕ, ◌&&◌, Bool, true, false, not, List, [], ◌∷◌, Option, Some, None, refl, sym, ap, ◌∙◌, if◌then◌else◌}
 use Rattle.std.specs.Prelude.{is_some}
 use Rattle.std.specs.List.{list_any, filter_map}
 use Rattle.oz_base.specs.Lists.{first, edit_first}
 use Rattle.oz_base.specs.declared.names.Ident.{Ident}
 use Rattle.oz_semantics.specs.Store.{same, is_determined}
+use Rattle.oz_semantics.specs.Matching.{Match, Matches, Differs, MatchWaits}
 use Rattle.oz_semantics.specs.Configurations.{view}
-use Rattle.oz_semantics.specs.Statements.{Steps, Waits, awaits, statement_ready, code_ready, top_ready, thread_ready, steps, waits_of, offer_of}
+use Rattle.oz_semantics.specs.Statements.{Steps, Waits, awaits, match_ready, statement_ready, code_ready, top_ready, thread_ready, steps, waits_of, offer_of}
 use Rattle.oz_semantics.specs.Spaces.{is_held, chosen, offers, committing, offer_in}
 use Rattle.oz_semantics.specs.declared.kernel.Statement.{Statement}
-use Rattle.oz_semantics.specs.declared.kernel.Statement.TheVariants.{Skip, Fail, Local, Equate, Bind, BindTuple, BindProcedure, Call, Choice}
+use Rattle.oz_semantics.specs.declared.kernel.Statement.TheVariants.{Skip, Fail, Local, Equate, Bind, BindRecord, BindProcedure, Call, Choice, If, Case, NoMatch}
 use Rattle.oz_semantics.specs.declared.configuration.Binding.{Binding}
 use Rattle.oz_semantics.specs.declared.configuration.Code.{Code}
 use Rattle.oz_semantics.specs.declared.configuration.Code.TheVariants as code
@@ -38,6 +39,12 @@ no_offer : (b : Bool) (xs : List Ident) → offer_of (if b then Steps else Waits
 no_offer true xs = refl
 no_offer false xs = refl
 
+-- a match offers nothing
+pub match_offers : (m : Match) → offer_of (match_ready m) ≡ None
+match_offers (Matches environment) = refl
+match_offers Differs = refl
+match_offers (MatchWaits x) = refl
+
 offer_of_statement : (view : List Tell) (environment : List Binding) (s : Option Statement) → offer_of (statement_ready view environment s) ≡ offer_of (statement_ready [] environment s)
 offer_of_statement view environment (Some (Call procedure arguments)) = no_offer (is_determined view _) _
 offer_of_statement view environment (Some Skip) = refl
@@ -45,9 +52,12 @@ offer_of_statement view environment (Some Fail) = refl
 offer_of_statement view environment (Some (Local names body)) = refl
 offer_of_statement view environment (Some (Equate left right)) = refl
 offer_of_statement view environment (Some (Bind name v)) = refl
-offer_of_statement view environment (Some (BindTuple name label fields)) = refl
+offer_of_statement view environment (Some (BindRecord name label features fields)) = refl
 offer_of_statement view environment (Some (BindProcedure name parameters body)) = refl
 offer_of_statement view environment (Some (Choice alternatives)) = refl
+offer_of_statement view environment (Some (If condition accepted otherwise)) = no_offer (is_determined view _) _
+offer_of_statement view environment (Some (Case subject pattern accepted otherwise)) = match_offers _ ∙ sym (match_offers _)
+offer_of_statement view environment (Some NoMatch) = refl
 offer_of_statement view environment None = refl
 
 offer_of_code : (statements : List Statement) (view : List Tell) (environment : List Binding) (k : Code) → offer_of (code_ready statements view environment k) ≡ offer_of (code_ready statements [] environment k)

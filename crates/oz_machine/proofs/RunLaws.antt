@@ -1,121 +1,185 @@
--- What runs rest on: each turn that makes a step costs 1.
-use Rattle.std.proofs.Common.{◌≡◌, ℕ, suc, zero, ◌-◌, ◌&&◌, not, nat_le, Bool, true, false, if◌then◌else◌, List, [], ◌∷◌, Option, Some, None, refl, sym, subst, ap, ◌∙◌, ◌≢◌, arith}
+-- What runs rest on: each turn that makes a step costs 1 at least.
+use Rattle.std.proofs.Common.{◌≡◌, ℕ, suc, zero, ◌+◌, ◌-◌, ◌<◌, ◌≤◌, ◌&&◌, not, nat_le, Bool, true, false, List, [], ◌∷◌, ◌++◌, Option, Some, None, Result, Ok, Err, refl, sym, subst, ap, ◌∙◌, arith}
+use Rattle.std.specs.Prelude.{IfOk, IfSome}
+use Rattle.std.proofs.lemmas.Bool.{leb-true, leb-false, le-leb, lt-leb}
 use Rattle.oz_base.specs.Lists.{is_empty}
 use Rattle.oz_base.specs.declared.names.Ident.{Ident}
 use Rattle.oz_semantics.specs.Names.{is_top}
-use Rattle.oz_semantics.specs.Configurations.{layer_at, thread_at, in_layer, without_gone, ending}
-use Rattle.oz_semantics.specs.Statements.{Effect, Becomes, Raises, code_effect}
+use Rattle.oz_semantics.specs.Configurations.{layer_at, thread_at, view, ending}
+use Rattle.oz_semantics.specs.Statements.{Effect, Becomes, Shows, Raises, code_effect}
 use Rattle.oz_semantics.specs.Spaces.{goes_on}
-use Rattle.oz_semantics.specs.Schedule.{Turned, top_is_broken, settled, status_by, raised, after_effect, place_of, stepped_thread, stepped_layer, stepped, frames_in, turn}
-use Rattle.oz_semantics.specs.Runs.{Ran, Ended, TopRaised, Over, after_turn, run_for}
+use Rattle.oz_semantics.specs.Schedule.{Turned, top_is_broken, settled, status_by, raised, with_layer, after_effect, place_of, stepped_thread, stepped_layer, stepped, frames_in, turn_of, turn}
+use Rattle.oz_semantics.specs.Texts.{Printed, term_text}
+use Rattle.oz_semantics.specs.Runs.{Ran, Ended, TopRaised, Over, paying, after_turn, run_for}
 use Rattle.oz_semantics.specs.declared.kernel.Statement.{Statement}
+use Rattle.oz_semantics.specs.declared.kernel.Kernel.{Kernel}
 use Rattle.oz_semantics.specs.declared.configuration.Frame.{Frame}
 use Rattle.oz_semantics.specs.declared.configuration.Layer.{Layer}
 use Rattle.oz_semantics.specs.declared.configuration.Configuration.{Configuration}
 use Rattle.oz_semantics.specs.declared.outcome.Raise.{Raise}
 use Rattle.oz_semantics.specs.declared.outcome.Stepped.{Stepped}
 use Rattle.oz_semantics.specs.declared.outcome.Stepped.TheVariants.{Moved, Quiescent, TopEnded}
-use Rattle.oz_machine.specs.Settling.{CostsOne}
+use Rattle.oz_machine.specs.Turns.{cost_of, CostsWithin, IsTurn}
 
--- it made a step, which costs 1
+-- it made a step, which costs 1 at least
 abbrev pub IsPaid : Turned → Type 0
-IsPaid (Moved cost, c) = cost ≡ 1
-IsPaid (TopEnded raise cost, c) = cost ≡ 1
+IsPaid (Moved cost, c) = 1 ≤ cost
+IsPaid (TopEnded raise cost, c) = 1 ≤ cost
 IsPaid (Quiescent, c) = ⊥
 
-settled_paid : (statements : List Statement) (mover : Option Ident) (c : Configuration) → IsPaid (settled statements mover 1 c)
-settled_paid statements mover c = go (top_is_broken c.layers) refl
+settled_paid : (statements : List Statement) (mover : Option Ident) (cost : ℕ) (c : Configuration) → 1 ≤ cost → IsPaid (settled statements mover cost c)
+settled_paid statements mover cost c some = go (top_is_broken c.layers) refl
   where
-    go : (b : Bool) → top_is_broken c.layers ≡ b → IsPaid (settled statements mover 1 c)
-    go true e = rw e refl
-    go false e = rw e refl
+    go : (b : Bool) → top_is_broken c.layers ≡ b → IsPaid (settled statements mover cost c)
+    go true e = rw e some
+    go false e = rw e some
 
 raised_paid : (statements : List Statement) (id : Ident) (raise : Raise) (c : Configuration) → IsPaid (raised statements id raise c)
 raised_paid statements id raise c = go (is_top id.space) refl
   where
     go : (b : Bool) → is_top id.space ≡ b → IsPaid (raised statements id raise c)
-    go true e = rw e refl
-    go false e = rw e (settled_paid statements (Some id) (record c { layers = ending id.space (status_by raise) c.layers }))
+    go true e = rw e (omega arith)
+    go false e = rw e (settled_paid statements (Some id) 1 (record c { layers = ending id.space (status_by raise) c.layers }) (omega arith))
 
-effect_paid : (statements : List Statement) (id : Ident) (c : Configuration) (e : Effect) → IsPaid (after_effect statements id c e)
-effect_paid statements id c (Becomes l) = settled_paid statements (Some id) (record c { layers = in_layer id.space (λ m. without_gone l) c.layers })
-effect_paid statements id c (Raises raise) = raised_paid statements id raise c
+effect_paid : (k : Kernel) (id : Ident) (c : Configuration) (e : Effect) → IsPaid (after_effect k id c e)
+effect_paid k id c (Becomes l) = settled_paid k.statements (Some id) 1 (with_layer id l c) (omega arith)
+effect_paid k id c (Shows x l) =
+    let printed : Printed = term_text k.words (view c.layers id.space) x in
+    settled_paid k.statements (Some id) (1 + printed.nodes) (with_layer id l (record c { shown = c.shown ++ printed.bytes ∷ [] })) (omega arith)
+effect_paid k id c (Raises raise) = raised_paid k.statements id raise c
 
-thread_paid : (statements : List Statement) (id : Ident) (l : Layer) (frames : List Frame) (c : Configuration) → IsPaid (stepped_thread statements id l frames c)
-thread_paid statements id l [] c = settled_paid statements (Some id) c
-thread_paid statements id l (frame ∷ rest) c = effect_paid statements id c (code_effect statements (place_of c.layers id l rest) frame frame.code)
+thread_paid : (k : Kernel) (id : Ident) (l : Layer) (frames : List Frame) (c : Configuration) → IsPaid (stepped_thread k id l frames c)
+thread_paid k id l [] c = settled_paid k.statements (Some id) 1 c (omega arith)
+thread_paid k id l (frame ∷ rest) c = effect_paid k id c (code_effect k.statements (place_of c.layers id l rest) frame frame.code)
 
-layer_paid : (statements : List Statement) (id : Ident) (o : Option Layer) (c : Configuration) → IsPaid (stepped_layer statements id o c)
-layer_paid statements id None c = settled_paid statements (Some id) c
-layer_paid statements id (Some l) c = thread_paid statements id l (frames_in (thread_at l.threads id.number)) c
+layer_paid : (k : Kernel) (id : Ident) (o : Option Layer) (c : Configuration) → IsPaid (stepped_layer k id o c)
+layer_paid k id None c = settled_paid k.statements (Some id) 1 c (omega arith)
+layer_paid k id (Some l) c = thread_paid k id l (frames_in (thread_at l.threads id.number)) c
 
-turn_paid : (statements : List Statement) (c : Configuration) → is_empty c.queue ≡ false → IsPaid (turn statements c)
-turn_paid statements c some = go c.layers c.queue some
+stepped_paid : (k : Kernel) (id : Ident) (c : Configuration) → IsPaid (stepped k id c)
+stepped_paid k id c = layer_paid k id (layer_at c.layers id.space) c
+
+turn_paid : (k : Kernel) (c : Configuration) → is_empty c.queue ≡ false → IsPaid (turn k c)
+turn_paid k c some = go c.queue some
   where
-    go : (layers : List Layer) (queue : List Ident) → is_empty queue ≡ false → IsPaid (turn statements (record { layers = layers; queue = queue }))
-    go layers [] e = cc
-    go layers (id ∷ queue) e = layer_paid statements id (layer_at layers id.space) (record { layers = layers; queue = queue })
+    go : (queue : List Ident) → is_empty queue ≡ false → IsPaid (turn_of k c queue)
+    go [] e = cc
+    go (id ∷ queue) e = stepped_paid k id (record c { queue = queue })
 
-costs_by : (t : Turned) → IsPaid t → CostsOne t.0
-costs_by (Moved cost, c) h = h
-costs_by (TopEnded raise cost, c) h = h
-costs_by (Quiescent, c) h = tt
+paid_costs : (t : Turned) → IsPaid t → 1 ≤ cost_of t.0
+paid_costs (Moved cost, c) h = h
+paid_costs (TopEnded raise cost, c) h = h
+paid_costs (Quiescent, c) h = absurd h
 
--- the step of a thread costs 1
-pub stepped_costs : (statements : List Statement) (id : Ident) (c : Configuration) → CostsOne (stepped statements id c).0
-stepped_costs statements id c = costs_by (stepped statements id c) (layer_paid statements id (layer_at c.layers id.space) c)
+-- the step of a thread costs 1 at least
+pub stepped_costs : (k : Kernel) (id : Ident) (c : Configuration) → 1 ≤ cost_of (stepped k id c).0
+stepped_costs k id c = paid_costs (stepped k id c) (stepped_paid k id c)
+
+pub costs_within : (fuel : ℕ) (s : Stepped) → 1 ≤ cost_of s → cost_of s ≤ fuel → CostsWithin fuel s
+costs_within fuel (Moved cost) some within = (some, within)
+costs_within fuel (TopEnded raise cost) some within = (some, within)
+costs_within fuel Quiescent some within = tt
+
+-- the step of a thread that was made within the fuel
+pub turn_within : (k : Kernel) (id : Ident) (c d : Configuration) (fuel : ℕ) (o : Option Stepped) → IsTurn (stepped k id c) fuel c d o → IfSome o (λ s. cost_of s ≤ fuel) → IfSome o (CostsWithin fuel)
+turn_within k id c d fuel None made within = tt
+turn_within k id c d fuel (Some s) made within = costs_within fuel s (subst (λ (t : Turned). 1 ≤ cost_of t.0) made (stepped_costs k id c)) within
+
+-- a turn that was made, and one that was not
+pub was_made : (t : Turned) (fuel : ℕ) (c d : Configuration) (o : Option Stepped) (s : Stepped) → IsTurn t fuel c d o → o ≡ Some s → t ≡ (s, d)
+was_made t fuel c d o s h e = subst (IsTurn t fuel c d) e h
+
+pub not_made : (t : Turned) (fuel : ℕ) (c d : Configuration) (o : Option Stepped) → IsTurn t fuel c d o → ((s : Stepped) → o ≡ Some s → ⊥) → (fuel < cost_of t.0) × (d ≡ c)
+not_made t fuel c d None h none = h
+not_made t fuel c d (Some s) h none = absurd (none s refl)
+
+-- what a turn that was made cost
+within_if : (fuel : ℕ) (s : Stepped) → CostsWithin fuel s → cost_of s ≤ fuel
+within_if fuel (Moved cost) h = h.1
+within_if fuel (TopEnded raise cost) h = h.1
+within_if fuel Quiescent h = omega arith
+
+pub made_within : (fuel : ℕ) (o : Option Stepped) (s : Stepped) → IfSome o (CostsWithin fuel) → o ≡ Some s → cost_of s ≤ fuel
+made_within fuel o s h e = within_if fuel s (subst (λ (p : Option Stepped). IfSome p (CostsWithin fuel)) e h)
+
+-- what follows from two facts on a result
+pub both_ok : {A E : Type 0} {P Q R : A → Type 0} (r : Result A E) → ((x : A) → P x → Q x → R x) → IfOk r P → IfOk r Q → IfOk r R
+both_ok (Ok x) f p q = f x p q
+both_ok (Err e) f p q = tt
 
 -- Runs
 
-pays : (n : ℕ) → nat_le 1 (suc n) ≡ true
-pays n = grind arith
+-- a turn that makes a step costs 1 at least
+abbrev pub IsDear : Turned → Type 0
+IsDear (Moved cost, c) = 1 ≤ cost
+IsDear (TopEnded raise cost, c) = 1 ≤ cost
+IsDear (Quiescent, c) = Unit {0}
 
-over_by : (more : Configuration → ℕ → Ran) (c : Configuration) (t : Turned) → IsPaid t → after_turn more 0 c t ≡ Over c
-over_by more c (Moved cost, d) h = rw h refl
-over_by more c (TopEnded raise cost, d) h = rw h refl
-over_by more c (Quiescent, d) h = absurd h
+paid_dear : (t : Turned) → IsPaid t → IsDear t
+paid_dear (Moved cost, c) h = h
+paid_dear (TopEnded raise cost, c) h = h
+paid_dear (Quiescent, c) h = tt
 
-quiet_after : (statements : List Statement) (more : Configuration → ℕ → Ran) (fuel : ℕ) (c : Configuration) (layers : List Layer) (queue : List Ident) → is_empty queue ≡ true
-    → after_turn more fuel c (turn statements (record { layers = layers; queue = queue })) ≡ Ended c fuel
-quiet_after statements more fuel c layers [] e = refl
-quiet_after statements more fuel c layers (id ∷ queue) e = cc
+turn_dear : (k : Kernel) (c : Configuration) → IsDear (turn k c)
+turn_dear k c = go c.queue
+  where
+    go : (queue : List Ident) → IsDear (turn_of k c queue)
+    go [] = tt
+    go (id ∷ queue) = paid_dear (stepped k id (record c { queue = queue })) (stepped_paid k id (record c { queue = queue }))
 
-module _ (statements : List Statement) (space : List ℕ) where
-  going : (n fuel : ℕ) (c : Configuration) → goes_on statements c.layers space ≡ true
-      → run_for statements space (suc n) c fuel ≡ after_turn (run_for statements space n) fuel c (turn statements c)
+pays : (cost fuel : ℕ) (next : ℕ → Ran) (c : Configuration) → cost ≤ fuel → paying cost fuel next c ≡ next (fuel - cost)
+pays cost fuel next c h = rw (le-leb cost fuel h) refl
+
+pays_not : (cost fuel : ℕ) (next : ℕ → Ran) (c : Configuration) → fuel < cost → paying cost fuel next c ≡ Over c
+pays_not cost fuel next c h = rw (lt-leb cost fuel h) refl
+
+over_by : (more : Configuration → ℕ → Ran) (fuel : ℕ) (c : Configuration) (t : Turned) → fuel < cost_of t.0 → after_turn more fuel c t ≡ Over c
+over_by more fuel c (Moved cost, d) h = pays_not cost fuel (more d) c h
+over_by more fuel c (TopEnded raise cost, d) h = pays_not cost fuel (λ left. TopRaised d left raise) c h
+over_by more fuel c (Quiescent, d) h = absurd (omega (arith, h))
+
+quiet_after : (k : Kernel) (more : Configuration → ℕ → Ran) (fuel : ℕ) (c : Configuration) (queue : List Ident) → is_empty queue ≡ true
+    → after_turn more fuel c (turn_of k c queue) ≡ Ended c fuel
+quiet_after k more fuel c [] e = refl
+quiet_after k more fuel c (id ∷ queue) e = cc
+
+-- two ways to go on that agree where less fuel is left
+same_after : (more less : Configuration → ℕ → Ran) (fuel : ℕ) (c : Configuration) (t : Turned) → IsDear t
+    → ((d : Configuration) (left : ℕ) → left < fuel → more d left ≡ less d left) → after_turn more fuel c t ≡ after_turn less fuel c t
+same_after more less fuel c (Moved cost, d) dear same = go (nat_le cost fuel) refl
+  where
+    go : (b : Bool) → nat_le cost fuel ≡ b → paying cost fuel (more d) c ≡ paying cost fuel (less d) c
+    go true e = let h : cost ≤ fuel = leb-true cost fuel e in pays cost fuel (more d) c h ∙ same d (fuel - cost) (omega (arith, h, dear)) ∙ sym (pays cost fuel (less d) c h)
+    go false e = let h : fuel < cost = leb-false cost fuel e in pays_not cost fuel (more d) c h ∙ sym (pays_not cost fuel (less d) c h)
+same_after more less fuel c (TopEnded raise cost, d) dear same = refl
+same_after more less fuel c (Quiescent, d) dear same = refl
+
+module _ (k : Kernel) (space : List ℕ) where
+  pub going : (n fuel : ℕ) (c : Configuration) → goes_on k.statements c.layers space ≡ true → run_for k space (suc n) c fuel ≡ after_turn (run_for k space n) fuel c (turn k c)
   unfolding run_for
   going n fuel c e = rw e refl
 
   -- nothing can step
-  pub run_ended : (n fuel : ℕ) (c : Configuration) → goes_on statements c.layers space ≡ false → run_for statements space (suc n) c fuel ≡ Ended c fuel
+  pub run_ended : (n fuel : ℕ) (c : Configuration) → goes_on k.statements c.layers space ≡ false → run_for k space (suc n) c fuel ≡ Ended c fuel
   unfolding run_for
   run_ended n fuel c e = rw e refl
 
-  -- no fuel is left for the next turn
-  pub run_over : (c : Configuration) → goes_on statements c.layers space ≡ true → is_empty c.queue ≡ false → run_for statements space 1 c 0 ≡ Over c
-  run_over c e some = going 0 0 c e ∙ over_by (run_for statements space 0) c (turn statements c) (turn_paid statements c some)
+  same_turn : (n m fuel : ℕ) (c : Configuration) (b : Bool) → goes_on k.statements c.layers space ≡ b
+      → ((d : Configuration) (left : ℕ) → left < fuel → run_for k space n d left ≡ run_for k space m d left) → run_for k space (suc n) c fuel ≡ run_for k space (suc m) c fuel
+  same_turn n m fuel c false e same = run_ended n fuel c e ∙ sym (run_ended m fuel c e)
+  same_turn n m fuel c true e same =
+      going n fuel c e ∙ same_after (run_for k space n) (run_for k space m) fuel c (turn k c) (turn_dear k c) same ∙ sym (going m fuel c e)
 
-  -- a turn that moves
-  pub run_moved : (left : ℕ) (c d : Configuration) → goes_on statements c.layers space ≡ true → turn statements c ≡ (Moved 1, d) → left ≢ 0
-      → run_for statements space (suc (left - 1)) d (left - 1) ≡ run_for statements space (suc left) c left
-  run_moved zero c d e t some = absurd (some refl)
-  run_moved (suc k) c d e t some =
-      let one_less : suc k - 1 ≡ k = omega arith in
-      ap (λ n. run_for statements space (suc n) d n) one_less
-      ∙ sym (going (suc k) (suc k) c e ∙ ap (after_turn (run_for statements space (suc k)) (suc k) c) t
-      ∙ ap (λ b. if b then run_for statements space (suc k) d (suc k - 1) else Over c) (pays k) ∙ ap (run_for statements space (suc k) d) one_less)
-
-  -- a turn that ends the top
-  pub run_raised : (left : ℕ) (c d : Configuration) (raise : Raise) → goes_on statements c.layers space ≡ true → turn statements c ≡ (TopEnded raise 1, d) → left ≢ 0
-      → run_for statements space (suc left) c left ≡ TopRaised d (left - 1) raise
-  run_raised zero c d raise e t some = absurd (some refl)
-  run_raised (suc k) c d raise e t some =
-      going (suc k) (suc k) c e ∙ ap (after_turn (run_for statements space (suc k)) (suc k) c) t
-      ∙ ap (λ b. if b then TopRaised d (suc k - 1) raise else Over c) (pays k)
+  -- more turns than there is fuel do not matter
+  pub enough : (n m : ℕ) (c : Configuration) (fuel : ℕ) → fuel < n → fuel < m → run_for k space n c fuel ≡ run_for k space m c fuel
+  enough zero m c fuel h i = absurd (omega (arith, h))
+  enough (suc n) zero c fuel h i = absurd (omega (arith, i))
+  enough (suc n) (suc m) c fuel h i =
+      same_turn n m fuel c (goes_on k.statements c.layers space) refl (λ d left less. enough n m d left (omega (arith, less, h)) (omega (arith, less, i)))
 
   -- nothing stands in the queue
-  pub run_quiet : (n fuel : ℕ) (c : Configuration) → goes_on statements c.layers space ≡ true → is_empty c.queue ≡ true → run_for statements space (suc n) c fuel ≡ Ended c fuel
-  run_quiet n fuel c e none = going n fuel c e ∙ quiet_after statements (run_for statements space n) fuel c c.layers c.queue none
+  pub run_quiet : (n fuel : ℕ) (c : Configuration) → goes_on k.statements c.layers space ≡ true → is_empty c.queue ≡ true → run_for k space (suc n) c fuel ≡ Ended c fuel
+  run_quiet n fuel c e none = going n fuel c e ∙ quiet_after k (run_for k space n) fuel c c.queue none
 
   both : (a b : Bool) → (a && not b) ≡ true → (a ≡ true) × (b ≡ false)
   both true false e = (refl, refl)
@@ -123,33 +187,40 @@ module _ (statements : List Statement) (space : List ℕ) where
   both false b e = cc
 
   abbrev pub MayTurn : Configuration → Bool → Type 0
-  MayTurn c b = (goes_on statements c.layers space && not (is_empty c.queue)) ≡ b
+  MayTurn c b = (goes_on k.statements c.layers space && not (is_empty c.queue)) ≡ b
 
   -- where no turn is to be made
-  pub run_done : (n fuel : ℕ) (c : Configuration) → MayTurn c false → run_for statements space (suc n) c fuel ≡ Ended c fuel
-  run_done n fuel c e = go (goes_on statements c.layers space) (is_empty c.queue) refl refl e
+  pub run_done : (n fuel : ℕ) (c : Configuration) → MayTurn c false → run_for k space (suc n) c fuel ≡ Ended c fuel
+  run_done n fuel c e = go (goes_on k.statements c.layers space) (is_empty c.queue) refl refl e
     where
-      go : (a b : Bool) → goes_on statements c.layers space ≡ a → is_empty c.queue ≡ b → (a && not b) ≡ false → run_for statements space (suc n) c fuel ≡ Ended c fuel
-      go false b p q k = run_ended n fuel c p
-      go true true p q k = run_quiet n fuel c p q
-      go true false p q k = cc
+      go : (a b : Bool) → goes_on k.statements c.layers space ≡ a → is_empty c.queue ≡ b → (a && not b) ≡ false → run_for k space (suc n) c fuel ≡ Ended c fuel
+      go false b p q h = run_ended n fuel c p
+      go true true p q h = run_quiet n fuel c p q
+      go true false p q h = cc
 
-  pub run_out : (c : Configuration) → MayTurn c true → (left : ℕ) → left ≡ 0 → run_for statements space (suc left) c left ≡ Over c
-  run_out c e left none = rw none (run_over c (both _ _ e).0 (both _ _ e).1)
+  -- where the next turn costs more than what is left
+  pub run_out : (c : Configuration) (left : ℕ) → MayTurn c true → left < cost_of (turn k c).0 → run_for k space (suc left) c left ≡ Over c
+  run_out c left e h = going left left c (both _ _ e).0 ∙ over_by (run_for k space left) left c (turn k c) h
 
-  -- where a turn was made
-  pub run_stopped : (left : ℕ) (c d : Configuration) (raise : Raise) (cost : ℕ) → MayTurn c true → turn statements c ≡ (TopEnded raise cost, d) → left ≢ 0
-      → run_for statements space (suc left) c left ≡ TopRaised d (left - 1) raise
-  run_stopped left c d raise cost e t some =
-      let one : cost ≡ 1 = subst IsPaid t (turn_paid statements c (both _ _ e).1) in
-      run_raised left c d raise (both _ _ e).0 (t ∙ ap (λ n. (TopEnded raise n, d)) one) some
+  -- what a turn cost
+  pub turn_costs : (c d : Configuration) (s : Stepped) → MayTurn c true → turn k c ≡ (s, d) → 1 ≤ cost_of s
+  turn_costs c d s e t = paid_costs (s, d) (subst IsPaid t (turn_paid k c (both _ _ e).1))
 
-  pub run_went : (left : ℕ) (c d : Configuration) (s : Stepped) → MayTurn c true → turn statements c ≡ (s, d) → ((raise : Raise) (cost : ℕ) → s ≡ TopEnded raise cost → ⊥) → left ≢ 0
-      → run_for statements space (suc (left - 1)) d (left - 1) ≡ run_for statements space (suc left) c left
-  run_went left c d s e t other some = go s t other (subst IsPaid t (turn_paid statements c (both _ _ e).1))
+  -- where a turn ended the top
+  pub run_stopped : (left : ℕ) (c d : Configuration) (raise : Raise) (cost : ℕ) → MayTurn c true → turn k c ≡ (TopEnded raise cost, d) → cost ≤ left
+      → run_for k space (suc left) c left ≡ TopRaised d (left - cost) raise
+  run_stopped left c d raise cost e t h =
+      going left left c (both _ _ e).0 ∙ ap (after_turn (run_for k space left) left c) t ∙ pays cost left (λ rest. TopRaised d rest raise) c h
+
+  -- where a turn moved
+  pub run_went : (left : ℕ) (c d : Configuration) (s : Stepped) → MayTurn c true → turn k c ≡ (s, d) → ((raise : Raise) (cost : ℕ) → s ≡ TopEnded raise cost → ⊥) → cost_of s ≤ left
+      → run_for k space (suc (left - cost_of s)) d (left - cost_of s) ≡ run_for k space (suc left) c left
+  run_went left c d s e t other h = go s t other h (turn_costs c d s e t)
     where
-      go : (s : Stepped) → turn statements c ≡ (s, d) → ((raise : Raise) (cost : ℕ) → s ≡ TopEnded raise cost → ⊥) → IsPaid (s, d)
-          → run_for statements space (suc (left - 1)) d (left - 1) ≡ run_for statements space (suc left) c left
-      go (Moved cost) k o one = run_moved left c d (both _ _ e).0 (k ∙ ap (λ n. (Moved n, d)) one) some
-      go (TopEnded raise cost) k o one = absurd (o raise cost refl)
-      go Quiescent k o one = absurd one
+      go : (s : Stepped) → turn k c ≡ (s, d) → ((raise : Raise) (cost : ℕ) → s ≡ TopEnded raise cost → ⊥) → cost_of s ≤ left → 1 ≤ cost_of s
+          → run_for k space (suc (left - cost_of s)) d (left - cost_of s) ≡ run_for k space (suc left) c left
+      go (Moved cost) u o within some =
+          sym (going left left c (both _ _ e).0 ∙ ap (after_turn (run_for k space left) left c) u ∙ pays cost left (run_for k space left d) c within
+          ∙ enough left (suc (left - cost)) d (left - cost) (omega (arith, within, some)) (omega arith))
+      go (TopEnded raise cost) u o within some = absurd (o raise cost refl)
+      go Quiescent u o within some = absurd (omega (arith, some))

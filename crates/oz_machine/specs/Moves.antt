@@ -2,18 +2,22 @@
 use Rattle.std.specs.Prelude.{ℕ, ◌≡◌, Bool, true, false, List, [], ◌∷◌, ◌++◌, Option, Some, None}
 use Rattle.oz_base.specs.declared.names.Ident.{Ident}
 use Rattle.oz_semantics.specs.Store.{is_consistent}
-use Rattle.oz_semantics.specs.Configurations.{nowhere, thread_at, with_frames, telling, giving_out, frames_of}
-use Rattle.oz_semantics.specs.Statements.{Effect, Becomes, Raises, Place, tells, tells_then, counting_procedure, code_effect}
+use Rattle.oz_semantics.specs.Configurations.{nowhere, is_of, thread_at, view, with_frames, telling, giving_out, frames_of}
+use Rattle.oz_semantics.specs.Statements.{Effect, Becomes, Shows, Raises, Place, tells, tells_then, counting_procedure, code_effect}
 use Rattle.oz_semantics.specs.Schedule.{frames_in}
 use Rattle.oz_semantics.specs.declared.kernel.Statement.{Statement}
 use Rattle.oz_semantics.specs.declared.configuration.Binding.{Binding}
 use Rattle.oz_semantics.specs.declared.configuration.Tell.{Tell}
 use Rattle.oz_semantics.specs.declared.configuration.Frame.{Frame}
 use Rattle.oz_semantics.specs.declared.configuration.Layer.{Layer}
+use Rattle.oz_semantics.specs.declared.configuration.Configuration.{Configuration}
 use Rattle.oz_semantics.specs.declared.outcome.Raise.{Raise}
 use Rattle.oz_semantics.specs.declared.outcome.Raise.TheVariants.{FailureTell}
 use Rattle.oz_machine.specs.declared.moves.Move.{Move}
 use Rattle.oz_machine.specs.declared.moves.Move.TheVariants as move
+use Rattle.oz_machine.specs.declared.moves.Plan.{Plan}
+use Rattle.oz_machine.specs.declared.moves.Plan.TheVariants as plans
+use Rattle.oz_machine.specs.Places.{IsFirst}
 
 -- what is left of a stack without its top
 abbrev pub rest_of : List Frame → List Frame
@@ -37,6 +41,11 @@ effect_of p (move.Makes t) = tells_then p t counting_procedure
 effect_of p move.Stays = Becomes (moved p.thread move.Stays p.layer)
 effect_of p (move.Enters environment body) = Becomes (moved p.thread (move.Enters environment body) p.layer)
 effect_of p (move.Opens fresh environment body) = Becomes (moved p.thread (move.Opens fresh environment body) p.layer)
+
+-- the effect that a plan stands for
+abbrev pub planned : Place → Plan → Effect
+planned p (plans.Moves m) = effect_of p m
+planned p (plans.Shows x) = Shows x p.layer
 
 -- a place in this layer, of which the space sees this
 pub record IsPlaceIn (view : List Tell) (l : Layer) (p : Place) : Type 0 where
@@ -68,8 +77,14 @@ Refuses view m (Some raise) = (p : Place) → p.view ≡ view → effect_of p m 
 Refuses view m None = (p : Place) → p.view ≡ view → effect_of p m ≡ Becomes (moved p.thread m p.layer)
 
 -- what the top statement of a thread of the layer does, if it has one
-abbrev pub HasPlan : List Statement → List Tell → Layer → ℕ → Option Move → Type 0
+abbrev pub HasPlan : List Statement → List Tell → Layer → ℕ → Option Plan → Type 0
 HasPlan statements view l number None = frames_in (thread_at l.threads number) ≡ []
 HasPlan statements view l number (Some plan) =
     (frame : Frame) × (rest : List Frame) × (frames_in (thread_at l.threads number) ≡ frame ∷ rest)
-    × ((p : Place) → IsPlaceIn view l p → code_effect statements p frame frame.code ≡ effect_of p plan)
+    × ((p : Place) → IsPlaceIn view l p → code_effect statements p frame frame.code ≡ planned p plan)
+
+-- the layer at this place is the thread's, whose top statement does this, if it has one
+pub record IsPlanned (statements : List Statement) (c : Configuration) (id : Ident) (place : ℕ) (what : Option Plan) : Type 0 where
+  pub layer : Layer
+  pub first : IsFirst (is_of id.space) c.layers place layer
+  pub does : HasPlan statements (view c.layers layer.space) layer id.number what

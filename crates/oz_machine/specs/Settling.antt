@@ -1,17 +1,10 @@
 -- What follows a step, by whether the top was found inconsistent.
-use Rattle.std.specs.Prelude.{ℕ, ◌≡◌, Bool, true, false}
+use Rattle.std.specs.Prelude.{ℕ, Bool, true, false}
 use Rattle.oz_semantics.specs.Schedule.{Turned}
 use Rattle.oz_semantics.specs.declared.configuration.Configuration.{Configuration}
 use Rattle.oz_semantics.specs.declared.outcome.Raise.TheVariants.{FailureTop}
-use Rattle.oz_semantics.specs.declared.outcome.Stepped.{Stepped}
-use Rattle.oz_semantics.specs.declared.outcome.Stepped.TheVariants.{Moved, Quiescent, TopEnded}
+use Rattle.oz_semantics.specs.declared.outcome.Stepped.TheVariants.{Moved, TopEnded}
 
 abbrev pub is_settled : Bool → ℕ → Configuration → Turned
 is_settled true cost c = (TopEnded FailureTop cost, c)
 is_settled false cost c = (Moved cost, c)
-
--- a turn that makes a step costs 1
-abbrev pub CostsOne : Stepped → Type 0
-CostsOne (Moved cost) = cost ≡ 1
-CostsOne (TopEnded raise cost) = cost ≡ 1
-CostsOne Quiescent = Unit {0}

@@ -1,9 +1,9 @@
 //! The opening configuration, the creation of spaces, and the commitment of a choice.
 ghost use Rattle.std.specs.Prelude.{◌≡◌, ◌≤◌, ◌-◌, [], IfOk, OnOk, option_copied, position, MatchOption, slice_get, unwrap_or};
-ghost use Rattle.oz_semantics.specs.Names.{space_lt};
+ghost use Rattle.oz_semantics.specs.Names.{named, space_lt};
 ghost use Rattle.oz_semantics.specs.Configurations.{layer_at, spawning, new_layer, placed, next_child, frames_of};
 ghost use Rattle.oz_semantics.specs.Spaces.{rooted, created, counting_child, alternative, chosen, offers, committing, committed};
-ghost use Rattle.oz_semantics.specs.Runs.{opening_environment};
+ghost use Rattle.oz_semantics.specs.Runs.{opening_environment, top_layer};
 ghost use Rattle.oz_semantics.specs.Search.{name_in};
 ghost use Rattle.oz_semantics.specs.declared.configuration.Layer.{Layer};
 ghost use Rattle.oz_semantics.specs.declared.configuration.Thread.{Thread};
@@ -14,7 +14,8 @@ use crate::places::layer_place;
 use crate::readiness::thread_offer;
 use oz_base::{Copies, Ident, Sequence, Shared, Stack};
 use oz_semantics::{
-    Binding, Code, Environment, Frame, Kernel, Layer, Name, Next, Statement, Status, Thread,
+    Binding, Builtin, Code, Environment, Frame, Kernel, Layer, Name, Next, Statement, Status, Tell,
+    Thread, Value,
 };
 use std::alloc::{AllocError, Global};
 
@@ -44,28 +45,56 @@ fn spawn(layer: &mut Layer, frames: Stack<Frame>) -> Result<(), AllocError>
     layer.threads.push(Thread { number, frames })
 }
 
+/// A variable of the top.
+fn top_variable(alloc: Global, number: u32) -> Ident
+    ensures { result ≡ named [] number }
+{
+    Ident {
+        space: Sequence::new(alloc),
+        number,
+    }
+}
+
+/// The word with this number stands for the top's variable with the same number.
+fn word_binding(alloc: Global, number: u32) -> Binding
+    ensures { result ≡ record { name = Name.Word number; variable = named [] number } }
+{
+    Binding {
+        name: Name::Word(number),
+        variable: top_variable(alloc, number),
+    }
+}
+
 fn opening_environment(alloc: Global) -> Result<Environment, AllocError>
     ensures { IfOk result (λ environment. environment ≡ opening_environment) }
 {
     let mut environment = Stack::new(alloc);
-    environment.push(Binding {
-        name: Name::Word(0),
-        variable: Ident {
-            space: Sequence::new(alloc),
-            number: 0,
-        },
-    })?;
+    environment.push(word_binding(alloc, 1))?;
+    environment.push(word_binding(alloc, 0))?;
     Shared::new(alloc, environment)
+}
+
+/// The top, which was told what `Show` is.
+fn top_layer(alloc: Global) -> Result<Layer, AllocError>
+    ensures { IfOk result (λ layer. layer ≡ top_layer) }
+{
+    let mut layer = new_layer(alloc, Sequence::new(alloc));
+    layer.next.variable = 2;
+    layer.tells.push(Tell::Is {
+        variable: top_variable(alloc, 1),
+        value: Value::Builtin(Builtin::Show),
+    })?;
+    Ok(layer)
 }
 
 /// The top with its one thread, which has the program's statements.
 pub fn opening_layer(alloc: Global, kernel: &Kernel) -> Result<Layer, AllocError>
-    ensures { IfOk result (λ layer. layer ≡ spawning (frames_of opening_environment kernel.now.body) (new_layer [])) }
+    ensures { IfOk result (λ layer. layer ≡ spawning (frames_of opening_environment kernel.now.body) top_layer) }
 {
     let environment = opening_environment(alloc)?;
     let mut frames = Stack::new(alloc);
     push_frames(alloc, &environment, kernel.body.as_slice(), &mut frames)?;
-    let mut layer = new_layer(alloc, Sequence::new(alloc));
+    let mut layer = top_layer(alloc)?;
     spawn(&mut layer, frames)?;
     Ok(layer)
 }

@@ -1,5 +1,5 @@
 //! Which variables identifiers stand for.
-ghost use Rattle.std.specs.Prelude.{◌≡◌, ◌++◌, length, IfOk, option_copied};
+ghost use Rattle.std.specs.Prelude.{◌≡◌, ◌++◌, length, map, IfOk, option_copied};
 ghost use Rattle.oz_semantics.specs.Kernels.{name_eq};
 ghost use Rattle.oz_semantics.specs.Configurations.{nowhere, bound, bindings};
 ghost use Rattle.oz_machine.specs.Moves.{variable_in};
@@ -55,6 +55,29 @@ pub fn bound<'a>(environment: &'a Stack<Binding>, name: Name, absent: &'a Ident)
         Some(binding) => &binding.variable,
         None => absent,
     }
+}
+
+/// The variable of an identifier.
+pub fn bound_copy(alloc: Global, environment: &Environment, name: Name) -> Result<Ident, AllocError>
+    ensures { IfOk result (λ variable. variable ≡ bound environment.now name) }
+{
+    let absent = nowhere(alloc);
+    bound(environment.get(), name, &absent).copied(alloc)
+}
+
+/// The variables of identifiers.
+pub fn all_bound(
+    alloc: Global,
+    environment: &Environment,
+    names: &[Name],
+) -> Result<Vec<Ident>, AllocError>
+    ensures { IfOk result (λ variables. variables.items ≡ map (bound environment.now) names.now) }
+{
+    let mut variables = Vec::new(alloc);
+    for name in names {
+        variables.push(bound_copy(alloc, environment, *name)?)?;
+    }
+    Ok(variables)
 }
 
 /// An environment with more bindings before it: each name stands for the variable at its place.

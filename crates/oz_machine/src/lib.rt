@@ -1,6 +1,8 @@
 //! The abstract machine: it runs kernel programs turn by turn, in a tree of computation spaces.
 #![tactic(auto)]
 
+mod branches;
+mod calls;
 mod creation;
 mod environments;
 mod machine;

@@ -1,5 +1,5 @@
 //! The machine: a loaded program, shared by all copies, and a configuration.
-ghost use Rattle.std.specs.Prelude.{◌≡◌, ◌≤◌, ◌&&◌, not, [], IfOk, OnOk, option_copied};
+ghost use Rattle.std.specs.Prelude.{◌≡◌, ◌≤◌, ◌&&◌, not, [], IfOk, IfSome, OnOk, option_copied};
 ghost use Rattle.std.specs.Arc.{arc_value};
 ghost use Rattle.oz_base.specs.Lists.{is_empty, holds_of};
 ghost use Rattle.oz_semantics.specs.Store.{value_of};
@@ -9,7 +9,7 @@ ghost use Rattle.oz_semantics.specs.Schedule.{turn};
 ghost use Rattle.oz_semantics.specs.Texts.{raise_text};
 ghost use Rattle.oz_semantics.specs.Runs.{opening, run};
 ghost use Rattle.oz_semantics.specs.Search.{is_script, with_root, search_space, chosen_in, state_text};
-ghost use Rattle.oz_machine.specs.Settling.{CostsOne};
+ghost use Rattle.oz_machine.specs.Turns.{cost_of, CostsWithin, IsTurn};
 ghost use Rattle.oz_machine.specs.Texts.{PrintsWithin};
 ghost use Rattle.oz_machine.specs.Answers.{IsRun, IsScript};
 ghost use Rattle.oz_machine.specs.Views.{views_of};
@@ -21,7 +21,9 @@ use crate::texts::{Text, state_text};
 use crate::turn::step;
 use crate::views::views_of;
 use oz_base::{Copies, Ident, Sequence};
-use oz_semantics::{Configuration, Kernel, Layer, Raise, State, Statement, Stepped, Value};
+use oz_semantics::{
+    Builtin, Configuration, Kernel, Layer, Raise, State, Statement, Stepped, Value,
+};
 use oz_store::{Seen, seen_by};
 use std::alloc::{AllocError, Global};
 use std::marker::Model;
@@ -77,10 +79,10 @@ impl Machine {
         })
     }
 
-    /// One turn.
-    pub fn step(&mut self, alloc: Global) -> Result<Stepped, AllocError>
-        ensures turn { IfOk result (λ stepped. turn self.old.kernel.statements self.old.config ≡ (stepped, self.new.config)) }
-        ensures cost { IfOk result CostsOne }
+    /// One turn. None exactly where it costs more than the fuel: it is not made, and nothing changes.
+    pub fn step(&mut self, alloc: Global, fuel: u64) -> Result<Option<Stepped>, AllocError>
+        ensures turn { IfOk result (IsTurn (turn self.old.kernel self.old.config) fuel self.old.config self.new.config) }
+        ensures cost { IfOk result (λ turned. IfSome turned (CostsWithin fuel)) }
         ensures kernel { OnOk result (self.new.kernel ≡ self.old.kernel) }
     {
         let Machine {
@@ -88,22 +90,18 @@ impl Machine {
             configuration,
         } = self;
         let mut views = views_of(alloc, configuration.layers.as_slice())?;
-        step(
-            alloc,
-            kernel.statements.as_slice(),
-            configuration,
-            &mut views,
-        )
+        step(alloc, kernel, configuration, &mut views, fuel)
     }
 
-    /// Turns while something of the space's subtree can step, for no more than the fuel.
+    /// Turns while something of the space's subtree can step, for no more than the fuel. A text that is shown costs a step for
+    /// each of its nodes besides.
     pub fn run(
         &mut self,
         alloc: Global,
         space: &Sequence<u32>,
         fuel: u64,
     ) -> Result<Ran, AllocError>
-        ensures run { IfOk result (IsRun self.new space.now fuel (run self.old.kernel.statements space.now self.old.config fuel)) }
+        ensures run { IfOk result (IsRun self.new space.now fuel (run self.old.kernel space.now self.old.config fuel)) }
         ensures kernel { OnOk result (self.new.kernel ≡ self.old.kernel) }
     {
         let Machine {
@@ -111,6 +109,13 @@ impl Machine {
             configuration,
         } = self;
         run(alloc, kernel, configuration, space, fuel)
+    }
+
+    /// The texts that were shown, in their order.
+    pub fn shown(&self) -> &[Sequence<u8>]
+        ensures { result.now ≡ self.now.config.shown }
+    {
+        self.configuration.shown.as_slice()
     }
 
     /// The variable of `Script`. None exactly where that is no procedure of one parameter.
@@ -196,6 +201,7 @@ fn opening_of(alloc: Global, kernel: &Kernel) -> Result<Configuration, AllocErro
     let mut configuration = Configuration {
         layers,
         queue: Sequence::new(alloc),
+        shown: Sequence::new(alloc),
     };
     settle_edit(alloc, kernel.statements.as_slice(), &mut configuration)?;
     Ok(configuration)
@@ -206,7 +212,8 @@ fn is_script(value: Option<&Value>) -> bool
 {
     match value {
         Some(Value::Procedure(procedure)) => procedure.parameters.len() == 1,
-        _ => false,
+        Some(Value::Builtin(Builtin::Show)) => true,
+        Some(Value::Constant(_)) | Some(Value::Record(_)) | None => false,
     }
 }
 
@@ -245,6 +252,15 @@ fn is_empty(queue: &Sequence<Ident>) -> bool
     queue.as_slice().is_empty()
 }
 
+fn cost_of(stepped: Stepped) -> u64
+    ensures { result ≡ cost_of stepped }
+{
+    match stepped {
+        Stepped::Moved { cost } | Stepped::TopEnded { cost, .. } => cost,
+        Stepped::Quiescent => 0,
+    }
+}
+
 /// Turns while something of the space's subtree can step, for no more than the fuel.
 fn run(
     alloc: Global,
@@ -253,25 +269,20 @@ fn run(
     space: &Sequence<u32>,
     fuel: u64,
 ) -> Result<Ran, AllocError>
-    ensures { IfOk result (IsRun (record { kernel = kernel.now; config = configuration.new }) space.now fuel (run kernel.now.statements space.now configuration.old fuel)) }
+    ensures { IfOk result (IsRun (record { kernel = kernel.now; config = configuration.new }) space.now fuel (run kernel.now space.now configuration.old fuel)) }
 {
     let statements = kernel.statements.as_slice();
     let mut views = views_of(alloc, configuration.layers.as_slice())?;
     let mut left = fuel;
     'turns: while may_turn(alloc, statements, configuration, &views, space) {
-        if left == 0 {
+        let Some(stepped) = step(alloc, kernel, configuration, &mut views, left)? else {
             return Ok(Ran::OutOfFuel);
-        }
-        if let Stepped::TopEnded { raise, .. } = step(
-            alloc,
-            statements,
-            configuration,
-            &mut views,
-        )? {
-            let steps = fuel - left + 1;
+        };
+        left -= cost_of(stepped);
+        if let Stepped::TopEnded { raise, .. } = stepped {
+            let steps = fuel - left;
             return Ok(Ran::TopEnded { raise, steps });
         }
-        left -= 1;
     }
     let state = state(alloc, statements, &configuration.layers, &views, space)?;
     let steps = fuel - left;

@@ -8,7 +8,7 @@ ghost use Rattle.oz_semantics.specs.declared.configuration.Thread.{Thread};
 ghost use Rattle.oz_machine.specs.Moves.{rest_of, moved, RefusesTell, Refuses, is_telling};
 
 use crate::places::thread_place;
-use oz_base::{Copies, Sequence, Stack};
+use oz_base::{Copies, Ident, Sequence, Stack};
 use oz_semantics::{Code, Environment, Frame, Layer, Raise, Tell, Thread};
 use oz_store::Seen;
 use std::alloc::{AllocError, Global};
@@ -34,6 +34,14 @@ pub enum Move {
         body: Sequence<u32>,
     },
     Fails(Raise),
+}
+
+/// What a thread's statement is to do.
+#[derive(Drop)]
+pub enum Plan {
+    Moves(Move),
+    /// Shows the term of a variable.
+    Shows(Ident),
 }
 
 /// Whether a tell is inconsistent with what a space sees. It is added to that.

@@ -4,41 +4,19 @@ ghost use Rattle.oz_semantics.specs.Names.{named};
 ghost use Rattle.oz_semantics.specs.Store.{value_of};
 ghost use Rattle.oz_semantics.specs.Configurations.{bound, bindings, fresh_variables};
 ghost use Rattle.oz_semantics.specs.Statements.{Place, statement_effect, call_effect, code_effect};
-ghost use Rattle.oz_machine.specs.Moves.{effect_of, IsPlaceIn};
+ghost use Rattle.oz_machine.specs.Moves.{planned, IsPlaceIn};
 
-use crate::environments::{bound, extended, nowhere};
-use crate::moves::Move;
+use crate::branches::{plan_case, plan_if};
+use crate::calls::{plan_applied, plan_call};
+use crate::environments::{all_bound, bound_copy, extended};
+use crate::moves::{Move, Plan};
 use oz_base::{Copies, Ident, Sequence};
 use oz_semantics::{
-    Code, Constant, Environment, Frame, Layer, Literal, Name, Procedure, Raise, Statement, Tell,
-    Tuple, Value,
+    Code, Constant, Environment, Frame, Layer, Literal, Name, Procedure, Raise, Record, Statement,
+    Tell, Value,
 };
 use oz_store::Seen;
 use std::alloc::{AllocError, Global};
-use std::slice;
-
-/// The variable of an identifier.
-fn bound_copy(alloc: Global, environment: &Environment, name: Name) -> Result<Ident, AllocError>
-    ensures { IfOk result (λ variable. variable ≡ bound environment.now name) }
-{
-    let absent = nowhere(alloc);
-    bound(environment.get(), name, &absent).copied(alloc)
-}
-
-/// The variables of identifiers.
-fn all_bound(
-    alloc: Global,
-    environment: &Environment,
-    names: &[Name],
-) -> Result<Vec<Ident>, AllocError>
-    ensures { IfOk result (λ variables. variables.items ≡ map (bound environment.now) names.now) }
-{
-    let mut variables = Vec::new(alloc);
-    for name in names {
-        variables.push(bound_copy(alloc, environment, *name)?)?;
-    }
-    Ok(variables)
-}
 
 /// The next variables that a layer gives out.
 fn fresh_variables(alloc: Global, layer: &Layer, count: u32) -> Result<Vec<Ident>, AllocError>
@@ -69,8 +47,8 @@ fn plan_local(
     environment: &Environment,
     names: &Sequence<Name>,
     body: &Sequence<u32>,
-) -> Result<Move, AllocError>
-    ensures { IfOk result (λ plan. plan ≡ Move.Opens (length names.now) (bindings names.now (fresh_variables layer.now (length names.now)) ++ environment.now) body.now) }
+) -> Result<Plan, AllocError>
+    ensures { IfOk result (λ plan. plan ≡ Plan.Moves (Move.Opens (length names.now) (bindings names.now (fresh_variables layer.now (length names.now)) ++ environment.now) body.now)) }
 {
     let fresh = counted(names)?;
     let variables = fresh_variables(alloc, layer, fresh)?;
@@ -81,11 +59,11 @@ fn plan_local(
         variables.as_slice(),
     )?;
     let body = body.copied(alloc)?;
-    Ok(Move::Opens {
+    Ok(Plan::Moves(Move::Opens {
         fresh,
         environment,
         body,
-    })
+    }))
 }
 
 /// `X=Y`.
@@ -94,13 +72,13 @@ fn plan_equate(
     environment: &Environment,
     left: Name,
     right: Name,
-) -> Result<Move, AllocError>
-    ensures { IfOk result (λ plan. plan ≡ Move.Tells (Tell.Equal (bound environment.now left) (bound environment.now right))) }
+) -> Result<Plan, AllocError>
+    ensures { IfOk result (λ plan. plan ≡ Plan.Moves (Move.Tells (Tell.Equal (bound environment.now left) (bound environment.now right)))) }
 {
-    Ok(Move::Tells(Tell::Equal {
+    Ok(Plan::Moves(Move::Tells(Tell::Equal {
         left: bound_copy(alloc, environment, left)?,
         right: bound_copy(alloc, environment, right)?,
-    }))
+    })))
 }
 
 /// `X=v`.
@@ -109,33 +87,36 @@ fn plan_bind(
     environment: &Environment,
     name: Name,
     constant: Constant,
-) -> Result<Move, AllocError>
-    ensures { IfOk result (λ plan. plan ≡ Move.Tells (Tell.Is (bound environment.now name) (Value.Constant constant))) }
+) -> Result<Plan, AllocError>
+    ensures { IfOk result (λ plan. plan ≡ Plan.Moves (Move.Tells (Tell.Is (bound environment.now name) (Value.Constant constant)))) }
 {
-    Ok(Move::Tells(Tell::Is {
+    Ok(Plan::Moves(Move::Tells(Tell::Is {
         variable: bound_copy(alloc, environment, name)?,
         value: Value::Constant(constant),
-    }))
+    })))
 }
 
-/// `X=l(Y ..)`.
-fn plan_tuple(
+/// `X=l(F:Y ..)`.
+fn plan_record(
     alloc: Global,
     environment: &Environment,
     name: Name,
     label: Literal,
+    features: &Sequence<Constant>,
     fields: &Sequence<Name>,
-) -> Result<Move, AllocError>
+) -> Result<Plan, AllocError>
     ensures { IfOk result (λ plan. plan
-        ≡ Move.Tells (Tell.Is (bound environment.now name) (Value.Tuple (record { label = label; fields = map (bound environment.now) fields.now })))) }
+        ≡ Plan.Moves (Move.Tells (Tell.Is (bound environment.now name) (Value.Record (record { label = label; features = features.now; fields = map (bound environment.now) fields.now }))))) }
 {
     let variable = bound_copy(alloc, environment, name)?;
-    let fields = all_bound(alloc, environment, fields.as_slice())?;
-    let fields = Sequence::from_vec(fields);
-    Ok(Move::Tells(Tell::Is {
-        variable,
-        value: Value::Tuple(Tuple { label, fields }),
-    }))
+    let features = features.copied(alloc)?;
+    let fields = Sequence::from_vec(all_bound(alloc, environment, fields.as_slice())?);
+    let value = Value::Record(Record {
+        label,
+        features,
+        fields,
+    });
+    Ok(Plan::Moves(Move::Tells(Tell::Is { variable, value })))
 }
 
 /// The procedure value that a statement makes in a layer.
@@ -172,76 +153,20 @@ fn plan_procedure(
     name: Name,
     parameters: &Sequence<Name>,
     body: &Sequence<u32>,
-) -> Result<Move, AllocError>
-    ensures { IfOk result (λ plan. plan ≡ Move.Makes (Tell.Is (bound environment.now name) (Value.Procedure (record {
+) -> Result<Plan, AllocError>
+    ensures { IfOk result (λ plan. plan ≡ Plan.Moves (Move.Makes (Tell.Is (bound environment.now name) (Value.Procedure (record {
       name = named layer.now.space layer.now.next.procedure;
       parameters = parameters.now;
       body = body.now;
       environment = environment.now;
-    })))) }
+    }))))) }
 {
     let variable = bound_copy(alloc, environment, name)?;
     let procedure = make_procedure(alloc, layer, environment, parameters, body)?;
-    Ok(Move::Makes(Tell::Is {
+    Ok(Plan::Moves(Move::Makes(Tell::Is {
         variable,
         value: Value::Procedure(procedure),
-    }))
-}
-
-/// Goes on with the body of a procedure, whose parameters stand for the arguments.
-fn enter(alloc: Global, procedure: &Procedure, arguments: &[Ident]) -> Result<Move, AllocError>
-    requires { length arguments.now ≡ length procedure.now.parameters }
-    ensures { IfOk result (λ plan. plan ≡ Move.Enters (bindings procedure.now.parameters arguments.now ++ procedure.now.environment) procedure.now.body) }
-{
-    let environment = extended(
-        alloc,
-        procedure.environment.get(),
-        procedure.parameters.as_slice(),
-        arguments,
-    )?;
-    let body = procedure.body.copied(alloc)?;
-    Ok(Move::Enters { environment, body })
-}
-
-fn plan_body(alloc: Global, procedure: &Procedure, arguments: &[Ident]) -> Result<Move, AllocError>
-    ensures { IfOk result (λ plan. (p : Place) → call_effect p (Some (Value.Procedure procedure.now)) arguments.now ≡ effect_of p plan) }
-{
-    if arguments.len() != procedure.parameters.len() {
-        return Ok(Move::Fails(Raise::Arity));
-    }
-    enter(alloc, procedure, arguments)
-}
-
-/// The call of what has this value.
-fn plan_apply(
-    alloc: Global,
-    procedure: Option<&Value>,
-    arguments: &[Ident],
-) -> Result<Move, AllocError>
-    ensures { IfOk result (λ plan. (p : Place) → call_effect p (option_copied procedure.entry) arguments.now ≡ effect_of p plan) }
-{
-    match procedure {
-        None => Ok(Move::Stays),
-        Some(Value::Constant(_)) => Ok(Move::Fails(Raise::Apply)),
-        Some(Value::Tuple(_)) => Ok(Move::Fails(Raise::Apply)),
-        Some(Value::Procedure(procedure)) => plan_body(alloc, procedure, arguments),
-    }
-}
-
-/// `{P X ..}`.
-fn plan_call(
-    alloc: Global,
-    seen: &Seen,
-    environment: &Environment,
-    procedure: Name,
-    arguments: &Sequence<Name>,
-) -> Result<Move, AllocError>
-    ensures { IfOk result (λ plan. (p : Place) → p.view ≡ seen.now → statement_effect p environment.now (Some (Statement.Call procedure arguments.now)) ≡ effect_of p plan) }
-{
-    let arguments = all_bound(alloc, environment, arguments.as_slice())?;
-    let absent = nowhere(alloc);
-    let value = seen.value(bound(environment.get(), procedure, &absent));
-    plan_apply(alloc, value, arguments.as_slice())
+    })))
 }
 
 fn plan_statement(
@@ -250,20 +175,22 @@ fn plan_statement(
     layer: &Layer,
     environment: &Environment,
     statement: &Statement,
-) -> Result<Move, AllocError>
-    ensures { IfOk result (λ plan. (p : Place) → IsPlaceIn seen.now layer.now p → statement_effect p environment.now (Some statement.now) ≡ effect_of p plan) }
+) -> Result<Plan, AllocError>
+    ensures { IfOk result (λ plan. (p : Place) → IsPlaceIn seen.now layer.now p → statement_effect p environment.now (Some statement.now) ≡ planned p plan) }
 {
     match statement {
-        Statement::Skip | Statement::Choice { .. } => Ok(Move::Stays),
-        Statement::Fail => Ok(Move::Fails(Raise::FailureFail)),
+        Statement::Skip | Statement::Choice { .. } => Ok(Plan::Moves(Move::Stays)),
+        Statement::Fail => Ok(Plan::Moves(Move::Fails(Raise::FailureFail))),
+        Statement::NoMatch => Ok(Plan::Moves(Move::Fails(Raise::NoElse))),
         Statement::Local { names, body } => { plan_local(alloc, layer, environment, names, body) }
         Statement::Equate { left, right } => { plan_equate(alloc, environment, *left, *right) }
         Statement::Bind { name, value } => plan_bind(alloc, environment, *name, *value),
-        Statement::BindTuple {
+        Statement::BindRecord {
             name,
             label,
+            features,
             fields,
-        } => plan_tuple(alloc, environment, *name, *label, fields),
+        } => plan_record(alloc, environment, *name, *label, features, fields),
         Statement::BindProcedure {
             name,
             parameters,
@@ -272,7 +199,26 @@ fn plan_statement(
         Statement::Call {
             procedure,
             arguments,
-        } => plan_call(alloc, seen, environment, *procedure, arguments),
+        } => plan_call(alloc, seen, layer, environment, *procedure, arguments),
+        Statement::If {
+            condition,
+            accepted,
+            otherwise,
+        } => plan_if(alloc, seen, environment, *condition, accepted, otherwise),
+        Statement::Case {
+            subject,
+            pattern,
+            accepted,
+            otherwise,
+        } => plan_case(
+            alloc,
+            seen,
+            environment,
+            *subject,
+            pattern,
+            accepted,
+            otherwise,
+        ),
     }
 }
 
@@ -283,25 +229,13 @@ fn plan_numbered(
     layer: &Layer,
     environment: &Environment,
     statement: Option<&Statement>,
-) -> Result<Move, AllocError>
-    ensures { IfOk result (λ plan. (p : Place) → IsPlaceIn seen.now layer.now p → statement_effect p environment.now (option_copied statement.entry) ≡ effect_of p plan) }
+) -> Result<Plan, AllocError>
+    ensures { IfOk result (λ plan. (p : Place) → IsPlaceIn seen.now layer.now p → statement_effect p environment.now (option_copied statement.entry) ≡ planned p plan) }
 {
     match statement {
-        None => Ok(Move::Stays),
+        None => Ok(Plan::Moves(Move::Stays)),
         Some(statement) => plan_statement(alloc, seen, layer, environment, statement),
     }
-}
-
-/// The call that the machine itself put on a stack, of a procedure with one argument.
-fn plan_applied(
-    alloc: Global,
-    seen: &Seen,
-    procedure: &Ident,
-    argument: &Ident,
-) -> Result<Move, AllocError>
-    ensures { IfOk result (λ plan. (p : Place) → p.view ≡ seen.now → call_effect p (value_of p.view procedure.now) (argument.now ∷ []) ≡ effect_of p plan) }
-{
-    plan_apply(alloc, seen.value(procedure), slice::from_ref(argument))
 }
 
 /// What the statement of a frame does in a layer, of what its space sees.
@@ -311,8 +245,8 @@ pub fn plan(
     seen: &Seen,
     layer: &Layer,
     frame: &Frame,
-) -> Result<Move, AllocError>
-    ensures { IfOk result (λ plan. (p : Place) → IsPlaceIn seen.now layer.now p → code_effect statements.now p frame.now frame.now.code ≡ effect_of p plan) }
+) -> Result<Plan, AllocError>
+    ensures { IfOk result (λ plan. (p : Place) → IsPlaceIn seen.now layer.now p → code_effect statements.now p frame.now frame.now.code ≡ planned p plan) }
 {
     match &frame.code {
         Code::Statement(number) => plan_numbered(
@@ -325,6 +259,6 @@ pub fn plan(
         Code::Apply {
             procedure,
             argument,
-        } => plan_applied(alloc, seen, procedure, argument),
+        } => plan_applied(alloc, seen, layer, procedure, argument),
     }
 }

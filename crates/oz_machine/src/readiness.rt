@@ -1,14 +1,16 @@
 //! What threads can do where they stand: step, wait for a variable, or offer alternatives.
-ghost use Rattle.std.specs.Prelude.{◌≡◌, List, [], option_copied};
+ghost use Rattle.std.specs.Prelude.{◌≡◌, ◌∷◌, List, [], option_copied};
 ghost use Rattle.std.specs.List.{list_any};
 ghost use Rattle.oz_semantics.specs.Store.{same, is_determined};
 ghost use Rattle.oz_semantics.specs.Configurations.{bound};
-ghost use Rattle.oz_semantics.specs.Statements.{awaits, statement_ready, code_ready, top_ready, thread_ready, steps, waits_of, offer_of};
+ghost use Rattle.oz_semantics.specs.Matching.{matched};
+ghost use Rattle.oz_semantics.specs.Statements.{awaits, match_ready, statement_ready, code_ready, top_ready, thread_ready, steps, waits_of, offer_of};
 ghost use Rattle.oz_semantics.specs.Spaces.{is_held};
 
 use crate::environments::{bound, nowhere};
+use matching::{Verdict, decide};
 use oz_base::{Ident, Stack};
-use oz_semantics::{Binding, Code, Frame, Name, Statement, Thread};
+use oz_semantics::{Binding, Code, Frame, Name, Piece, Statement, Thread};
 use oz_store::Seen;
 use std::alloc::Global;
 
@@ -18,6 +20,24 @@ fn is_bound_determined(alloc: Global, seen: &Seen, environment: &Stack<Binding>,
 {
     let absent = nowhere(alloc);
     seen.is_determined(bound(environment, name, &absent))
+}
+
+/// Whether a match against an identifier's variable is decided.
+fn is_match_decided(
+    alloc: Global,
+    seen: &Seen,
+    environment: &Stack<Binding>,
+    subject: Name,
+    pattern: &[Piece],
+) -> bool
+    ensures { result ≡ steps (match_ready (matched seen.now pattern.now (bound environment.now subject ∷ []) environment.now)) }
+{
+    let absent = nowhere(alloc);
+    match decide(seen, pattern, bound(environment, subject, &absent)) {
+        Verdict::Matches => true,
+        Verdict::Differs => true,
+        Verdict::Waits(_) => false,
+    }
 }
 
 #[tactic(auto, using(crate::proofs::Readies::steps_determined))]
@@ -34,6 +54,16 @@ fn statement_steps(
         Some(Statement::Call { procedure, .. }) => {
             is_bound_determined(alloc, seen, environment, *procedure)
         }
+        Some(Statement::If { condition, .. }) => {
+            is_bound_determined(alloc, seen, environment, *condition)
+        }
+        Some(
+            Statement::Case {
+                subject,
+                pattern,
+                ..
+            },
+        ) => is_match_decided(alloc, seen, environment, *subject, pattern.as_slice()),
         Some(_) => true,
     }
 }
@@ -102,6 +132,25 @@ fn bound_awaits(
     awaits_held(seen, held, bound(environment, name, &absent))
 }
 
+/// Whether a match against an identifier's variable waits for one of these variables.
+fn match_waits(
+    alloc: Global,
+    seen: &Seen,
+    held: &[Ident],
+    environment: &Stack<Binding>,
+    subject: Name,
+    pattern: &[Piece],
+) -> bool
+    ensures { result ≡ list_any (is_held seen.now held.now) (waits_of (match_ready (matched seen.now pattern.now (bound environment.now subject ∷ []) environment.now))) }
+{
+    let absent = nowhere(alloc);
+    match decide(seen, pattern, bound(environment, subject, &absent)) {
+        Verdict::Matches => false,
+        Verdict::Differs => false,
+        Verdict::Waits(variable) => is_held(seen, held, variable),
+    }
+}
+
 fn statement_waits(
     alloc: Global,
     seen: &Seen,
@@ -115,6 +164,16 @@ fn statement_waits(
         Some(Statement::Call { procedure, .. }) => {
             bound_awaits(alloc, seen, held, environment, *procedure)
         }
+        Some(Statement::If { condition, .. }) => {
+            bound_awaits(alloc, seen, held, environment, *condition)
+        }
+        Some(
+            Statement::Case {
+                subject,
+                pattern,
+                ..
+            },
+        ) => match_waits(alloc, seen, held, environment, *subject, pattern.as_slice()),
         _ => false,
     }
 }
@@ -168,11 +227,13 @@ pub fn thread_waits(
     top_waits(alloc, statements, seen, held, thread.frames.top())
 }
 
+#[tactic(auto, using(crate::proofs::Readies::match_offers))]
 fn statement_offer(statement: Option<&Statement>) -> Option<u64>
     ensures { (environment : List Binding) → result ≡ offer_of (statement_ready [] environment (option_copied statement.entry)) }
 {
     match statement {
         Some(Statement::Choice { alternatives }) => Some(alternatives.len() as u64),
+        Some(Statement::Case { .. }) => None,
         _ => None,
     }
 }

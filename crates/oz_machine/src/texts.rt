@@ -44,6 +44,9 @@ fn raise_text(alloc: Global, raise: Raise) -> Result<Text, AllocError>
         Raise::FailureTop => make_text(alloc, b"failure(top)", 2),
         Raise::Apply => make_text(alloc, b"error(kernel(apply))", 3),
         Raise::Arity => make_text(alloc, b"error(kernel(arity))", 3),
+        Raise::Boolean => make_text(alloc, b"error(kernel(boolean))", 3),
+        Raise::NoElse => make_text(alloc, b"error(kernel(noElse))", 3),
+        Raise::GlobalIo => make_text(alloc, b"error(kernel(globalState io))", 4),
     }
 }
 

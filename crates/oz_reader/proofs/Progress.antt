@@ -1,5 +1,5 @@
 -- What is known of the tokens that were taken so far.
-use Rattle.std.proofs.Common.{◌≡◌, ◌≤◌, ◌<◌, ◌+◌, ◌||◌, ℕ, zero, suc, Bool, true, false, nat_lt, List, [], ◌∷◌, ◌++◌, length, take, drop, map, fold, Option, Some, None, Result, Ok, Err, IfErr, slice_get, refl, sym, ap, ◌∙◌, subst, arith}
+use Rattle.std.proofs.Common.{◌≡◌, ◌≤◌, ◌<◌, ◌+◌, ◌||◌, if◌then◌else◌, ℕ, zero, suc, Bool, true, false, nat_lt, List, [], ◌∷◌, ◌++◌, length, take, drop, map, fold, Option, Some, None, Result, Ok, Err, IfErr, slice_get, refl, sym, ap, ◌∙◌, subst, arith}
 use Rattle.std.specs.Result.{IsErr, IsErrAnd}
 use Rattle.std.proofs.lemmas.Bool.Decides.{nat_tests}
 use Rattle.std.proofs.lemmas.List.{take-append-drop, take_all, take_more, take-map, length-map, map-append, length-drop}
@@ -8,13 +8,12 @@ use Rattle.std.proofs.lemmas.Option.{slice_get_within, get_or_from_slice_get}
 use Rattle.oz_semantics.specs.Tokens.{Lexes, Ending, Whole, at_end, at_bad, at_fraction, gap, token, IsLongest, gap_length}
 use Rattle.oz_semantics.specs.Wording.{first_words, joining, words_of, token_in, tokens_in}
 use Rattle.oz_semantics.specs.Grammar.{Phrase, Derives}
-use Rattle.oz_semantics.specs.Refusals.{depth_limit, depth_with, too_deep, Program, IsFineBefore, DeepAt, SyntaxAt, EndsEarly, IsRefused, faults, first_scope, bad_byte, deep, syntax, ends_early, faulty}
+use Rattle.oz_semantics.specs.Refusals.{Open, depth_limit, open_with, depth_of, too_deep, first_of, sooner, comes_before, Program, Accepts, IsFineBefore, DeepAt, SyntaxAt, EndsEarly, IsRefused, faults, first_scope, bad_byte, deep, syntax, ends_early, faulty}
 use Rattle.oz_semantics.specs.declared.token.Lexeme.{Lexeme}
 use Rattle.oz_semantics.specs.declared.token.Sort.{Sort}
 use Rattle.oz_semantics.specs.declared.token.Token.{Token}
 use Rattle.oz_semantics.specs.declared.outcome.RefusalKind.TheVariants as kind
 use Rattle.oz_semantics.specs.declared.outcome.Fault.{Fault}
-use Rattle.oz_base.specs.Lists.{first}
 use Rattle.oz_lex.specs.declared.lexer.LexError.{LexError}
 use Rattle.oz_lex.specs.declared.lexer.LexError.TheVariants as lex
 use Rattle.oz_lex.specs.Lexing.{IsBad, IsLexeme}
@@ -25,10 +24,7 @@ use Rattle.oz_reader.specs.Reading.{Faults, IsRead, error_of, StepsAt, GivesAt}
 use Rattle.reader_law.specs.Machine.{Stack, bind, run, step, start, finish, parse}
 use Rattle.reader_law.specs.Laws.{ParsesLaw, BeginsLaw}
 
-is_below : (a b : ℕ) → a < b → nat_lt a b ≡ true
-is_below a b h = grind (arith, nat_tests, h)
-
-is_within : (a b : ℕ) → b ≤ a → nat_lt a b ≡ false
+pub is_within : (a b : ℕ) → nat_lt a b ≡ false → b ≤ a
 is_within a b h = grind (arith, nat_tests, h)
 
 token_count : (text : List ℕ) (ls : List Lexeme) → length (tokens_in text ls) ≡ length ls
@@ -40,36 +36,40 @@ pub run_more : (o : Option Stack) (ts : List Token) (t : Token) → run o (ts ++
 run_more o [] t = refl
 run_more o (s ∷ ts) t = run_more (bind o (step s)) ts t
 
-pub deep_more : (d : ℕ) (ts : List Token) (t : Token) → too_deep d ts ≡ false → too_deep d (ts ++ t ∷ []) ≡ nat_lt depth_limit (depth_with (fold depth_with d ts) t)
-deep_more d [] t h = by (nat_lt depth_limit (depth_with d t))
+-- these constructs are open
+abbrev pub depth_after : List Open → Token → ℕ
+depth_after os t = depth_of (open_with os t)
+
+pub deep_more : (os : List Open) (ts : List Token) (t : Token) → too_deep os ts ≡ false → too_deep os (ts ++ t ∷ []) ≡ nat_lt depth_limit (depth_after (fold open_with os ts) t)
+deep_more os [] t h = by (nat_lt depth_limit (depth_after os t))
   where
     by : (b : Bool) → (b || false) ≡ b
     by true = refl
     by false = refl
-deep_more d (s ∷ ts) t h = by (nat_lt depth_limit (depth_with d s)) (deep_more (depth_with d s) ts t) h
+deep_more os (s ∷ ts) t h = by (nat_lt depth_limit (depth_after os s)) (deep_more (open_with os s) ts t) h
   where
-    by : (b : Bool) → (too_deep (depth_with d s) ts ≡ false → too_deep (depth_with d s) (ts ++ t ∷ []) ≡ nat_lt depth_limit (depth_with (fold depth_with (depth_with d s) ts) t))
-        → (b || too_deep (depth_with d s) ts) ≡ false → (b || too_deep (depth_with d s) (ts ++ t ∷ [])) ≡ nat_lt depth_limit (depth_with (fold depth_with (depth_with d s) ts) t)
+    by : (b : Bool) → (too_deep (open_with os s) ts ≡ false → too_deep (open_with os s) (ts ++ t ∷ []) ≡ nat_lt depth_limit (depth_after (fold open_with (open_with os s) ts) t))
+        → (b || too_deep (open_with os s) ts) ≡ false → (b || too_deep (open_with os s) (ts ++ t ∷ [])) ≡ nat_lt depth_limit (depth_after (fold open_with (open_with os s) ts) t)
     by true rest k = let e : true ≡ false = k in absurd (cc)
     by false rest k = rest k
 
--- the machine went through these tokens to this stack and this depth
-pub record Goes (ts : List Token) (d : ℕ) (k : Stack) : Type 0 where
+-- the machine went through these tokens to this stack, with these constructs open
+pub record Goes (ts : List Token) (os : List Open) (k : Stack) : Type 0 where
   pub ran : run (Some start) ts ≡ Some k
-  pub depth : fold depth_with 0 ts ≡ d
-  pub shallow : too_deep 0 ts ≡ false
+  pub depth : fold open_with [] ts ≡ os
+  pub shallow : too_deep [] ts ≡ false
 
-pub goes_start : Goes [] 0 start
+pub goes_start : Goes [] [] start
 goes_start = record { ran = refl; depth = refl; shallow = refl }
 
-with_depth : (ts : List Token) (d : ℕ) (k : Stack) (t : Token) → Goes ts d k → too_deep 0 (ts ++ t ∷ []) ≡ nat_lt depth_limit (depth_with d t)
-with_depth ts d k t g = deep_more 0 ts t g.shallow ∙ ap (λ (e : ℕ). nat_lt depth_limit (depth_with e t)) g.depth
+with_depth : (ts : List Token) (os : List Open) (k : Stack) (t : Token) → Goes ts os k → too_deep [] (ts ++ t ∷ []) ≡ nat_lt depth_limit (depth_after os t)
+with_depth ts os k t g = deep_more [] ts t g.shallow ∙ ap (λ (is : List Open). nat_lt depth_limit (depth_after is t)) g.depth
 
-pub goes_more : (ts : List Token) (d : ℕ) (k j : Stack) (t : Token) → Goes ts d k → nat_lt depth_limit (depth_with d t) ≡ false → step t k ≡ Some j → Goes (ts ++ t ∷ []) (depth_with d t) j
-goes_more ts d k j t g h s = record {
+pub goes_more : (ts : List Token) (os : List Open) (k j : Stack) (t : Token) → Goes ts os k → nat_lt depth_limit (depth_after os t) ≡ false → step t k ≡ Some j → Goes (ts ++ t ∷ []) (open_with os t) j
+goes_more ts os k j t g h s = record {
   ran = run_more (Some start) ts t ∙ (ap (λ (o : Option Stack). bind o (step t)) g.ran ∙ s);
-  depth = fold-append depth_with 0 ts (t ∷ []) ∙ ap (λ (e : ℕ). depth_with e t) g.depth;
-  shallow = with_depth ts d k t g ∙ h;
+  depth = fold-append open_with [] ts (t ∷ []) ∙ ap (λ (is : List Open). open_with is t) g.depth;
+  shallow = with_depth ts os k t g ∙ h;
 }
 
 -- ---- tokens of a text
@@ -134,38 +134,38 @@ lexemes_are text at ls e (suc n) l (token {at = a} {n = m} {sort = s} {ls = ks} 
 
 -- ---- what is said where reading ends
 
-module _ (begins : BeginsLaw) (ts : List Token) (n d : ℕ) (k : Stack) (g : Goes (take n ts) d k) where
+module _ (begins : BeginsLaw) (ts : List Token) (n : ℕ) (os : List Open) (k : Stack) (g : Goes (take n ts) os k) where
   pub fine : IsFineBefore ts n
   fine = record { begun = (begins (take n ts)).1 (k, g.ran); shallow = g.shallow }
 
   module _ (t : Token) (more : take (n + 1) ts ≡ take n ts ++ t ∷ []) where
-    pub deep_at : nat_lt depth_limit (depth_with d t) ≡ true → DeepAt ts n
-    deep_at h = record { before = fine; deep = ap (too_deep 0) more ∙ (with_depth (take n ts) d k t g ∙ h) }
+    pub deep_at : nat_lt depth_limit (depth_after os t) ≡ true → DeepAt ts n
+    deep_at h = record { before = fine; deep = ap (too_deep []) more ∙ (with_depth (take n ts) os k t g ∙ h) }
 
     run_none : step t k ≡ None → run (Some start) (take (n + 1) ts) ≡ None
     run_none s = ap (run (Some start)) more ∙ (run_more (Some start) (take n ts) t ∙ (ap (λ (o : Option Stack). bind o (step t)) g.ran ∙ s))
 
-    pub syntax_at : n < length ts → nat_lt depth_limit (depth_with d t) ≡ false → step t k ≡ None → SyntaxAt ts n
+    pub syntax_at : n < length ts → nat_lt depth_limit (depth_after os t) ≡ false → step t k ≡ None → SyntaxAt ts n
     syntax_at there h s = record {
       before = fine;
       there = there;
-      shallow = ap (too_deep 0) more ∙ (with_depth (take n ts) d k t g ∙ h);
+      shallow = ap (too_deep []) more ∙ (with_depth (take n ts) os k t g ∙ h);
       begun_by_none = λ b. let went = (begins (take (n + 1) ts)).0 b in let e : None ≡ Some went.0 = sym (run_none s) ∙ went.1 in absurd (cc);
     }
 
-module _ (parses : ParsesLaw) (ts : List Token) (n d : ℕ) (k : Stack) (g : Goes (take n ts) d k) (all : length ts ≤ n) where
+module _ (parses : ParsesLaw) (ts : List Token) (n : ℕ) (os : List Open) (k : Stack) (g : Goes (take n ts) os k) (all : length ts ≤ n) where
   parsed : parse ts ≡ finish k
   parsed = ap (λ (us : List Token). bind (run (Some start) us) finish) (sym (take_all n ts all)) ∙ ap (λ (o : Option Stack). bind o finish) g.ran
 
   pub derived_at : (p : Phrase) → finish k ≡ Some p → Derives ts p
   derived_at p h = (parses ts p).1 (parsed ∙ h)
 
-  pub shallow_at : too_deep 0 ts ≡ false
-  shallow_at = ap (too_deep 0) (sym (take_all n ts all)) ∙ g.shallow
+  pub shallow_at : too_deep [] ts ≡ false
+  shallow_at = ap (too_deep []) (sym (take_all n ts all)) ∙ g.shallow
 
   pub ends_at : BeginsLaw → finish k ≡ None → EndsEarly ts
   ends_at begins h = record {
-    before = subst (λ (us : List Token). IsFineBefore ts (length ts)) (take_all n ts all) (fine begins ts (length ts) d k (subst (λ (us : List Token). Goes us d k) (take_all n ts all ∙ sym (take_all (length ts) ts (omega arith))) g));
+    before = subst (λ (us : List Token). IsFineBefore ts (length ts)) (take_all n ts all) (fine begins ts (length ts) os k (subst (λ (us : List Token). Goes us os k) (take_all n ts all ∙ sym (take_all (length ts) ts (omega arith))) g));
     derived_by_none = λ p derived. let e : None ≡ Some p = sym h ∙ (sym parsed ∙ (parses ts p).0 derived) in absurd (cc);
   }
 
@@ -173,36 +173,36 @@ module _ (parses : ParsesLaw) (ts : List Token) (n d : ℕ) (k : Stack) (g : Goe
 
 module _ (begins : BeginsLaw) (text : List ℕ) (ls : List Lexeme) (lexed : Lexes text 0 ls Whole) (n : ℕ) (l : Lexeme) (there : slice_get ls n ≡ Some l)
     (words new : List (List ℕ)) (t : Token) (old : fold (joining text) first_words (take n ls) ≡ words) (joined : new ≡ joining text words l)
-    (told : (more : List Lexeme) → t ≡ token_in (fold (joining text) new more) text l) (d : ℕ) (k : Stack) (g : Goes (take n (tokens_in text ls)) d k) where
+    (told : (more : List Lexeme) → t ≡ token_in (fold (joining text) new more) text l) (os : List Open) (k : Stack) (g : Goes (take n (tokens_in text ls)) os k) where
   more_tokens : take (n + 1) (tokens_in text ls) ≡ take n (tokens_in text ls) ++ t ∷ []
   more_tokens = tokens_next text ls n l t there (token_is text ls n l words new t there old joined told)
 
-  pub deep_refused : depth_limit < depth_with d t → IsRefused text (record { kind = kind.Deep; at = l.at })
-  deep_refused h = deep lexed there (deep_at begins (tokens_in text ls) n d k g t more_tokens (is_below depth_limit (depth_with d t) h))
+  pub deep_refused : nat_lt depth_limit (depth_after os t) ≡ true → IsRefused text (record { kind = kind.Deep; at = l.at })
+  deep_refused h = deep lexed there (deep_at begins (tokens_in text ls) n os k g t more_tokens h)
 
-  pub syntax_refused : depth_with d t ≤ depth_limit → step t k ≡ None → IsRefused text (record { kind = kind.Syntax; at = l.at })
+  pub syntax_refused : nat_lt depth_limit (depth_after os t) ≡ false → step t k ≡ None → IsRefused text (record { kind = kind.Syntax; at = l.at })
   syntax_refused h s =
       let within = slice_get_within ls n l there in
       let count = token_count text ls in
-      syntax lexed there (syntax_at begins (tokens_in text ls) n d k g t more_tokens (omega (arith, within, count)) (is_within depth_limit (depth_with d t) h) s)
+      syntax lexed there (syntax_at begins (tokens_in text ls) n os k g t more_tokens (omega (arith, within, count)) h s)
 
-  pub went : (j : Stack) → depth_with d t ≤ depth_limit → step t k ≡ Some j → Goes (take (n + 1) (tokens_in text ls)) (depth_with d t) j
-  went j h s = subst (λ (ts : List Token). Goes ts (depth_with d t) j) (sym more_tokens) (goes_more (take n (tokens_in text ls)) d k j t g (is_within depth_limit (depth_with d t) h) s)
+  pub went : (j : Stack) → nat_lt depth_limit (depth_after os t) ≡ false → step t k ≡ Some j → Goes (take (n + 1) (tokens_in text ls)) (open_with os t) j
+  went j h s = subst (λ (ts : List Token). Goes ts (open_with os t) j) (sym more_tokens) (goes_more (take n (tokens_in text ls)) os k j t g h s)
 
 -- the whole text is read
-module _ (begins : BeginsLaw) (parses : ParsesLaw) (text : List ℕ) (ls : List Lexeme) (lexed : Lexes text 0 ls Whole) (n d : ℕ) (k : Stack)
-    (g : Goes (take n (tokens_in text ls)) d k) (all : length ls ≤ n) where
+module _ (begins : BeginsLaw) (parses : ParsesLaw) (text : List ℕ) (ls : List Lexeme) (lexed : Lexes text 0 ls Whole) (n : ℕ) (os : List Open) (k : Stack)
+    (g : Goes (take n (tokens_in text ls)) os k) (all : length ls ≤ n) where
   all_tokens : length (tokens_in text ls) ≤ n
   all_tokens = let count = token_count text ls in omega (arith, all, count)
 
   pub end_refused : finish k ≡ None → IsRefused text (record { kind = kind.Syntax; at = length text })
-  end_refused h = ends_early lexed (ends_at parses (tokens_in text ls) n d k g all_tokens begins h)
+  end_refused h = ends_early lexed (ends_at parses (tokens_in text ls) n os k g all_tokens begins h)
 
   pub all_derived : (p : Phrase) → finish k ≡ Some p → Derives (tokens_in text ls) p
-  all_derived p h = derived_at parses (tokens_in text ls) n d k g all_tokens p h
+  all_derived p h = derived_at parses (tokens_in text ls) n os k g all_tokens p h
 
-  pub all_shallow : too_deep 0 (tokens_in text ls) ≡ false
-  all_shallow = shallow_at parses (tokens_in text ls) n d k g all_tokens
+  pub all_shallow : too_deep [] (tokens_in text ls) ≡ false
+  all_shallow = shallow_at parses (tokens_in text ls) n os k g all_tokens
 
 -- ---- refusals of steps
 
@@ -226,11 +226,28 @@ lex_refused text (lex.BadByte at) h = bad_byte h.1
 
 -- ---- the names of what was read
 
-first_is : (fs : List Fault) (f : Fault) → first fs ≡ Some f → (others : List Fault) × (fs ≡ f ∷ others)
-first_is [] f h = absurd (cc)
-first_is (g ∷ fs) f h = (fs, cc)
+pub names_refused : (text : List ℕ) (ls : List Lexeme) (p : Program) (f : Fault) → Lexes text 0 ls Whole → IsRead text ls p → first_of (faults first_scope p.phrase) ≡ Some f → IsRefused text f
+names_refused text ls p f lexed read h = faulty lexed (record { program = p.phrase; derived = read.derived; shallow = read.shallow; first = h })
 
-pub names_refused : (text : List ℕ) (ls : List Lexeme) (p : Program) (f : Fault) → Lexes text 0 ls Whole → IsRead text ls p → first (faults first_scope p.phrase) ≡ Some f → IsRefused text f
-names_refused text ls p f lexed read h =
-    let more = first_is (faults first_scope p.phrase) f h in
-    faulty lexed (record { program = p.phrase; derived = read.derived; shallow = read.shallow; others = more.0; first = more.1 })
+sooner_some : (f : Fault) (o : Option Fault) → sooner f o ≡ None → ⊥
+sooner_some f None h = let e : Some f ≡ None = h in absurd (cc)
+sooner_some f (Some g) h = by (comes_before g f) h
+  where
+    by : (b : Bool) → (if b then Some g else Some f) ≡ None → ⊥
+    by true k = let e : Some g ≡ None = k in absurd (cc)
+    by false k = let e : Some f ≡ None = k in absurd (cc)
+
+-- where no fault decides there is none
+first_none : (fs : List Fault) → first_of fs ≡ None → fs ≡ []
+first_none [] h = refl
+first_none (f ∷ fs) h = absurd (sooner_some f (first_of fs) h)
+
+pub names_accepted : (text : List ℕ) (ls : List Lexeme) (p : Program) → Lexes text 0 ls Whole → IsRead text ls p → first_of (faults first_scope p.phrase) ≡ None → Accepts text p
+names_accepted text ls p lexed read h = record {
+  lexemes = ls;
+  lexed = lexed;
+  words = read.words;
+  derived = read.derived;
+  shallow = read.shallow;
+  in_scope = first_none (faults first_scope p.phrase) h;
+}

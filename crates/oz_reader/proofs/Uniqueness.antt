@@ -1,11 +1,11 @@
 -- A text is accepted as one program, or refused with one fault.
-use Rattle.std.proofs.Common.{◌≡◌, ◌≤◌, ◌<◌, ◌+◌, ◌||◌, ℕ, Bool, true, false, nat_lt, List, [], ◌∷◌, ◌++◌, length, take, drop, Some, slice_get, refl, sym, ap, ◌∙◌, subst, arith}
+use Rattle.std.proofs.Common.{◌≡◌, ◌≤◌, ◌<◌, ◌+◌, ◌||◌, ℕ, Bool, true, false, nat_lt, List, [], ◌∷◌, ◌++◌, length, take, drop, None, Some, slice_get, refl, sym, ap, ◌∙◌, subst, arith}
 use Rattle.std.proofs.lemmas.List.{take-take, take-append-drop, take_all, append_assoc, append-nil, length-map}
 use Rattle.std.proofs.lemmas.Option.{slice_get_within}
 use Rattle.oz_semantics.specs.Tokens.{Lexes, Whole, Bad}
 use Rattle.oz_semantics.specs.Wording.{words_of, token_in, tokens_in}
 use Rattle.oz_semantics.specs.Grammar.{Phrase, Derives, Begins}
-use Rattle.oz_semantics.specs.Refusals.{depth_limit, depth_with, too_deep, faults, first_scope, Program, Accepts, IsFineBefore, DeepAt, SyntaxAt, EndsEarly, FaultyAt, IsRefused, bad_byte, deep, syntax, ends_early, faulty}
+use Rattle.oz_semantics.specs.Refusals.{Open, depth_limit, open_with, depth_of, too_deep, faults, first_scope, first_of, Program, Accepts, IsFineBefore, DeepAt, SyntaxAt, EndsEarly, FaultyAt, IsRefused, bad_byte, deep, syntax, ends_early, faulty}
 use Rattle.oz_semantics.specs.declared.token.Lexeme.{Lexeme}
 use Rattle.oz_semantics.specs.declared.token.Token.{Token}
 use Rattle.oz_semantics.specs.declared.outcome.RefusalKind.{RefusalKind}
@@ -26,12 +26,12 @@ begins_front xs ys b = record {
   derived = subst (λ ts. Derives ts b.program) (append_assoc xs ys b.rest) b.derived;
 }
 
-shallow_front : (d : ℕ) (xs ys : List Token) → too_deep d (xs ++ ys) ≡ false → too_deep d xs ≡ false
-shallow_front d [] ys h = refl
-shallow_front d (t ∷ xs) ys h = by (nat_lt depth_limit (depth_with d t)) (shallow_front (depth_with d t) xs ys) h
+shallow_front : (os : List Open) (xs ys : List Token) → too_deep os (xs ++ ys) ≡ false → too_deep os xs ≡ false
+shallow_front os [] ys h = refl
+shallow_front os (t ∷ xs) ys h = by (nat_lt depth_limit (depth_of (open_with os t))) (shallow_front (open_with os t) xs ys) h
   where
-    by : (b : Bool) → (too_deep (depth_with d t) (xs ++ ys) ≡ false → too_deep (depth_with d t) xs ≡ false)
-        → (b || too_deep (depth_with d t) (xs ++ ys)) ≡ false → (b || too_deep (depth_with d t) xs) ≡ false
+    by : (b : Bool) → (too_deep (open_with os t) (xs ++ ys) ≡ false → too_deep (open_with os t) xs ≡ false)
+        → (b || too_deep (open_with os t) (xs ++ ys)) ≡ false → (b || too_deep (open_with os t) xs) ≡ false
     by true rest h = h
     by false rest h = rest h
 
@@ -41,14 +41,14 @@ front_is ts m n h = sym (take-append-drop m (take n ts)) ∙ ap (λ us. us ++ dr
 fine_front : (ts : List Token) (m n : ℕ) → m ≤ n → IsFineBefore ts n → IsFineBefore ts m
 fine_front ts m n h f = record {
   begun = begins_front (take m ts) (drop m (take n ts)) (subst Begins (front_is ts m n h) f.begun);
-  shallow = shallow_front 0 (take m ts) (drop m (take n ts)) (ap (too_deep 0) (sym (front_is ts m n h)) ∙ f.shallow);
+  shallow = shallow_front [] (take m ts) (drop m (take n ts)) (ap (too_deep []) (sym (front_is ts m n h)) ∙ f.shallow);
 }
 
 -- what is derived is fine
-pub derived_fine : (ts : List Token) (p : Phrase) → Derives ts p → too_deep 0 ts ≡ false → IsFineBefore ts (length ts)
+pub derived_fine : (ts : List Token) (p : Phrase) → Derives ts p → too_deep [] ts ≡ false → IsFineBefore ts (length ts)
 derived_fine ts p d h = record {
   begun = record { program = p; rest = []; derived = subst (λ us. Derives us p) (sym (append-nil (take (length ts) ts) ∙ take_all (length ts) ts (omega arith))) d };
-  shallow = ap (too_deep 0) (take_all (length ts) ts (omega arith)) ∙ h;
+  shallow = ap (too_deep []) (take_all (length ts) ts (omega arith)) ∙ h;
 }
 
 -- ---- what the tokens of a text come to, where it is no program
@@ -73,7 +73,7 @@ stops_whole : (ts : List Token) (n : ℕ) → n < length ts → Stops ts n → I
 stops_whole ts n h s f = s.no_more (fine_front ts (n + 1) (length ts) (omega (arith, h)) f)
 
 data Verdict (ls : List Lexeme) (ts : List Token) (len : ℕ) : Fault → Type 0 where
-  stopped : {n : ℕ} {l : Lexeme} → slice_get ls n ≡ Some l → Stops ts n → Verdict ls ts len (record { kind = kind_if (too_deep 0 (take (n + 1) ts)); at = l.at })
+  stopped : {n : ℕ} {l : Lexeme} → slice_get ls n ≡ Some l → Stops ts n → Verdict ls ts len (record { kind = kind_if (too_deep [] (take (n + 1) ts)); at = l.at })
   ended : EndsEarly ts → Verdict ls ts len (record { kind = kind.Syntax; at = len })
   misnamed : {fault : Fault} → FaultyAt ts fault → Verdict ls ts len fault
 
@@ -91,15 +91,15 @@ module _ (law : ParsesLaw) (ls : List Lexeme) (ts : List Token) (len : ℕ) (sam
   within n l h = let w = slice_get_within ls n l h in omega (arith, w, same_length)
 
   one_stopped : (m n : ℕ) (k l : Lexeme) → slice_get ls m ≡ Some k → slice_get ls n ≡ Some l → m ≡ n
-      → ◌≡◌ {A = Fault} (record { kind = kind_if (too_deep 0 (take (n + 1) ts)); at = l.at }) (record { kind = kind_if (too_deep 0 (take (m + 1) ts)); at = k.at })
+      → ◌≡◌ {A = Fault} (record { kind = kind_if (too_deep [] (take (n + 1) ts)); at = l.at }) (record { kind = kind_if (too_deep [] (take (m + 1) ts)); at = k.at })
   one_stopped m n k l g h e =
       let there : Some k ≡ Some l = sym g ∙ (ap (slice_get ls) e ∙ h) in
       let same : k ≡ l = cc in
       cc
 
-  first_same : (fs gs : List Fault) (f g : Fault) (p q : Phrase) → p ≡ q → faults first_scope p ≡ f ∷ fs → faults first_scope q ≡ g ∷ gs → g ≡ f
-  first_same fs gs f g p q e h k =
-      let lists : f ∷ fs ≡ g ∷ gs = sym h ∙ (ap (faults first_scope) e ∙ k) in
+  first_same : (f g : Fault) (p q : Phrase) → p ≡ q → first_of (faults first_scope p) ≡ Some f → first_of (faults first_scope q) ≡ Some g → g ≡ f
+  first_same f g p q e h k =
+      let both : Some f ≡ Some g = sym h ∙ (ap (λ (r : Phrase). first_of (faults first_scope r)) e ∙ k) in
       cc
 
   one_verdict : (f g : Fault) → Verdict ls ts len f → Verdict ls ts len g → g ≡ f
@@ -111,14 +111,15 @@ module _ (law : ParsesLaw) (ls : List Lexeme) (ts : List Token) (len : ℕ) (sam
   one_verdict f g (ended e) (misnamed d) = absurd (e.derived_by_none d.program d.derived)
   one_verdict f g (misnamed {fault = x} e) (stopped {n = m} {l = k} a s) = absurd (stops_whole ts m (within m k a) s (faulty_fine ts x e))
   one_verdict f g (misnamed d) (ended e) = absurd (e.derived_by_none d.program d.derived)
-  one_verdict f g (misnamed {fault = x} d) (misnamed {fault = y} e) = first_same d.others e.others x y d.program e.program (one_phrase law ts d.program e.program d.derived e.derived) d.first e.first
+  one_verdict f g (misnamed {fault = x} d) (misnamed {fault = y} e) = first_same x y d.program e.program (one_phrase law ts d.program e.program d.derived e.derived) d.first e.first
 
   -- a program is not refused
-  no_verdict : (f : Fault) (p : Phrase) → Derives ts p → too_deep 0 ts ≡ false → faults first_scope p ≡ [] → Verdict ls ts len f → ⊥
+  no_verdict : (f : Fault) (p : Phrase) → Derives ts p → too_deep [] ts ≡ false → faults first_scope p ≡ [] → Verdict ls ts len f → ⊥
   no_verdict f p d h none (stopped {n = m} {l = k} a s) = stops_whole ts m (within m k a) s (derived_fine ts p d h)
   no_verdict f p d h none (ended e) = e.derived_by_none p d
   no_verdict f p d h none (misnamed {fault = x} e) =
-      let lists : [] ≡ x ∷ e.others = sym none ∙ (ap (faults first_scope) (one_phrase law ts p e.program d e.derived) ∙ e.first) in
+      let nothing : None ≡ Some x =
+      ap first_of (sym none) ∙ (ap (λ (r : Phrase). first_of (faults first_scope r)) (one_phrase law ts p e.program d e.derived) ∙ e.first) in
       absurd (cc)
 
 -- ---- texts
@@ -137,7 +138,7 @@ data Reading (text : List ℕ) : Fault → Type 0 where
   whole : {ls : List Lexeme} {fault : Fault} → Lexes text 0 ls Whole → Verdict ls (tokens_in text ls) (length text) fault → Reading text fault
 
 stopped_as : (text : List ℕ) (ls : List Lexeme) (n : ℕ) (l : Lexeme) (b : Bool) → Lexes text 0 ls Whole → slice_get ls n ≡ Some l → Stops (tokens_in text ls) n
-    → too_deep 0 (take (n + 1) (tokens_in text ls)) ≡ b → Reading text (record { kind = kind_if b; at = l.at })
+    → too_deep [] (take (n + 1) (tokens_in text ls)) ≡ b → Reading text (record { kind = kind_if b; at = l.at })
 stopped_as text ls n l b lexed there s e = subst (λ (b : Bool). Reading text (record { kind = kind_if b; at = l.at })) e (whole lexed (stopped there s))
 
 reading_of : (text : List ℕ) (f : Fault) → IsRefused text f → Reading text f

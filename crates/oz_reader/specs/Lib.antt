@@ -1,3 +1,4 @@
 pub mod Codes
+pub mod Depths
 pub mod View
 pub mod Reading

@@ -1,5 +1,5 @@
 -- What reading a text comes to.
-use Rattle.std.specs.Prelude.{◌≡◌, ℕ, false, List, Option, Some, None, Result, Ok, Err}
+use Rattle.std.specs.Prelude.{◌≡◌, ℕ, false, List, [], Option, Some, None, Result, Ok, Err}
 use Rattle.oz_semantics.specs.Grammar.{Derives}
 use Rattle.oz_semantics.specs.Refusals.{Program, Accepts, IsRefused, too_deep}
 use Rattle.oz_semantics.specs.Wording.{words_of, tokens_in}
@@ -36,7 +36,7 @@ Refuses text e = Faults (IsOnlyRefused text) e
 pub record IsRead (text : List ℕ) (ls : List Lexeme) (p : Program) : Type 0 where
   pub words : p.words ≡ words_of text ls
   pub derived : Derives (tokens_in text ls) p.phrase
-  pub shallow : too_deep 0 (tokens_in text ls) ≡ false
+  pub shallow : too_deep [] (tokens_in text ls) ≡ false
 
 -- where no token begins, the text is refused
 abbrev pub error_of : LexError → ReadError

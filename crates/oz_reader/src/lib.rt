@@ -1,14 +1,20 @@
 //! Reads the program of a text.
 //!
-//! `frame` has the constructs that are open while a text is read, `steps` what one more token does to them, and `reader` goes over
-//! the tokens of a text once.
+//! `frame` has the constructs that are open while a text is read, and `stack` what goes onto them. `steps` says what one more token
+//! does to them, by what is innermost: `blocks`, `calls`, `records` or `conditionals`. `reader` goes over the tokens of a text
+//! once, with `depth` beside it.
 #![tactic(auto)]
 
+mod blocks;
+mod calls;
+mod conditionals;
 mod depth;
 mod error;
 mod frame;
 mod program;
 mod reader;
+mod records;
+mod stack;
 mod steps;
 
 pub use error::ReadError;

@@ -8,7 +8,7 @@ ghost use Rattle.reader_law.specs.Machine.{step, finish};
 ghost use Rattle.oz_reader.specs.Reading.{Faults, Refuses, IsRead, StepsAt, GivesAt, refusal};
 ghost use Rattle.oz_reader.specs.View.{stack_of};
 
-use crate::depth::{DEPTH_LIMIT, depth_with};
+use crate::depth::Depth;
 use crate::error::{ReadError, StepError};
 use crate::frame::Frame;
 use crate::program::Program;
@@ -23,9 +23,9 @@ use std::alloc::Global;
 /// Reads the program of a text.
 ///
 /// A text has one program at most. Where it has none it is refused with one fault, and with nothing else: the first byte at which
-/// no token begins; else the first token that lies in more than 200 open constructs, or with which the tokens begin no program,
+/// no token begins; else the first token that lies at a depth of more than 200, or with which the tokens begin no program,
 /// whichever comes first, where one that is both counts as too deep; else, at its length, a text that ends before its program does;
-/// else the first fault of its names, in the order of the text. It takes the time of going over the text once.
+/// else the fault of its names, or of what stands in it twice, at the first place. It takes the time of going over the text once.
 pub fn read_program(alloc: Global, text: &[u8]) -> Result<Program, ReadError>
     ensures accepted { IfOk result (Accepts text.now) }
     ensures only { IfOk result (λ p. (q : Program) → Accepts text.now q → q ≡ p) }
@@ -59,11 +59,11 @@ fn read_lexemes(alloc: Global, text: &[u8], lexemes: &[Lexeme]) -> Result<Progra
     parses_law();
     let mut words = first_words(alloc)?;
     let mut stack = steps::start(alloc)?;
-    let mut depth = 0;
+    let mut depth = Depth::new(alloc);
     for lexeme in lexemes {
         let token = token_of(&mut words, text, *lexeme)?;
-        depth = depth_with(depth, token);
-        if depth > DEPTH_LIMIT {
+        depth.take(token)?;
+        if depth.is_too_deep() {
             return Err(refusal(RefusalKind::Deep, lexeme.at));
         }
         take_at(alloc, &mut stack, token, lexeme.at)?;

@@ -1,9 +1,9 @@
 -- What phrases declare, and how it is taken away again.
-use Rattle.std.proofs.Common.{◌≡◌, ℕ, ◌-◌, List, [], ◌∷◌, ◌++◌, length, drop, length-append, refl, ap, sym, ◌∙◌}
+use Rattle.std.proofs.Common.{◌≡◌, ℕ, ◌-◌, List, [], ◌∷◌, ◌++◌, length, drop, map, length-append, refl, ap, sym, ◌∙◌}
 use Rattle.std.proofs.Math.Nat.{add-sub_cancel}
 use Rattle.std.proofs.Math.Seq.{drop-append_seam}
-use Rattle.oz_semantics.specs.Grammar.{Phrase, Phrases, nothing, more, var, proc, local, body, of_list}
-use Rattle.oz_semantics.specs.Refusals.{declaring, parameters}
+use Rattle.oz_semantics.specs.Grammar.{Phrase, Phrases, nothing, more, var, proc, local, clause, body, of_list}
+use Rattle.oz_semantics.specs.Refusals.{declaring, parameters, variables_in, with_names}
 use Rattle.oz_syntax.specs.declared.phrase.Phrase.{Phrase as Tree}
 use Rattle.oz_syntax.specs.View.{view, views}
 use Rattle.oz_scope.specs.Declares.{scope_in}
@@ -45,6 +45,7 @@ parameters_adds (more p ps) scope = declaring_adds ps scope
 scope_in-adds : (p : Phrase) (scope : List ℕ) → (added : List ℕ) × (scope_in p scope ≡ added ++ scope)
 scope_in-adds (proc hs b) scope = parameters_adds hs scope
 scope_in-adds (local ds b) scope = declaring_adds ds scope
+scope_in-adds (clause p b) scope = (map (λ (x : ℕ × ℕ). x.0) (variables_in p), refl)
 scope_in-adds (body ds ss) scope = declaring_adds ds scope
 scope_in-adds p scope = ([], refl)
 
@@ -56,3 +57,8 @@ added_left added scope =
 -- and taken away again
 pub scope_left : (p : Phrase) (scope : List ℕ) → drop (length (scope_in p scope) - length scope) (scope_in p scope) ≡ scope
 scope_left p scope = let adds = scope_in-adds p scope in rw adds.1 (added_left adds.0 scope)
+
+-- a pattern's variables come into scope from the last to the first
+pub entered_last : (xs : List (ℕ × ℕ)) (name at : ℕ) (scope : List ℕ) → with_names (xs ++ (name, at) ∷ []) scope ≡ with_names xs (name ∷ scope)
+entered_last [] name at scope = refl
+entered_last (x ∷ xs) name at scope = ap (λ s. x.0 ∷ s) (entered_last xs name at scope)

@@ -1,2 +1,3 @@
 pub mod Declares
-pub mod Finds
+pub mod FeatureLaws
+pub mod Keeps

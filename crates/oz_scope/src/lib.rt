@@ -1,9 +1,10 @@
-//! The scope of names: the first variable of a program that no binding has, or the first parameter that stands twice.
+//! The scope of names: the fault that decides of a program's variables without a binding, and of what stands twice.
 #![tactic(auto)]
 
 mod checker;
-mod declarations;
-mod stop;
+mod features;
+mod found;
+mod names;
 #[cfg(test)]
 mod tests;
 

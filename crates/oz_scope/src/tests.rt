@@ -1,9 +1,11 @@
-//! Phrases built by hand. The words are `Script`, `X`, `Y`, `P` and `Q`.
+//! Phrases built by hand. The words are `Script`, `Show`, `X`, `Y`, `P` and `Q`.
 ghost use Rattle.std.specs.Prelude.{◌<◌, ◌+◌, ◌^◌};
 
 use crate::first_fault;
-use crate::tests::Step::{Body, Call, Choice, Equal, Local, One, Proc, Tuple, Var};
-use oz_semantics::{Fault, Literal, RefusalKind};
+use crate::tests::Step::{
+    Body, Call, Cases, Choice, Clause, Equal, Keyed, Local, One, Proc, Record, Var,
+};
+use oz_semantics::{Constant, Fault, Literal, RefusalKind};
 use oz_syntax::Phrase;
 use std::alloc::{AllocError, Global};
 use std::process::Abort;
@@ -11,13 +13,13 @@ use std::test::Fail;
 
 const SCRIPT: u32 = 0;
 
-const X: u32 = 1;
+const X: u32 = 2;
 
-const Y: u32 = 2;
+const Y: u32 = 3;
 
-const P: u32 = 3;
+const P: u32 = 4;
 
-const Q: u32 = 4;
+const Q: u32 = 5;
 
 /// A phrase of those before it, so many of them where it says so. The last of `Proc` and `Local` is their body.
 #[derive(Clone, Copy)]
@@ -25,11 +27,15 @@ enum Step {
     Var(u32, usize),
     One,
     Equal,
-    Tuple(usize),
+    /// A field with this integer as its key.
+    Keyed(i128, usize),
+    Record(usize),
     Call(usize),
     Proc(usize),
     Local(usize),
     Choice(usize),
+    Clause,
+    Cases(usize),
     Body(usize, usize),
 }
 
@@ -66,6 +72,26 @@ fn local(alloc: Global, stack: &mut Vec<Phrase>, count: usize) -> Result<Phrase,
     Ok(Phrase::Local { declarations, body })
 }
 
+fn clause(alloc: Global, stack: &mut Vec<Phrase>) -> Result<Phrase, AllocError> {
+    let body = take_boxed(alloc, stack)?;
+    let pattern = take_boxed(alloc, stack)?;
+    Ok(Phrase::Clause { pattern, body })
+}
+
+fn cases(alloc: Global, stack: &mut Vec<Phrase>, count: usize) -> Result<Phrase, AllocError> {
+    let clauses = take_last(stack, count)?;
+    let subject = take_boxed(alloc, stack)?;
+    Ok(Phrase::Cases { subject, clauses })
+}
+
+fn record(fields: Vec<Phrase>) -> Phrase {
+    Phrase::Record {
+        label: Literal::Unit,
+        at: 0,
+        fields,
+    }
+}
+
 fn body(stack: &mut Vec<Phrase>, declared: usize, count: usize) -> Result<Phrase, AllocError> {
     let statements = take_last(stack, count)?;
     let declarations = take_last(stack, declared)?;
@@ -78,12 +104,14 @@ fn body(stack: &mut Vec<Phrase>, declared: usize, count: usize) -> Result<Phrase
 fn made(alloc: Global, stack: &mut Vec<Phrase>, step: Step) -> Result<Phrase, AllocError> {
     match step {
         Var(name, at) => Ok(Phrase::Var { name, at }),
-        One => Ok(Phrase::Int(1)),
+        One => Ok(Phrase::Int { value: 1, at: 0 }),
         Equal => equal(alloc, stack),
-        Tuple(count) => Ok(Phrase::Tuple {
-            label: Literal::Unit,
-            fields: take_last(stack, count)?,
+        Keyed(key, at) => Ok(Phrase::Keyed {
+            key: Constant::Int(key),
+            at,
+            value: take_boxed(alloc, stack)?,
         }),
+        Record(count) => Ok(record(take_last(stack, count)?)),
         Call(count) => Ok(Phrase::Call {
             parts: take_last(stack, count)?,
         }),
@@ -92,6 +120,8 @@ fn made(alloc: Global, stack: &mut Vec<Phrase>, step: Step) -> Result<Phrase, Al
         Choice(count) => Ok(Phrase::Choice {
             alternatives: take_last(stack, count)?,
         }),
+        Clause => clause(alloc, stack),
+        Cases(count) => cases(alloc, stack, count),
         Body(declared, count) => body(stack, declared, count),
     }
 }
@@ -153,7 +183,7 @@ fn a_variable_wants_a_binding(rt: HostRuntime) -> Result<(), Fail> {
     let call = [
         Var(SCRIPT, 8),
         Var(X, 20),
-        Tuple(1),
+        Record(1),
         Call(2),
         Var(Y, 27),
         One,
@@ -265,6 +295,86 @@ fn parameters_differ(rt: HostRuntime) -> Result<(), Fail> {
     Ok(())
 }
 
+#[test]
+fn features_differ(rt: HostRuntime) -> Result<(), Fail> {
+    let alloc = rt.alloc();
+    // X in X=unit(2:X X X)
+    let program = [
+        Var(X, 0),
+        Var(X, 5),
+        Var(X, 14),
+        Keyed(2, 12),
+        Var(X, 16),
+        Var(X, 18),
+        Record(3),
+        Equal,
+        Body(1, 1),
+    ];
+    finds(&rt, alloc, &program, repeated(18))?;
+    // X in X=unit(1:X 2:X)
+    let program = [
+        Var(X, 0),
+        Var(X, 5),
+        Var(X, 14),
+        Keyed(1, 12),
+        Var(X, 18),
+        Keyed(2, 16),
+        Record(2),
+        Equal,
+        Body(1, 1),
+    ];
+    finds(&rt, alloc, &program, None)?;
+    Ok(())
+}
+
+#[test]
+fn patterns_bind(rt: HostRuntime) -> Result<(), Fail> {
+    let alloc = rt.alloc();
+    // case Script of unit(X Y) then X=Y end
+    let program = [
+        Var(SCRIPT, 5),
+        Var(X, 20),
+        Var(Y, 22),
+        Record(2),
+        Var(X, 30),
+        Var(Y, 32),
+        Equal,
+        Clause,
+        Cases(1),
+    ];
+    finds(&rt, alloc, &program, None)?;
+    // case Script of unit(X X) then X=1 end X=1
+    let program = [
+        Var(SCRIPT, 5),
+        Var(X, 20),
+        Var(X, 22),
+        Record(2),
+        Var(X, 30),
+        One,
+        Equal,
+        Clause,
+        Cases(1),
+        Var(X, 40),
+        One,
+        Equal,
+        Body(0, 2),
+    ];
+    finds(&rt, alloc, &program, repeated(22))?;
+    Ok(())
+}
+
+#[test]
+fn the_first_place_decides(rt: HostRuntime) -> Result<(), Fail> {
+    let alloc = rt.alloc();
+    // unit(Q 1:1)=1
+    let program = [Var(Q, 5), One, Keyed(1, 7), Record(2), One, Equal];
+    finds(&rt, alloc, &program, unbound(5))?;
+    // a variable and its repeat at one place
+    let program = [Var(Q, 9), Var(X, 9), Var(X, 9), One, Proc(3)];
+    finds(&rt, alloc, &program, unbound(9))?;
+    Ok(())
+}
+
 /// So many variables from this name on.
 fn many(alloc: Global, count: u32, first: u32) -> Result<Vec<Phrase>, AllocError>
     requires { count + first < 2 ^ 32 }
@@ -297,6 +407,28 @@ fn repeats_the_last(alloc: Global) -> Result<Phrase, AllocError> {
     })?;
     stack.push(Phrase::Skip)?;
     procedure(alloc, &mut stack, 100_001)
+}
+
+/// A record of 100,000 fields without keys, and one with the key of the last of them.
+fn repeats_the_last_feature(alloc: Global) -> Result<Phrase, AllocError> {
+    let mut fields = Vec::new(alloc);
+    for at in 0..100_000 {
+        fields.push(Phrase::Any { at })?;
+    }
+    fields.push(Phrase::Keyed {
+        key: Constant::Int(100_000),
+        at: 100_000,
+        value: Box::new(alloc, Phrase::Any { at: 100_007 })?,
+    })?;
+    Ok(record(fields))
+}
+
+#[test]
+fn a_hundred_thousand_fields(rt: HostRuntime) -> Result<(), Fail> {
+    let alloc = rt.alloc();
+    let phrase = repeats_the_last_feature(alloc)?;
+    assert_eq!(rt; first_fault(alloc, &phrase)?, repeated(100_000));
+    Ok(())
 }
 
 #[test]

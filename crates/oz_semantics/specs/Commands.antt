@@ -14,6 +14,7 @@ Word = List ℕ
 
 pub data Verb : Type 0 where
   all : Verb
+  run : Verb
 
 pub data OptionName : Type 0 where
   workers : OptionName
@@ -21,13 +22,21 @@ pub data OptionName : Type 0 where
 
 abbrev pub verb_word : Verb → Word
 verb_word all = codes "all"
+verb_word run = codes "run"
 
 abbrev pub option_word : OptionName → Word
 option_word workers = codes "--workers"
 option_word budget = codes "--budget"
 
+abbrev pub same_name : OptionName → OptionName → Bool
+same_name workers workers = true
+same_name budget budget = true
+same_name workers budget = false
+same_name budget workers = false
+
 abbrev pub takes : Verb → OptionName → Bool
 takes all name = true
+takes run name = same_name name budget
 
 -- Numbers
 
@@ -62,12 +71,6 @@ words_by name number false = option_word name ∷ number ∷ []
 abbrev pub words_of : Given → List Word
 words_of g = words_by g.name g.number g.is_joined
 
-abbrev pub same_name : OptionName → OptionName → Bool
-same_name workers workers = true
-same_name budget budget = true
-same_name workers budget = false
-same_name budget workers = false
-
 -- no option is given twice
 abbrev pub are_distinct : List Given → Bool
 are_distinct [] = true
@@ -83,6 +86,7 @@ value_in given name = unwrap_or (option_map (λ (g : Given). digits_value 10 g.n
 
 abbrev pub command_by : Verb → List Given → Command
 command_by all given = command.All (value_in given workers) (value_in given budget)
+command_by run given = command.Run (value_in given budget)
 
 -- the words spell the command
 pub record Spells (words : List Word) (c : Command) : Type 0 where
@@ -101,6 +105,10 @@ IsUsage words = (c : Command) → Spells words c → ⊥
 pub record AsksAll (words : List Word) (budget : ℕ) : Type 0 where
   pub workers : ℕ
   pub spelled : Spells words (command.All workers budget)
+
+-- the words spell `run` with this budget
+abbrev pub AsksRun : List Word → ℕ → Type 0
+AsksRun words steps = Spells words (command.Run steps)
 
 -- the words spell this command, or none
 abbrev pub IsSpelled : List Word → Option Command → Type 0

@@ -4,6 +4,7 @@ use Rattle.oz_semantics.specs.declared.token.Literal.{Literal}
 use Rattle.oz_semantics.specs.declared.kernel.Name.{Name}
 use Rattle.oz_semantics.specs.declared.kernel.Name.TheVariants.{Word, Fresh}
 use Rattle.oz_semantics.specs.declared.kernel.Constant.{Constant}
+use Rattle.oz_semantics.specs.declared.kernel.Piece.{Piece}
 use Rattle.oz_semantics.specs.declared.kernel.Statement.{Statement}
 use Rattle.oz_semantics.specs.declared.kernel.Statement.TheVariants as numbered
 
@@ -19,14 +20,20 @@ mutual
     equate : Name → Name → Stmt
     -- X=v
     bind : Name → Constant → Stmt
-    -- X=l(Y ..)
-    bind_tuple : Name → Literal → List Name → Stmt
+    -- X=l(F:Y ..)
+    bind_record : Name → Literal → List Constant → List Name → Stmt
     -- X=proc {$ Y ..} S .. end
     bind_procedure : Name → List Name → Stmts → Stmt
     -- {X Y ..}
     call : Name → List Name → Stmt
     -- choice S .. [] .. end
     choice : Bodies → Stmt
+    -- if X then S .. else S .. end
+    test : Name → Stmts → Stmts → Stmt
+    -- case X of P then S .. else S .. end
+    matching : Name → List Piece → Stmts → Stmts → Stmt
+    -- no clause of a case matches
+    no_match : Stmt
 
   pub data Stmts : Type 0 where
     none : Stmts
@@ -54,6 +61,8 @@ abbrev mutual
   inside (local xs ss) = count ss
   inside (bind_procedure x xs ss) = count ss
   inside (choice bs) = count_bodies bs
+  inside (test x ss us) = count ss + count us
+  inside (matching x p ss us) = count ss + count us
   inside s = 0
 
   pub count : Stmts → ℕ
@@ -80,10 +89,13 @@ statement_at n fail = numbered.Fail
 statement_at n (local xs ss) = numbered.Local xs (numbers n ss)
 statement_at n (equate x y) = numbered.Equate x y
 statement_at n (bind x v) = numbered.Bind x v
-statement_at n (bind_tuple x l xs) = numbered.BindTuple x l xs
+statement_at n (bind_record x l fs xs) = numbered.BindRecord x l fs xs
 statement_at n (bind_procedure x xs ss) = numbered.BindProcedure x xs (numbers n ss)
 statement_at n (call x xs) = numbered.Call x xs
 statement_at n (choice bs) = numbered.Choice (numbers_each n bs)
+statement_at n (test x ss us) = numbered.If x (numbers n ss) (numbers (n + count ss) us)
+statement_at n (matching x p ss us) = numbered.Case x p (numbers n ss) (numbers (n + count ss) us)
+statement_at n no_match = numbered.NoMatch
 
 abbrev mutual
   -- the statements inside one, numbered from n on
@@ -91,6 +103,8 @@ abbrev mutual
   listed_inside n (local xs ss) = listed_all n ss
   listed_inside n (bind_procedure x xs ss) = listed_all n ss
   listed_inside n (choice bs) = listed_bodies n bs
+  listed_inside n (test x ss us) = listed_all n ss ++ listed_all (n + count ss) us
+  listed_inside n (matching x p ss us) = listed_all n ss ++ listed_all (n + count ss) us
   listed_inside n s = []
 
   -- statements, each with those inside it before it

@@ -1,7 +1,9 @@
 pub mod Names
 pub mod Values
+pub mod Arities
 pub mod Kernels
 pub mod Store
+pub mod Matching
 pub mod Configurations
 pub mod Statements
 pub mod Spaces

@@ -1,11 +1,12 @@
 -- What the program answers, and with which status it ends.
 use Rattle.std.specs.Prelude.{ℕ, ◌+◌, ◌≡◌, ◌<◌, ◌≤◌, nat_le, Bool, true, false, if◌then◌else◌, List, [], ◌∷◌, ◌++◌, Some, None, length, count_by, codes}
+use Rattle.std.specs.List.{flat_map}
 use Rattle.std.specs.Fmt.{decimal}
 use Rattle.oz_semantics.specs.Texts.{Printed, raise_text}
 use Rattle.oz_semantics.specs.Runs.{Ran, Ended, TopRaised, Over, run, opening}
 use Rattle.oz_semantics.specs.Search.{Found, depth_first, has_script, script_variable, search_space, with_root}
 use Rattle.oz_semantics.specs.Refusals.{Program, Accepts, IsRefused}
-use Rattle.oz_semantics.specs.Commands.{IsUsage, AsksAll}
+use Rattle.oz_semantics.specs.Commands.{IsUsage, AsksAll, AsksRun}
 use Rattle.oz_semantics.specs.Translation.{kernel_of}
 use Rattle.oz_semantics.specs.declared.kernel.Kernel.{Kernel}
 use Rattle.oz_semantics.specs.declared.configuration.Configuration.{Configuration}
@@ -67,39 +68,53 @@ total_line leaves =
 unfoldable pub leaves_reply : List Leaf → List ℕ
 leaves_reply leaves = leaf_lines 1 leaves ++ total_line leaves
 
--- The answer of `all`: its cause and what it writes
+-- Answers: a cause and what is written
 
 abbrev pub Answer : Type 0
 Answer = Cause × List ℕ
 
-abbrev pub spent : ℕ → Answer
-spent budget = (causes.Spent budget, line (codes "spent " ++ decimal budget))
+-- a line for each text that was shown
+abbrev pub shown_lines : Configuration → List ℕ
+shown_lines c = flat_map line c.shown
 
-abbrev pub answer_of_tree : ℕ → Found → Answer
-answer_of_tree budget None = spent budget
-answer_of_tree budget (Some (leaves, left)) = (causes.Done, leaves_reply leaves)
+-- what was shown stays in front
+abbrev pub spent : List ℕ → ℕ → Answer
+spent shown budget = (causes.Spent budget, shown ++ line (codes "spent " ++ decimal budget))
+
+abbrev pub answer_of_tree : List ℕ → ℕ → Found → Answer
+answer_of_tree shown budget None = spent shown budget
+answer_of_tree shown budget (Some (leaves, left)) = (causes.Done, shown ++ leaves_reply leaves)
 
 -- an exception of the top, whose text has to fit into the budget too
-abbrev pub answer_of_raise : ℕ → ℕ → Printed → Answer
-answer_of_raise budget left printed =
-    if nat_le printed.nodes left then (causes.Raised printed.bytes, line (codes "raised " ++ printed.bytes)) else spent budget
+abbrev pub answer_of_raise : List ℕ → ℕ → ℕ → Printed → Answer
+answer_of_raise shown budget left printed =
+    if nat_le printed.nodes left then (causes.Raised printed.bytes, shown ++ line (codes "raised " ++ printed.bytes)) else spent shown budget
 
-abbrev pub answer_of_top : Kernel → ℕ → Ran → Answer
-answer_of_top k budget (TopRaised c left raise) = answer_of_raise budget left (raise_text raise)
-answer_of_top k budget (Over c) = spent budget
-answer_of_top k budget (Ended c left) =
-    if has_script c then answer_of_tree budget (depth_first k (search_space c) (with_root k.statements script_variable c) left)
-    else (causes.NoScript, line (codes "no script"))
+-- the tree of the script, where there is one
+abbrev pub searched : Kernel → ℕ → Configuration → ℕ → Answer
+searched k budget c left =
+    if has_script c then answer_of_tree (shown_lines c) budget (depth_first k (search_space c) (with_root k.statements script_variable c) left)
+    else (causes.NoScript, shown_lines c ++ line (codes "no script"))
+
+-- with what follows where the top has come to rest
+abbrev pub answer_of_top : (Configuration → ℕ → Answer) → ℕ → Ran → Answer
+answer_of_top rest budget (TopRaised c left raise) = answer_of_raise (shown_lines c) budget left (raise_text raise)
+answer_of_top rest budget (Over c) = spent (shown_lines c) budget
+answer_of_top rest budget (Ended c left) = rest c left
 
 -- what `all` answers for a kernel: the top runs until it is quiescent, and then the tree of its script is searched
-unfoldable pub answer_to : Kernel → ℕ → Answer
-answer_to k budget = answer_of_top k budget (run k.statements [] (opening k) budget)
+unfoldable pub all_answer : Kernel → ℕ → Answer
+all_answer k budget = answer_of_top (searched k budget) budget (run k [] (opening k) budget)
+
+-- what `run` answers: what the top has shown
+unfoldable pub run_answer : Kernel → ℕ → Answer
+run_answer k budget = answer_of_top (λ c left. (causes.Done, shown_lines c)) budget (run k [] (opening k) budget)
 
 -- The top of a kernel becomes quiescent with a script, and the search of its tree finds this with what is left of the budget.
 pub record Searches (k : Kernel) (budget : ℕ) (found : Found) : Type 0 where
   pub top : Configuration
   pub left : ℕ
-  pub ended : run k.statements [] (opening k) budget ≡ Ended top left
+  pub ended : run k [] (opening k) budget ≡ Ended top left
   pub script : has_script top ≡ true
   pub searched : depth_first k (search_space top) (with_root k.statements script_variable top) left ≡ found
 
@@ -125,16 +140,17 @@ kind_text Linear = codes "linear"
 abbrev pub refused_reply : Fault → List ℕ
 refused_reply fault = line (codes "refused " ++ kind_text fault.kind ++ codes " " ++ decimal fault.at)
 
--- What `all` answers to a text, for a budget
-pub record IsTextReply (bytes : List ℕ) (budget : ℕ) (answer : Answer) : Type 0 where
+-- What a command answers to a text, by what it answers for a kernel
+pub record IsTextReply (bytes : List ℕ) (answer_to : Kernel → Answer) (answer : Answer) : Type 0 where
   pub too_large : text_limit < length bytes → answer ≡ (causes.TooLarge (text_limit + 1), too_large_reply)
   pub refused : length bytes ≤ text_limit → (fault : Fault) → IsRefused bytes fault → answer ≡ (causes.Refused fault, refused_reply fault)
-  pub accepted : length bytes ≤ text_limit → (p : Program) → Accepts bytes p → answer ≡ answer_to (kernel_of p) budget
+  pub accepted : length bytes ≤ text_limit → (p : Program) → Accepts bytes p → answer ≡ answer_to (kernel_of p)
 
 -- What the program answers to its words, where the source has these bytes: a cause, and what is written.
 pub record IsReply (words : List (List ℕ)) (bytes : List ℕ) (answer : Answer) : Type 0 where
   pub usage : IsUsage words → answer ≡ (causes.Usage, usage_reply)
-  pub all : (budget : ℕ) → AsksAll words budget → IsTextReply bytes budget answer
+  pub all : (budget : ℕ) → AsksAll words budget → IsTextReply bytes (λ k. all_answer k budget) answer
+  pub run : (budget : ℕ) → AsksRun words budget → IsTextReply bytes (λ k. run_answer k budget) answer
 
 -- The status of a cause
 abbrev pub status_of : Cause → ℕ

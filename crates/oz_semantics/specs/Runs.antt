@@ -1,20 +1,27 @@
 -- The opening configuration of a program (CTM 2.4), and runs of the machine below a space with a bound on their cost.
 use Rattle.std.specs.Prelude.{ℕ, zero, suc, ◌-◌, nat_le, if◌then◌else◌, List, [], ◌∷◌, None}
 use Rattle.oz_semantics.specs.Names.{named}
-use Rattle.oz_semantics.specs.Configurations.{spawning, new_layer, frames_of}
+use Rattle.oz_semantics.specs.Configurations.{spawning, telling, giving_out, new_layer, frames_of}
 use Rattle.oz_semantics.specs.Spaces.{goes_on}
 use Rattle.oz_semantics.specs.Schedule.{Turned, turn, settled}
 use Rattle.oz_semantics.specs.declared.kernel.Name.TheVariants.{Word}
-use Rattle.oz_semantics.specs.declared.kernel.Statement.{Statement}
 use Rattle.oz_semantics.specs.declared.kernel.Kernel.{Kernel}
 use Rattle.oz_semantics.specs.declared.configuration.Binding.{Binding}
+use Rattle.oz_semantics.specs.declared.configuration.Builtin.TheVariants.{Show}
+use Rattle.oz_semantics.specs.declared.configuration.Value.TheVariants as value
+use Rattle.oz_semantics.specs.declared.configuration.Tell.TheVariants.{Is}
+use Rattle.oz_semantics.specs.declared.configuration.Layer.{Layer}
 use Rattle.oz_semantics.specs.declared.configuration.Configuration.{Configuration}
 use Rattle.oz_semantics.specs.declared.outcome.Raise.{Raise}
 use Rattle.oz_semantics.specs.declared.outcome.Stepped.TheVariants.{Moved, Quiescent, TopEnded}
 
--- Word 0, `Script`, stands for variable 0 of the top.
+-- Word 0, `Script`, stands for variable 0 of the top, and word 1, `Show`, for variable 1.
 abbrev pub opening_environment : List Binding
-opening_environment = record { name = Word 0; variable = named [] 0 } ∷ []
+opening_environment = record { name = Word 0; variable = named [] 0 } ∷ record { name = Word 1; variable = named [] 1 } ∷ []
+
+-- the top, which was told what `Show` is
+abbrev pub top_layer : Layer
+top_layer = telling (Is (named [] 1) (value.Builtin Show)) (giving_out 1 (new_layer []))
 
 abbrev pub left_by : Turned → Configuration
 left_by t = t.1
@@ -23,8 +30,9 @@ left_by t = t.1
 abbrev pub opening : Kernel → Configuration
 opening k =
     left_by (settled k.statements None 0 (record {
-      layers = spawning (frames_of opening_environment k.body) (new_layer []) ∷ [];
+      layers = spawning (frames_of opening_environment k.body) top_layer ∷ [];
       queue = [];
+      shown = [];
     }))
 
 -- how a run ends: with what is left of the fuel, by an exception of the top, or before a turn that would pass the fuel
@@ -43,11 +51,11 @@ after_turn more fuel c (TopEnded raise cost, d) = paying cost fuel (λ left. Top
 after_turn more fuel c (Quiescent, d) = Ended c fuel
 
 -- at most so many turns; each costs 1 at least, so one more than the fuel never stops a run
-unfoldable pub run_for : List Statement → List ℕ → ℕ → Configuration → ℕ → Ran
-run_for statements space zero c fuel = Over c
-run_for statements space (suc n) c fuel =
-    if goes_on statements c.layers space then after_turn (run_for statements space n) fuel c (turn statements c) else Ended c fuel
+unfoldable pub run_for : Kernel → List ℕ → ℕ → Configuration → ℕ → Ran
+run_for k space zero c fuel = Over c
+run_for k space (suc n) c fuel =
+    if goes_on k.statements c.layers space then after_turn (run_for k space n) fuel c (turn k c) else Ended c fuel
 
 -- turns while something below the space can step and the sum of costs stays at most the fuel
-abbrev pub run : List Statement → List ℕ → Configuration → ℕ → Ran
-run statements space c fuel = run_for statements space (suc fuel) c fuel
+abbrev pub run : Kernel → List ℕ → Configuration → ℕ → Ran
+run k space c fuel = run_for k space (suc fuel) c fuel

@@ -1,13 +1,15 @@
 -- One turn of the machine (the computation step of CTM 2.4 and 4.1 under a fixed schedule): the head of the queue makes one
 -- step, and five parts follow. Of these the second goes through the triggers of by-need computations, of which there are none.
-use Rattle.std.specs.Prelude.{ℕ, Bool, true, false, not, ◌&&◌, if◌then◌else◌, List, [], ◌∷◌, ◌++◌, Option, Some, None, map, filter}
+use Rattle.std.specs.Prelude.{ℕ, ◌+◌, Bool, true, false, not, ◌&&◌, if◌then◌else◌, List, [], ◌∷◌, ◌++◌, Option, Some, None, map, filter}
 use Rattle.std.specs.List.{list_any, flat_map, fold}
 use Rattle.oz_base.specs.declared.names.Ident.{Ident}
 use Rattle.oz_semantics.specs.Names.{ident_eq, is_top, named}
 use Rattle.oz_semantics.specs.Store.{is_consistent}
 use Rattle.oz_semantics.specs.Configurations.{layer_at, thread_at, is_open, view, in_layer, with_frames, without_gone, ending}
-use Rattle.oz_semantics.specs.Statements.{thread_ready, steps, Effect, Becomes, Raises, Place, code_effect}
+use Rattle.oz_semantics.specs.Statements.{thread_ready, steps, Effect, Becomes, Shows, Raises, Place, code_effect}
+use Rattle.oz_semantics.specs.Texts.{Printed, term_text}
 use Rattle.oz_semantics.specs.declared.kernel.Statement.{Statement}
+use Rattle.oz_semantics.specs.declared.kernel.Kernel.{Kernel}
 use Rattle.oz_semantics.specs.declared.configuration.Frame.{Frame}
 use Rattle.oz_semantics.specs.declared.configuration.Thread.{Thread}
 use Rattle.oz_semantics.specs.declared.configuration.Status.{Status}
@@ -15,7 +17,7 @@ use Rattle.oz_semantics.specs.declared.configuration.Status.TheVariants as statu
 use Rattle.oz_semantics.specs.declared.configuration.Layer.{Layer}
 use Rattle.oz_semantics.specs.declared.configuration.Configuration.{Configuration}
 use Rattle.oz_semantics.specs.declared.outcome.Raise.{Raise}
-use Rattle.oz_semantics.specs.declared.outcome.Raise.TheVariants.{FailureTell, FailureFail, FailureTop, Apply, Arity}
+use Rattle.oz_semantics.specs.declared.outcome.Raise.TheVariants.{FailureTell, FailureFail, FailureTop, Apply, Arity, Boolean, NoElse, GlobalIo}
 use Rattle.oz_semantics.specs.declared.outcome.Stepped.{Stepped}
 use Rattle.oz_semantics.specs.declared.outcome.Stepped.TheVariants.{Moved, Quiescent, TopEnded}
 
@@ -73,14 +75,14 @@ queue_after ids mover queue =
 
 -- The five parts
 
-abbrev pub requeued : List Statement → Option Ident → List Ident → List Layer → Configuration
-requeued statements mover queue layers = record { layers = layers; queue = queue_after (able statements layers) mover queue }
+abbrev pub requeued : List Statement → Option Ident → Configuration → List Layer → Configuration
+requeued statements mover c layers = record c { layers = layers; queue = queue_after (able statements layers) mover c.queue }
 
 -- what follows a step of this thread, if one stepped
 abbrev pub settled : List Statement → Option Ident → ℕ → Configuration → Turned
 settled statements mover cost c =
     if top_is_broken c.layers then (TopEnded FailureTop cost, c)
-    else (Moved cost, requeued statements mover c.queue (without_broken c.layers))
+    else (Moved cost, requeued statements mover c (without_broken c.layers))
 
 -- A step of a thread
 
@@ -91,6 +93,9 @@ status_by FailureFail = status.Failed
 status_by FailureTop = status.Failed
 status_by Apply = status.Raised Apply
 status_by Arity = status.Raised Arity
+status_by Boolean = status.Raised Boolean
+status_by NoElse = status.Raised NoElse
+status_by GlobalIo = status.Raised GlobalIo
 
 -- an exception ends the run of the top, or the child space
 abbrev pub raised : List Statement → Ident → Raise → Configuration → Turned
@@ -98,37 +103,45 @@ raised statements id raise c =
     if is_top id.space then (TopEnded raise 1, record c { layers = in_layer id.space (λ l. without_gone (with_frames id.number (λ frames. []) l)) c.layers })
     else settled statements (Some id) 1 (record c { layers = ending id.space (status_by raise) c.layers })
 
-abbrev pub after_effect : List Statement → Ident → Configuration → Effect → Turned
-after_effect statements id c (Becomes l) = settled statements (Some id) 1 (record c { layers = in_layer id.space (λ m. without_gone l) c.layers })
-after_effect statements id c (Raises raise) = raised statements id raise c
+abbrev pub with_layer : Ident → Layer → Configuration → Configuration
+with_layer id l c = record c { layers = in_layer id.space (λ m. without_gone l) c.layers }
+
+-- a term that is shown costs a step for each of its nodes besides
+abbrev pub shown_by : List Statement → Ident → Layer → Printed → Configuration → Turned
+shown_by statements id l printed c = settled statements (Some id) (1 + printed.nodes) (with_layer id l (record c { shown = c.shown ++ printed.bytes ∷ [] }))
+
+abbrev pub after_effect : Kernel → Ident → Configuration → Effect → Turned
+after_effect k id c (Becomes l) = settled k.statements (Some id) 1 (with_layer id l c)
+after_effect k id c (Shows x l) = shown_by k.statements id l (term_text k.words (view c.layers id.space) x) c
+after_effect k id c (Raises raise) = raised k.statements id raise c
 
 -- where a thread of the layer steps, with its statement taken off the stack
 abbrev pub place_of : List Layer → Ident → Layer → List Frame → Place
 place_of layers id l rest = record { view = view layers l.space; layer = with_frames id.number (λ frames. rest) l; thread = id.number }
 
-abbrev pub stepped_frame : List Statement → Ident → Layer → Frame → List Frame → Configuration → Turned
-stepped_frame statements id l frame rest c = after_effect statements id c (code_effect statements (place_of c.layers id l rest) frame frame.code)
+abbrev pub stepped_frame : Kernel → Ident → Layer → Frame → List Frame → Configuration → Turned
+stepped_frame k id l frame rest c = after_effect k id c (code_effect k.statements (place_of c.layers id l rest) frame frame.code)
 
-abbrev pub stepped_thread : List Statement → Ident → Layer → List Frame → Configuration → Turned
-stepped_thread statements id l [] c = settled statements (Some id) 1 c
-stepped_thread statements id l (frame ∷ rest) c = stepped_frame statements id l frame rest c
+abbrev pub stepped_thread : Kernel → Ident → Layer → List Frame → Configuration → Turned
+stepped_thread k id l [] c = settled k.statements (Some id) 1 c
+stepped_thread k id l (frame ∷ rest) c = stepped_frame k id l frame rest c
 
 abbrev pub frames_in : Option Thread → List Frame
 frames_in None = []
 frames_in (Some t) = t.frames
 
-abbrev pub stepped_layer : List Statement → Ident → Option Layer → Configuration → Turned
-stepped_layer statements id None c = settled statements (Some id) 1 c
-stepped_layer statements id (Some l) c = stepped_thread statements id l (frames_in (thread_at l.threads id.number)) c
+abbrev pub stepped_layer : Kernel → Ident → Option Layer → Configuration → Turned
+stepped_layer k id None c = settled k.statements (Some id) 1 c
+stepped_layer k id (Some l) c = stepped_thread k id l (frames_in (thread_at l.threads id.number)) c
 
-abbrev pub stepped : List Statement → Ident → Configuration → Turned
-stepped statements id c = stepped_layer statements id (layer_at c.layers id.space) c
+abbrev pub stepped : Kernel → Ident → Configuration → Turned
+stepped k id c = stepped_layer k id (layer_at c.layers id.space) c
 
 -- A turn
 
-abbrev pub turn_of : List Statement → List Layer → List Ident → Turned
-turn_of statements layers [] = (Quiescent, record { layers = layers; queue = [] })
-turn_of statements layers (id ∷ queue) = stepped statements id (record { layers = layers; queue = queue })
+abbrev pub turn_of : Kernel → Configuration → List Ident → Turned
+turn_of k c [] = (Quiescent, c)
+turn_of k c (id ∷ queue) = stepped k id (record c { queue = queue })
 
-abbrev pub turn : List Statement → Configuration → Turned
-turn statements c = turn_of statements c.layers c.queue
+abbrev pub turn : Kernel → Configuration → Turned
+turn k c = turn_of k c c.queue

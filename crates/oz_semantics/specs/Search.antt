@@ -1,6 +1,6 @@
 -- The search: its root, its nodes, of which each is its parent committed to an alternative, and the depth-first tree (CTM 12.4;
 -- Schulte 5).
-use Rattle.std.specs.Prelude.{ℕ, zero, suc, ◌+◌, ◌-◌, nat_le, Bool, false, if◌then◌else◌, List, [], ◌∷◌, ◌++◌, Option, Some, None, map, length, ◌==◌}
+use Rattle.std.specs.Prelude.{ℕ, zero, suc, ◌+◌, ◌-◌, nat_le, Bool, true, false, if◌then◌else◌, List, [], ◌∷◌, ◌++◌, Option, Some, None, map, length, ◌==◌}
 use Rattle.std.specs.List.{range_with_len}
 use Rattle.oz_base.specs.Lists.{holds_of}
 use Rattle.oz_base.specs.declared.names.Ident.{Ident}
@@ -13,6 +13,7 @@ use Rattle.oz_semantics.specs.Texts.{Printed, term_text, raise_text}
 use Rattle.oz_semantics.specs.Runs.{Ran, Ended, TopRaised, Over, run, left_by}
 use Rattle.oz_semantics.specs.declared.kernel.Statement.{Statement}
 use Rattle.oz_semantics.specs.declared.kernel.Kernel.{Kernel}
+use Rattle.oz_semantics.specs.declared.configuration.Builtin.TheVariants.{Show}
 use Rattle.oz_semantics.specs.declared.configuration.Value.{Value}
 use Rattle.oz_semantics.specs.declared.configuration.Value.TheVariants as value
 use Rattle.oz_semantics.specs.declared.configuration.Layer.{Layer}
@@ -29,7 +30,8 @@ script_variable = named [] 0
 abbrev pub is_script : Value → Bool
 is_script (value.Procedure p) = (length p.parameters == 1)
 is_script (value.Constant c) = false
-is_script (value.Tuple t) = false
+is_script (value.Record r) = false
+is_script (value.Builtin Show) = true
 
 -- the top made `Script` a procedure of one parameter
 abbrev pub has_script : Configuration → Bool
@@ -96,7 +98,7 @@ node_of_run k space fuel (Over c) = Beyond
 -- the node of a space that was just created or committed, which is its first step
 abbrev pub node_at : Kernel → List ℕ → ℕ → Configuration → Reached
 node_at k space zero c = Beyond
-node_at k space (suc fuel) c = node_of_run k space (suc fuel) (run k.statements space c fuel)
+node_at k space (suc fuel) c = node_of_run k space (suc fuel) (run k space c fuel)
 
 -- The depth-first tree
 

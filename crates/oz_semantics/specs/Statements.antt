@@ -3,17 +3,21 @@
 use Rattle.std.specs.Prelude.{ℕ, ◌+◌, ◌==◌, Bool, true, false, if◌then◌else◌, List, [], ◌∷◌, ◌++◌, Option, Some, None, map, length, slice_get}
 use Rattle.oz_base.specs.Lists.{first}
 use Rattle.oz_base.specs.declared.names.Ident.{Ident}
-use Rattle.oz_semantics.specs.Names.{named}
+use Rattle.oz_semantics.specs.Names.{named, is_top}
 use Rattle.oz_semantics.specs.Store.{value_of, is_determined, is_consistent}
+use Rattle.oz_semantics.specs.Matching.{Match, Matches, Differs, MatchWaits, matched}
 use Rattle.oz_semantics.specs.Configurations.{bound, bindings, with_frames, telling, fresh_variables, giving_out, frames_of}
+use Rattle.oz_semantics.specs.declared.token.Literal.TheVariants.{True, False}
 use Rattle.oz_semantics.specs.declared.kernel.Name.{Name}
+use Rattle.oz_semantics.specs.declared.kernel.Constant.TheVariants as constant
 use Rattle.oz_semantics.specs.declared.kernel.Statement.{Statement}
-use Rattle.oz_semantics.specs.declared.kernel.Statement.TheVariants.{Skip, Fail, Local, Equate, Bind, BindTuple, BindProcedure, Call, Choice}
+use Rattle.oz_semantics.specs.declared.kernel.Statement.TheVariants.{Skip, Fail, Local, Equate, Bind, BindRecord, BindProcedure, Call, Choice, If, Case, NoMatch}
 use Rattle.oz_semantics.specs.declared.configuration.Code.{Code}
 use Rattle.oz_semantics.specs.declared.configuration.Code.TheVariants as code
 use Rattle.oz_semantics.specs.declared.configuration.Binding.{Binding}
 use Rattle.oz_semantics.specs.declared.configuration.Frame.{Frame}
 use Rattle.oz_semantics.specs.declared.configuration.Procedure as procedures
+use Rattle.oz_semantics.specs.declared.configuration.Builtin.TheVariants.{Show}
 use Rattle.oz_semantics.specs.declared.configuration.Value.{Value}
 use Rattle.oz_semantics.specs.declared.configuration.Value.TheVariants as value
 use Rattle.oz_semantics.specs.declared.configuration.Tell.{Tell}
@@ -21,7 +25,7 @@ use Rattle.oz_semantics.specs.declared.configuration.Tell.TheVariants.{Equal, Is
 use Rattle.oz_semantics.specs.declared.configuration.Thread.{Thread}
 use Rattle.oz_semantics.specs.declared.configuration.Layer.{Layer}
 use Rattle.oz_semantics.specs.declared.outcome.Raise.{Raise}
-use Rattle.oz_semantics.specs.declared.outcome.Raise.TheVariants.{FailureTell, FailureFail, Apply, Arity}
+use Rattle.oz_semantics.specs.declared.outcome.Raise.TheVariants.{FailureTell, FailureFail, Apply, Arity, Boolean, NoElse, GlobalIo}
 
 -- What a thread can do where it stands
 
@@ -36,17 +40,27 @@ pub data Readiness : Type 0 where
 abbrev pub awaits : List Tell → Ident → Readiness
 awaits view x = if is_determined view x then Steps else Waits (x ∷ [])
 
--- a call waits for its procedure
+-- until a match is decided
+abbrev pub match_ready : Match → Readiness
+match_ready (Matches environment) = Steps
+match_ready Differs = Steps
+match_ready (MatchWaits x) = Waits (x ∷ [])
+
+-- a call waits for its procedure, an `if` for its condition, and a `case` for its match
 abbrev pub statement_ready : List Tell → List Binding → Option Statement → Readiness
 statement_ready view environment (Some Skip) = Steps
 statement_ready view environment (Some Fail) = Steps
 statement_ready view environment (Some (Local names body)) = Steps
 statement_ready view environment (Some (Equate left right)) = Steps
 statement_ready view environment (Some (Bind name v)) = Steps
-statement_ready view environment (Some (BindTuple name label fields)) = Steps
+statement_ready view environment (Some (BindRecord name label features fields)) = Steps
 statement_ready view environment (Some (BindProcedure name parameters body)) = Steps
 statement_ready view environment (Some (Call procedure arguments)) = awaits view (bound environment procedure)
 statement_ready view environment (Some (Choice alternatives)) = Offers (length alternatives)
+statement_ready view environment (Some (If condition accepted otherwise)) = awaits view (bound environment condition)
+statement_ready view environment (Some (Case subject pattern accepted otherwise)) =
+    match_ready (matched view pattern (bound environment subject ∷ []) environment)
+statement_ready view environment (Some NoMatch) = Steps
 statement_ready view environment None = Waits []
 
 abbrev pub code_ready : List Statement → List Tell → List Binding → Code → Readiness
@@ -78,9 +92,10 @@ offer_of (Offers n) = Some n
 
 -- What a step does
 
--- a step leaves this layer of the thread's space, or raises an exception
+-- a step leaves this layer of the thread's space, or shows a term besides, or raises an exception
 pub data Effect : Type 0 where
   Becomes : Layer → Effect
+  Shows : Ident → Layer → Effect
   Raises : Raise → Effect
 
 -- Where a thread stands as it steps: what its space sees, and its layer, in which the statement is already taken off the stack
@@ -112,11 +127,30 @@ counting_procedure l = record l { next = record l.next { procedure = l.next.proc
 abbrev pub pushes_body : Place → procedures.Procedure → List Ident → Effect
 pushes_body p q arguments = Becomes (pushing p (bindings q.parameters arguments ++ q.environment) q.body p.layer)
 
+-- only the top shows
+abbrev pub show_effect : Place → List Ident → Effect
+show_effect p (x ∷ []) = if is_top p.layer.space then Shows x p.layer else Raises GlobalIo
+show_effect p xs = Raises Arity
+
 abbrev pub call_effect : Place → Option Value → List Ident → Effect
 call_effect p (Some (value.Procedure q)) arguments = if length arguments == length q.parameters then pushes_body p q arguments else Raises Arity
 call_effect p (Some (value.Constant c)) arguments = Raises Apply
-call_effect p (Some (value.Tuple t)) arguments = Raises Apply
+call_effect p (Some (value.Record r)) arguments = Raises Apply
+call_effect p (Some (value.Builtin Show)) arguments = show_effect p arguments
 call_effect p None arguments = Becomes p.layer
+
+-- the body for the value of a condition
+abbrev pub if_effect : Place → List Binding → Option Value → List ℕ → List ℕ → Effect
+if_effect p environment (Some (value.Constant (constant.Literal True))) accepted otherwise = Becomes (pushing p environment accepted p.layer)
+if_effect p environment (Some (value.Constant (constant.Literal False))) accepted otherwise = Becomes (pushing p environment otherwise p.layer)
+if_effect p environment (Some v) accepted otherwise = Raises Boolean
+if_effect p environment None accepted otherwise = Becomes p.layer
+
+-- the body for a match that is decided
+abbrev pub case_effect : Place → List Binding → Match → List ℕ → List ℕ → Effect
+case_effect p environment (Matches extended) accepted otherwise = Becomes (pushing p extended accepted p.layer)
+case_effect p environment Differs accepted otherwise = Becomes (pushing p environment otherwise p.layer)
+case_effect p environment (MatchWaits x) accepted otherwise = Becomes p.layer
 
 abbrev pub statement_effect : Place → List Binding → Option Statement → Effect
 statement_effect p environment (Some Skip) = Becomes p.layer
@@ -125,13 +159,17 @@ statement_effect p environment (Some (Local names body)) =
     Becomes (pushing p (bindings names (fresh_variables p.layer (length names)) ++ environment) body (giving_out (length names) p.layer))
 statement_effect p environment (Some (Equate left right)) = tells p (Equal (bound environment left) (bound environment right))
 statement_effect p environment (Some (Bind name v)) = tells p (Is (bound environment name) (value.Constant v))
-statement_effect p environment (Some (BindTuple name label fields)) =
-    tells p (Is (bound environment name) (value.Tuple (record { label = label; fields = map (bound environment) fields })))
+statement_effect p environment (Some (BindRecord name label features fields)) =
+    tells p (Is (bound environment name) (value.Record (record { label = label; features = features; fields = map (bound environment) fields })))
 statement_effect p environment (Some (BindProcedure name parameters body)) =
     tells_then p (Is (bound environment name) (value.Procedure (procedure_made p environment parameters body))) counting_procedure
 statement_effect p environment (Some (Call procedure arguments)) =
     call_effect p (value_of p.view (bound environment procedure)) (map (bound environment) arguments)
 statement_effect p environment (Some (Choice alternatives)) = Becomes p.layer
+statement_effect p environment (Some (If condition accepted otherwise)) = if_effect p environment (value_of p.view (bound environment condition)) accepted otherwise
+statement_effect p environment (Some (Case subject pattern accepted otherwise)) =
+    case_effect p environment (matched p.view pattern (bound environment subject ∷ []) environment) accepted otherwise
+statement_effect p environment (Some NoMatch) = Raises NoElse
 statement_effect p environment None = Becomes p.layer
 
 abbrev pub code_effect : List Statement → Place → Frame → Code → Effect

@@ -45,9 +45,9 @@ abbrev pub with_word : List (List ℕ) → Option (List ℕ) → List (List ℕ)
 with_word words None = words
 with_word words (Some word) = with_text words word
 
--- word 0
+-- words 0 and 1
 abbrev pub first_words : List (List ℕ)
-first_words = codes "Script" ∷ []
+first_words = codes "Script" ∷ codes "Show" ∷ []
 
 abbrev pub joining : List ℕ → List (List ℕ) → Lexeme → List (List ℕ)
 joining text words l = with_word words (word_in l.sort (bytes_of text l))
@@ -72,19 +72,24 @@ literal_in words word = atom_or words word (constant_of word)
 -- an opener or an operator, of which no production of the grammar speaks yet
 abbrev pub deepening : List (List ℕ)
 deepening =
-    codes "if" ∷ codes "case" ∷ codes "thread" ∷ codes "try" ∷ codes "fun" ∷ codes "raise" ∷ codes "elseif" ∷ codes "(" ∷ codes "["
+    codes "thread" ∷ codes "try" ∷ codes "fun" ∷ codes "raise" ∷ codes "elseif" ∷ codes "(" ∷ codes "["
     ∷ codes "orelse" ∷ codes "andthen" ∷ codes "==" ∷ codes "\\=" ∷ codes "<" ∷ codes "=<" ∷ codes ">" ∷ codes ">=" ∷ codes "|"
     ∷ codes "#" ∷ codes "+" ∷ codes "-" ∷ codes "*" ∷ codes "div" ∷ codes "mod" ∷ codes "." ∷ []
 
 -- the tokens that productions name
 abbrev pub known : List (List ℕ × Token)
 known =
-    (codes "{", token.OpenBrace) ∷ (codes "}", token.CloseBrace) ∷ (codes ")", token.CloseParen) ∷ (codes "=", token.Equals)
-    ∷ (codes "[]", token.Box) ∷ (codes "choice", token.Choice) ∷ (codes "end", token.End) ∷ (codes "fail", token.Fail)
-    ∷ (codes "in", token.In) ∷ (codes "local", token.Local) ∷ (codes "proc", token.Proc) ∷ (codes "skip", token.Skip) ∷ []
+    (codes "{", token.OpenBrace) ∷ (codes "}", token.CloseBrace) ∷ (codes ")", token.CloseParen) ∷ (codes ":", token.Colon)
+    ∷ (codes "=", token.Equals) ∷ (codes "[]", token.Box) ∷ (codes "case", token.Case) ∷ (codes "choice", token.Choice)
+    ∷ (codes "else", token.Else) ∷ (codes "end", token.End) ∷ (codes "fail", token.Fail) ∷ (codes "if", token.If)
+    ∷ (codes "in", token.In) ∷ (codes "local", token.Local) ∷ (codes "of", token.Of) ∷ (codes "proc", token.Proc)
+    ∷ (codes "skip", token.Skip) ∷ (codes "then", token.Then) ∷ []
 
 abbrev pub fixed_token : List ℕ → Token
 fixed_token bytes = unwrap_or (option_map (λ (p : List ℕ × Token). p.1) (find (λ (p : List ℕ × Token). list_eq bytes p.0) known)) (token.Other (list_any (list_eq bytes) deepening))
+
+abbrev pub symbol_token : ℕ → List ℕ → Token
+symbol_token at bytes = if list_eq bytes (codes "_") then token.Any at else fixed_token bytes
 
 -- Integers
 
@@ -97,27 +102,27 @@ minus zero = pos zero
 minus (suc n) = negsuc n
 
 -- one past the limits stands in no production
-abbrev pub positive_token : ℕ → Token
-positive_token n = if nat_lt n integer_limit then token.Int (pos n) else token.Other false
+abbrev pub positive_token : ℕ → ℕ → Token
+positive_token at n = if nat_lt n integer_limit then token.Int (pos n) at else token.Other false
 
-abbrev pub negative_token : ℕ → Token
-negative_token n = if nat_le n integer_limit then token.Int (minus n) else token.Other false
+abbrev pub negative_token : ℕ → ℕ → Token
+negative_token at n = if nat_le n integer_limit then token.Int (minus n) at else token.Other false
 
-abbrev pub int_token : List ℕ → Token
-int_token [] = token.Other false
-int_token (b ∷ bs) = if b == 126 then negative_token (digits_value 10 bs) else positive_token (digits_value 10 (b ∷ bs))
+abbrev pub int_token : ℕ → List ℕ → Token
+int_token at [] = token.Other false
+int_token at (b ∷ bs) = if b == 126 then negative_token at (digits_value 10 bs) else positive_token at (digits_value 10 (b ∷ bs))
 
 -- Tokens
 
-abbrev pub word_token : List (List ℕ) → List ℕ → Token
-word_token words word = if is_reserved word then fixed_token word else token.Literal (literal_in words word)
+abbrev pub word_token : List (List ℕ) → ℕ → List ℕ → Token
+word_token words at word = if is_reserved word then fixed_token word else token.Literal (literal_in words word) at
 
 abbrev pub token_by : List (List ℕ) → ℕ → List ℕ → Sort → Token
 token_by words at bytes sort.Var = token.Var (number_of words bytes) at
-token_by words at bytes sort.Word = word_token words bytes
-token_by words at bytes sort.Label = token.Label (literal_in words (without_last bytes))
-token_by words at bytes sort.Int = int_token bytes
-token_by words at bytes sort.Symbol = fixed_token bytes
+token_by words at bytes sort.Word = word_token words at bytes
+token_by words at bytes sort.Label = token.Label (literal_in words (without_last bytes)) at
+token_by words at bytes sort.Int = int_token at bytes
+token_by words at bytes sort.Symbol = symbol_token at bytes
 
 abbrev pub token_in : List (List ℕ) → List ℕ → Lexeme → Token
 token_in words text l = token_by words l.at (bytes_of text l) l.sort

@@ -6,4 +6,6 @@ pub enum Command {
     /// `all`: the leaves of the search of a script, by that many workers (1) and for no more than that many steps
     /// (1 to 281474976710656).
     All { workers: u32, budget: u64 },
+    /// `run`: what the program shows, for no more than that many steps (1 to 281474976710656).
+    Run { budget: u64 },
 }

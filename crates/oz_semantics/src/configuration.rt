@@ -82,36 +82,47 @@ impl Copies for Procedure {
     }
 }
 
-/// A tuple: a label, and a variable for each of the features 1, 2, ..
+/// A record: a label, its features in the order of arities, and a variable for each of them.
 #[derive(Drop)]
-pub struct Tuple {
+pub struct Record {
     pub label: Literal,
+    pub features: Sequence<Constant>,
     pub fields: Sequence<Ident>,
 }
 
-impl Copies for Tuple {
+impl Copies for Record {
     fn copied(&self, alloc: Global) -> Result<Self, AllocError> {
-        Ok(Tuple {
+        Ok(Record {
             label: self.label,
+            features: self.features.copied(alloc)?,
             fields: self.fields.copied(alloc)?,
         })
     }
+}
+
+/// A procedure of the language itself.
+#[derive(Clone, Copy, Debug, PartialEq, Eq)]
+pub enum Builtin {
+    /// `Show`, of one parameter: writes the text of a term as a line.
+    Show,
 }
 
 /// A value of the language.
 #[derive(Drop)]
 pub enum Value {
     Constant(Constant),
-    Tuple(Tuple),
+    Record(Record),
     Procedure(Procedure),
+    Builtin(Builtin),
 }
 
 impl Copies for Value {
     fn copied(&self, alloc: Global) -> Result<Self, AllocError> {
         match self {
             Value::Constant(constant) => Ok(Value::Constant(*constant)),
-            Value::Tuple(tuple) => Ok(Value::Tuple(tuple.copied(alloc)?)),
+            Value::Record(record) => Ok(Value::Record(record.copied(alloc)?)),
             Value::Procedure(procedure) => Ok(Value::Procedure(procedure.copied(alloc)?)),
+            Value::Builtin(builtin) => Ok(Value::Builtin(*builtin)),
         }
     }
 }
@@ -195,11 +206,13 @@ impl Copies for Layer {
     }
 }
 
-/// A layer for each space, in the order of their names, and the queue of the threads that can step.
+/// A layer for each space, in the order of their names, the queue of the threads that can step, and the texts that were
+/// shown.
 #[derive(Drop)]
 pub struct Configuration {
     pub layers: Sequence<Layer>,
     pub queue: Sequence<Ident>,
+    pub shown: Sequence<Sequence<u8>>,
 }
 
 impl Copies for Configuration {
@@ -207,6 +220,7 @@ impl Copies for Configuration {
         Ok(Configuration {
             layers: self.layers.copied(alloc)?,
             queue: self.queue.copied(alloc)?,
+            shown: self.shown.copied(alloc)?,
         })
     }
 }

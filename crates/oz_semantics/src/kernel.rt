@@ -26,6 +26,27 @@ pub enum Constant {
     Literal(Literal),
 }
 
+impl Copies for Constant {
+    fn copied(&self, _alloc: Global) -> Result<Self, AllocError> {
+        Ok(*self)
+    }
+}
+
+/// A node of a pattern. A pattern is the list of its nodes, each before those inside it, in the order in which a match goes
+/// through them.
+#[derive(Drop)]
+pub enum Piece {
+    Variable(Name),
+    /// `_`
+    Any,
+    Constant(Constant),
+    /// `l(F ..)`, by its label and the features of its fields in the order of arities. The fields' own nodes follow.
+    Record {
+        label: Literal,
+        features: Sequence<Constant>,
+    },
+}
+
 /// A kernel statement. A body is the list of the numbers of its statements, in their order.
 #[derive(Drop)]
 pub enum Statement {
@@ -46,10 +67,11 @@ pub enum Statement {
         name: Name,
         value: Constant,
     },
-    /// `X=l(Y ..)`, with one field at least.
-    BindTuple {
+    /// `X=l(F:Y ..)`, with one field at least. The features stand in the order of arities.
+    BindRecord {
         name: Name,
         label: Literal,
+        features: Sequence<Constant>,
         fields: Sequence<Name>,
     },
     /// `X=proc {$ Y ..} S .. end`
@@ -67,12 +89,27 @@ pub enum Statement {
     Choice {
         alternatives: Sequence<Sequence<u32>>,
     },
+    /// `if X then S .. else S .. end`
+    If {
+        condition: Name,
+        accepted: Sequence<u32>,
+        otherwise: Sequence<u32>,
+    },
+    /// `case X of P then S .. else S .. end`
+    Case {
+        subject: Name,
+        pattern: Sequence<Piece>,
+        accepted: Sequence<u32>,
+        otherwise: Sequence<u32>,
+    },
+    /// No clause of a `case` matches.
+    NoMatch,
 }
 
 /// A program in kernel form.
 #[derive(Drop)]
 pub struct Kernel {
-    /// The texts of names and atoms, each once. The first is `Script`.
+    /// The texts of names and atoms, each once. The first two are `Script` and `Show`.
     pub words: Sequence<Sequence<u8>>,
     pub statements: Sequence<Statement>,
     /// What the program itself does.

@@ -1,9 +1,9 @@
 //! What the language means: the plain data that the definitions in `specs/` speak of.
 //!
-//! The definitions, in the order in which to read them: `Names`, `Values`, `Kernels`, `Store`, `Configurations`,
-//! `Statements`, `Spaces`, `Schedule`, `Texts`, `Runs`, `Search`, `Tokens`, `Grammar`, `Translation`, `Replies`. Those of
-//! finite domains stand apart: `Domains`, `Positions`, `Relations`, `Passes`, `Splits`. So do those of a search that workers
-//! share: `Paths`, `Trees`, `Histories`, `Leaves`.
+//! The definitions, in the order in which to read them: `Names`, `Values`, `Arities`, `Kernels`, `Store`, `Matching`,
+//! `Configurations`, `Statements`, `Spaces`, `Schedule`, `Texts`, `Runs`, `Search`, `Tokens`, `Wording`, `Grammar`, `Refusals`,
+//! `Translation`, `Commands`, `Replies`. Those of finite domains stand apart: `Domains`, `Positions`, `Relations`, `Passes`,
+//! `Splits`. So do those of a search that workers share: `Paths`, `Trees`, `Histories`, `Leaves`.
 #![tactic(auto)]
 
 mod command;
@@ -16,11 +16,11 @@ mod tree;
 
 pub use command::Command;
 pub use configuration::{
-    Binding, Code, Configuration, Environment, Frame, Layer, Next, Procedure, Status, Tell, Thread,
-    Tuple, Value,
+    Binding, Builtin, Code, Configuration, Environment, Frame, Layer, Next, Procedure, Record,
+    Status, Tell, Thread, Value,
 };
 pub use history::{Entry, Halt, StopCause};
-pub use kernel::{Constant, Kernel, Name, Statement};
+pub use kernel::{Constant, Kernel, Name, Piece, Statement};
 pub use outcome::{Cause, Fault, Leaf, Raise, RefusalKind, State, Stepped};
 pub use token::{Lexeme, Literal, Sort, Token};
 pub use tree::{Kind, Outcome, Report};

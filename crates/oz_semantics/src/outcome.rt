@@ -14,6 +14,12 @@ pub enum Raise {
     Apply,
     /// A call with another number of arguments: `error(kernel(arity))`.
     Arity,
+    /// The condition of an `if` is neither `true` nor `false`: `error(kernel(boolean))`.
+    Boolean,
+    /// No clause of a `case` matches: `error(kernel(noElse))`.
+    NoElse,
+    /// A child space may not show: `error(kernel(globalState io))`.
+    GlobalIo,
 }
 
 /// What a turn of the machine was. The cost is in steps.
@@ -57,7 +63,7 @@ pub enum RefusalKind {
     Syntax,
     /// A variable has no binding in scope.
     Unbound,
-    /// A parameter stands twice in one head.
+    /// A parameter stands twice in one head, a variable in one pattern, or a feature in one record.
     Linear,
 }
 

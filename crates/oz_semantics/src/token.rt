@@ -31,29 +31,38 @@ pub enum Literal {
     Unit,
 }
 
-/// A token as the grammar sees it.
+/// A token as the grammar sees it. Where a place is needed later, it is that of the token's first byte.
 #[derive(Clone, Copy, Debug, PartialEq, Eq)]
 pub enum Token {
-    /// A variable: its number among the words, and the place of its first byte.
+    /// A variable, by its number among the words.
     Var { name: u32, at: usize },
+    /// `_`
+    Any { at: usize },
     /// An integer from -2^127 to 2^127-1.
-    Int(i128),
-    Literal(Literal),
+    Int { value: i128, at: usize },
+    Literal { literal: Literal, at: usize },
     /// A literal with `(` directly behind it.
-    Label(Literal),
+    Label { literal: Literal, at: usize },
     OpenBrace,
     CloseBrace,
     CloseParen,
+    /// `:`
+    Colon,
     Equals,
     /// `[]`
     Box,
+    Case,
     Choice,
+    Else,
     End,
     Fail,
+    If,
     In,
     Local,
+    Of,
     Proc,
     Skip,
+    Then,
     /// A token of no production, and whether it would open or operate on something.
     Other { deepens: bool },
 }

@@ -196,11 +196,12 @@ module _ (ts : List Tell) (f f' : Ident → Class) (Rep Rep' : ℕ → ℕ → T
             h.paired n q r y z v w (rep' n q c).0 (rep' n r d).0 p s l g (λ x u e. k x u (m.keeps x u e)) (Joins-push g ps a b j (k a b m.joins));
       }
 
--- Values of one label and width have as many fields
+-- Values that are alike have as many fields
 pub like_length : (v w : Value) → is_like v w ≡ true → length (fields_of v) ≡ length (fields_of w)
 like_length (value.Constant a) (value.Constant b) e = refl
-like_length (value.Tuple a) (value.Tuple b) e = eq-true (length a.fields) (length b.fields) (and-right _ _ e)
+like_length (value.Record a) (value.Record b) e = eq-true (length a.fields) (length b.fields) (and-right _ _ (and-right _ _ e))
 like_length (value.Procedure a) (value.Procedure b) e = refl
+like_length (value.Builtin a) (value.Builtin b) e = refl
 like_length v w e = absurd (false≢true e)
 
 -- A place that waited is looked at: no value of its class is like its value

@@ -3,3 +3,5 @@ pub mod ClosingLaws
 pub mod TableLaws
 mod JoinLaws
 mod SeenLaws
+mod ArityLaws
+mod PlaceLaws

@@ -1,22 +1,22 @@
 -- What a closed table answers: which variables are one, their values, and whether all is consistent.
-use Rattle.std.proofs.Common.{ℕ, zero, suc, ◌≡◌, ◌∙◌, ◌<◌, ◌≤◌, Bool, true, false, if◌then◌else◌, List, [], ◌∷◌, length, Option, Some, None, refl, sym, ap, ap₂, subst, arith, slice_get, Contains}
+use Rattle.std.proofs.Common.{ℕ, zero, suc, ◌≡◌, ◌∙◌, ◌<◌, ◌≤◌, Bool, true, false, if◌then◌else◌, List, [], ◌∷◌, length, Option, Some, None, is_some, refl, sym, ap, ap₂, subst, arith, slice_get, Contains, MatchOption}
 use Rattle.std.specs.List.{list_all}
 use Rattle.std.proofs.lemmas.Bool.{false≢true}
 use Rattle.std.proofs.lemmas.List.{get_or_default}
 use Rattle.std.proofs.lemmas.List.Elements.{Contains-get_or}
-use Rattle.oz_base.specs.Lists.{first_given, given_or}
 use Rattle.oz_base.specs.declared.names.Ident.{Ident}
 use Rattle.oz_laws.proofs.SameLaws.{and-left, and-right}
 use Rattle.oz_laws.proofs.AlikeLaws.{alike-sym, alike-trans}
-use Rattle.oz_semantics.specs.Store.{Same, IsConsistent, same, value_given, value_of, is_consistent, TestsSame, TestsConsistent}
+use Rattle.oz_semantics.specs.Store.{Same, IsConsistent, same, value_given, is_consistent, TestsSame, TestsConsistent}
 use Rattle.oz_semantics.specs.Values.{is_like}
 use Rattle.oz_semantics.specs.declared.configuration.Value.{Value}
 use Rattle.oz_semantics.specs.declared.configuration.Tell.{Tell}
 use Rattle.oz_semantics.specs.declared.configuration.Tell.TheVariants.{Equal, Is}
 use Rattle.oz_store.specs.Classes.{Table, number_in, class_or, class_of, values_at}
 use Rattle.oz_store.specs.Closing.{Going}
-use Rattle.oz_store.specs.Places.{value_told, alike_with, alike, are_alike}
+use Rattle.oz_store.specs.Places.{value_told, gives_value, value_place, alike_with, alike, are_alike}
 use Rattle.oz_store.proofs.ClosingLaws.{Has, has, closing_ends, none_in, head_in, tail_in, place_in, in_place}
+use Rattle.oz_store.proofs.PlaceLaws.{place_found, place_absent}
 use Rattle.oz_store.proofs.TableLaws.{Shape, class_within, number_inj, apart}
 
 same_bool : (a b : Bool) → (a ≡ true → b ≡ true) → (b ≡ true → a ≡ true) → a ≡ b
@@ -35,20 +35,6 @@ module _ {A : Type 0} where
   passes_all : (p : A → Bool) (xs : List A) → ((x : A) → Contains xs x → p x ≡ true) → list_all p xs ≡ true
   passes_all p [] h = refl
   passes_all p (y ∷ ys) h = rw (h y (head_in y ys)) (passes_all p ys (λ x c. h x (tail_in y x ys c)))
-
--- The first that gives something
-
-module _ {A B : Type 0} where
-  first_none : (f : A → Option B) (xs : List A) → ((k : ℕ) (x : A) → slice_get xs k ≡ Some x → f x ≡ None) → first_given f xs ≡ None
-  first_none f [] h = refl
-  first_none f (x ∷ xs) h = ap (λ o. given_or o (first_given f xs)) (h 0 x refl) ∙ first_none f xs (λ k y e. h (suc k) y e)
-
-  first_at : (f : A → Option B) (xs : List A) (p : ℕ) (x : A) (v : B) → slice_get xs p ≡ Some x → f x ≡ Some v → ((k : ℕ) (y : A) → k < p → slice_get xs k ≡ Some y → f y ≡ None) → first_given f xs ≡ Some v
-  first_at f [] p x v at e h = absurd (cc)
-  first_at f (y ∷ ys) zero x v at e h =
-      let k : y ≡ x = cc in
-      ap (λ o. given_or o (first_given f ys)) (ap f k ∙ e)
-  first_at f (y ∷ ys) (suc p) x v at e h = ap (λ o. given_or o (first_given f ys)) (h 0 y (omega arith) refl) ∙ first_at f ys p x v at e (λ k z l q. h (suc k) z (omega (arith, l)) q)
 
 -- Likeness of places
 
@@ -90,10 +76,13 @@ module _ (ts : List Tell) (t : Table) (h : Going ts t [] []) (law : TestsSame) w
       by true e = absurd (never y w refl ((law ts y x).0 e))
       by false e = refl
 
-  pub value_unnumbered : (x : Ident) → number_in t x ≡ None → value_of ts x ≡ None
-  value_unnumbered x e = first_none (value_given (λ y. same ts y x)) ts (λ k u at. not_given x u (λ y w is s.
-      let o = stood k y w (at ∙ ap (λ z. Some z) is) in
-      apart o.number x (sym o.class ∙ one_class y x s ∙ ap (class_or x) e)))
+  no_place : (x : Ident) → ((k : ℕ) (y : Ident) (w : Value) → slice_get ts k ≡ Some (Is y w) → Same ts y x → ⊥) → value_place ts x ≡ None
+  no_place x never = place_absent (gives_value ts x) ts (λ k u at. ap is_some (not_given x u (λ y w is s. never k y w (at ∙ ap (λ z. Some z) is) s)))
+
+  pub place_unnumbered : (x : Ident) → number_in t x ≡ None → value_place ts x ≡ None
+  place_unnumbered x e = no_place x (λ k y w at s.
+      let o = stood k y w at in
+      apart o.number x (sym o.class ∙ one_class y x s ∙ ap (class_or x) e))
 
   in_class : (x y : Ident) (n k : ℕ) (w : Value) → number_in t x ≡ Some n → slice_get ts k ≡ Some (Is y w) → Same ts y x → (place : ℕ) × Contains (values_at t n) place × (place ≤ k)
   in_class x y n k w e at s =
@@ -101,20 +90,25 @@ module _ (ts : List Tell) (t : Table) (h : Going ts t [] []) (law : TestsSame) w
       let m : o.number ≡ n = number_inj o.number n (sym o.class ∙ one_class y x s ∙ ap (class_or x) e) in
       (o.place, subst (λ i. Contains (values_at t i) o.place) m o.rep, o.early)
 
-  pub value_unplaced : (x : Ident) (n : ℕ) → number_in t x ≡ Some n → values_at t n ≡ [] → value_of ts x ≡ None
-  value_unplaced x n e none = first_none (value_given (λ y. same ts y x)) ts (λ k u at. not_given x u (λ y w is s.
-      let o = in_class x y n k w e (at ∙ ap (λ z. Some z) is) s in
-      none_in o.0 (subst (λ (vs : List ℕ). Contains vs o.0) none o.1)))
+  place_unplaced : (x : Ident) (n : ℕ) → number_in t x ≡ Some n → values_at t n ≡ [] → value_place ts x ≡ None
+  place_unplaced x n e none = no_place x (λ k y w at s.
+      let o = in_class x y n k w e at s in
+      none_in o.0 (subst (λ (vs : List ℕ). Contains vs o.0) none o.1))
 
-  pub value_placed : (x : Ident) (n p : ℕ) → number_in t x ≡ Some n → Contains (values_at t n) p → ((q : ℕ) → Contains (values_at t n) q → p ≤ q) → value_of ts x ≡ value_told (slice_get ts p)
-  value_placed x n p e c least =
+  place_placed : (x : Ident) (n p : ℕ) → number_in t x ≡ Some n → Contains (values_at t n) p → ((q : ℕ) → Contains (values_at t n) q → p ≤ q) → value_place ts x ≡ Some p
+  place_placed x n p e c least =
       let o = h.closing.reps n p c in
       let s : Same ts o.gives.variable x = h.closing.sound o.gives.variable x (o.class ∙ sym (ap (class_or x) e)) in
-      first_at (value_given (λ y. same ts y x)) ts p (Is o.gives.variable o.gives.value) o.gives.value o.gives.told (ap (λ (b : Bool). if b then Some o.gives.value else None) ((law ts o.gives.variable x).1 s))
-      (λ k u l at. not_given x u (λ y w is same_class.
+      place_found (gives_value ts x) ts p (Is o.gives.variable o.gives.value) o.gives.told (ap (λ (b : Bool). is_some (if b then Some o.gives.value else None)) ((law ts o.gives.variable x).1 s))
+      (λ k u l at. ap is_some (not_given x u (λ y w is same_class.
       let i = in_class x y n k w e (at ∙ ap (λ z. Some z) is) same_class in
-      omega (arith, l, i.2, least i.0 i.1)))
-      ∙ sym (ap value_told o.gives.told)
+      omega (arith, l, i.2, least i.0 i.1))))
+
+  -- by the least of the places that stand for the class
+  pub place_by : (x : Ident) (n : ℕ) (places : List ℕ) (o : Option ℕ) → number_in t x ≡ Some n → places ≡ values_at t n → MatchOption o (places ≡ []) (λ p. Contains places p × ((q : ℕ) → Contains places q → p ≤ q)) → o ≡ value_place ts x
+  place_by x n places None e is m = sym (place_unplaced x n e (sym is ∙ m))
+  place_by x n places (Some p) e is m =
+      sym (place_placed x n p e (subst (λ (vs : List ℕ). Contains vs p) is m.0) (λ q d. m.1 q (subst (λ (vs : List ℕ). Contains vs q) (sym is) d)))
 
   -- Whether all is consistent
 

@@ -9,19 +9,10 @@ ghost use Rattle.oz_store.specs.Closing.{Going, TakesIn, IsLast, width_of, width
 ghost use Rattle.oz_store.specs.Places.{fields_at, like_at, joined_places, pairs_with};
 
 use crate::classes::Classes;
-use crate::values::is_like;
+use crate::values::{fields_of, is_like};
 use oz_base::{Copies, Ident};
 use oz_semantics::{Tell, Value};
 use std::alloc::{AllocError, Global};
-
-fn fields_of(value: &Value) -> &[Ident]
-    ensures { result.now ≡ fields_of value.now }
-{
-    match value {
-        Value::Tuple(tuple) => tuple.fields.as_slice(),
-        _ => &[],
-    }
-}
 
 /// The fields of the value that is told at a place.
 fn fields_at(tells: &[Tell], place: usize) -> &[Ident]

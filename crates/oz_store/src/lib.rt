@@ -4,8 +4,10 @@
 
 mod classes;
 mod closing;
+mod places;
 mod seen;
 mod values;
 
+pub use places::place_law;
 pub use seen::{Seen, seen_by};
-pub use values::{is_like, literal_eq};
+pub use values::{constant_eq, fields_of, is_like, literal_eq, same_arity};

@@ -4,7 +4,7 @@ ghost use Rattle.std.specs.List.{starts_with, list_all};
 ghost use Rattle.oz_semantics.specs.Names.{is_below};
 ghost use Rattle.oz_semantics.specs.Store.{same, value_of, is_determined, is_consistent};
 ghost use Rattle.oz_semantics.specs.Configurations.{view};
-ghost use Rattle.oz_store.specs.Places.{value_told, alike, are_alike};
+ghost use Rattle.oz_store.specs.Places.{value_told, value_place, alike, are_alike};
 
 use crate::classes::Classes;
 use crate::closing::close_last;
@@ -87,13 +87,21 @@ impl Seen {
         self.classes.are_one(left, right)
     }
 
+    /// The place among the tells of the first value that was told of a variable equal to this one. Only the values that were told
+    /// of such variables are looked at.
+    pub fn value_place(&self, variable: &Ident) -> Option<usize>
+        ensures { result ≡ value_place self.now variable.now }
+    {
+        oz_laws::tests_same();
+        let number = self.classes.number(variable)?;
+        earliest(self.classes.values(number))
+    }
+
     /// The value of a variable: the first one that was told of a variable equal to it.
     pub fn value(&self, variable: &Ident) -> Option<&Value>
         ensures { option_copied result ≡ value_of self.now variable.now }
     {
-        oz_laws::tests_same();
-        let number = self.classes.number(variable)?;
-        let place = earliest(self.classes.values(number))?;
+        let place = self.value_place(variable)?;
         value_at(self.tells.as_slice(), place)
     }
 

@@ -1,9 +1,9 @@
 //! What tells two values apart.
 ghost use Rattle.std.specs.Prelude.{◌≡◌};
-ghost use Rattle.oz_semantics.specs.Values.{literal_eq, constant_eq, is_like};
+ghost use Rattle.oz_semantics.specs.Values.{literal_eq, constant_eq, same_arity, same_form, builtin_eq, is_like, fields_of};
 
-use oz_base::same_ident;
-use oz_semantics::{Constant, Literal, Value};
+use oz_base::{Ident, same_ident};
+use oz_semantics::{Builtin, Constant, Literal, Record, Value};
 
 /// Whether two literals are one.
 pub fn literal_eq(left: Literal, right: Literal) -> bool
@@ -18,7 +18,8 @@ pub fn literal_eq(left: Literal, right: Literal) -> bool
     }
 }
 
-fn constant_eq(left: Constant, right: Constant) -> bool
+/// Whether two integers or literals are one.
+pub fn constant_eq(left: Constant, right: Constant) -> bool
     ensures { result ≡ constant_eq left right }
 {
     match (left, right) {
@@ -28,17 +29,50 @@ fn constant_eq(left: Constant, right: Constant) -> bool
     }
 }
 
-/// Whether two values are one but for their fields: one integer or literal, one procedure, or tuples of one label and as many
-/// fields.
+/// Whether two lists of features are one arity.
+pub fn same_arity(left: &[Constant], right: &[Constant]) -> bool
+    ensures { result ≡ same_arity left.now right.now }
+{
+    left.len() == right.len() && left.iter().zip(right).all(|(f, g)| constant_eq(*f, *g))
+}
+
+/// Whether two records are of one label and one arity, with as many fields.
+fn same_form(left: &Record, right: &Record) -> bool
+    ensures { result ≡ same_form left.now right.now }
+{
+    literal_eq(left.label, right.label)
+        && same_arity(left.features.as_slice(), right.features.as_slice())
+        && left.fields.len() == right.fields.len()
+}
+
+fn builtin_eq(left: Builtin, right: Builtin) -> bool
+    ensures { result ≡ builtin_eq left right }
+{
+    match (left, right) {
+        (Builtin::Show, Builtin::Show) => true,
+    }
+}
+
+/// Whether two values are one but for their fields: one integer or literal, one procedure, or records of one label and
+/// one arity.
 pub fn is_like(left: &Value, right: &Value) -> bool
     ensures { result ≡ is_like left.now right.now }
 {
     match (left, right) {
         (Value::Constant(a), Value::Constant(b)) => constant_eq(*a, *b),
-        (Value::Tuple(a), Value::Tuple(b)) => {
-            literal_eq(a.label, b.label) && a.fields.len() == b.fields.len()
-        }
+        (Value::Record(a), Value::Record(b)) => same_form(a, b),
         (Value::Procedure(a), Value::Procedure(b)) => same_ident(&a.name, &b.name),
+        (Value::Builtin(a), Value::Builtin(b)) => builtin_eq(*a, *b),
         _ => false,
+    }
+}
+
+/// The variables in the fields of a value.
+pub fn fields_of(value: &Value) -> &[Ident]
+    ensures { result.now ≡ fields_of value.now }
+{
+    match value {
+        Value::Record(record) => record.fields.as_slice(),
+        _ => &[],
     }
 }

@@ -8,13 +8,12 @@ use Rattle.oz_semantics.specs.Runs.{Ran, Ended, TopRaised, Over, run, opening}
 use Rattle.oz_semantics.specs.Search.{Found, depth_first, has_script, script_variable, search_space, with_root}
 use Rattle.oz_semantics.specs.Refusals.{Program, Accepts, IsRefused}
 use Rattle.oz_semantics.specs.Translation.{kernel_of}
-use Rattle.oz_semantics.specs.Commands.{IsUsage, AsksAll}
-use Rattle.oz_semantics.specs.Replies.{Answer, IsReply, Searches, line, spent, text_limit, usage_reply, too_large_reply, leaves_reply, refused_reply, answer_of_tree, answer_of_raise, answer_of_top, answer_to}
+use Rattle.oz_semantics.specs.Commands.{Spells, IsUsage}
+use Rattle.oz_semantics.specs.Replies.{Answer, IsReply, IsTextReply, Searches, line, shown_lines, spent, text_limit, usage_reply, too_large_reply, refused_reply, answer_of_tree, answer_of_raise, searched, answer_of_top, all_answer, run_answer}
 use Rattle.oz_semantics.specs.declared.command.Command.{Command}
 use Rattle.oz_semantics.specs.declared.command.Command.TheVariants as commands
 use Rattle.oz_semantics.specs.declared.kernel.Kernel.{Kernel}
 use Rattle.oz_semantics.specs.declared.outcome.Fault.{Fault}
-use Rattle.oz_semantics.specs.declared.outcome.Leaf.{Leaf}
 use Rattle.oz_semantics.specs.declared.configuration.Configuration.{Configuration}
 use Rattle.oz_semantics.specs.declared.outcome.State.{State}
 use Rattle.oz_semantics.specs.declared.outcome.Cause.{Cause}
@@ -22,13 +21,13 @@ use Rattle.oz_semantics.specs.declared.outcome.Cause.TheVariants as causes
 use Rattle.oz_machine.specs.Machines.{Loaded}
 use Rattle.oz_machine.specs.Answers.{IsRun}
 use Rattle.oz_machine.specs.declared.machine.Ran.TheVariants as ran
-use Rattle.oz_top.specs.Call.{Reading, Writing, HasRead, ProgramGives, TextGives, ReadGives, AsText, budget_in, IsCommand, Asks, Plans, IsDue, IsRead, Ends, IsExcused}
+use Rattle.oz_top.specs.Call.{Reading, Writing, answer_of, HasRead, ProgramGives, TextGives, ReadGives, AsText, IsCommand, Plans, IsDue, IsRead, Ends, IsExcused}
 
 -- a text gives the plan of the call
-pub plans_text : (words : List (List ℕ)) (old new : Reading) (text : List ℕ) (budget : ℕ) (cause : Cause) (reply : List ℕ) → Asks words budget → HasRead old new text → TextGives text budget cause reply → Plans words old new cause reply
-plans_text words old new text budget cause reply w r g = by cause (record { budget = budget; asked = w.asked; text = text; read = r; gives = g }) g
+pub plans_text : (words : List (List ℕ)) (old new : Reading) (text : List ℕ) (k : Command) (cause : Cause) (reply : List ℕ) → IsCommand words k → HasRead old new text → TextGives text k cause reply → Plans words old new cause reply
+plans_text words old new text k cause reply w r g = by cause (record { asked = k; spelled = w.spelled; text = text; read = r; gives = g }) g
   where
-    by : (c : Cause) → ReadGives words old new c reply → TextGives text budget c reply → Plans words old new c reply
+    by : (c : Cause) → ReadGives words old new c reply → TextGives text k c reply → Plans words old new c reply
     by causes.Done r g = r
     by (causes.Raised shown) r g = r
     by (causes.Refused fault) r g = r
@@ -58,73 +57,76 @@ own_if : (b : Bool) (x y : Answer) → IsOwn x → IsOwn y → IsOwn (cond b x y
 own_if true x y h k = h
 own_if false x y h k = k
 
-own_tree : (budget : ℕ) (f : Found) → IsOwn (answer_of_tree budget f)
-own_tree budget None = tt
-own_tree budget (Some (leaves, left)) = tt
+own_tree : (shown : List ℕ) (budget : ℕ) (f : Found) → IsOwn (answer_of_tree shown budget f)
+own_tree shown budget None = tt
+own_tree shown budget (Some (leaves, left)) = tt
 
-own_raise : (budget left : ℕ) (printed : Printed) → IsOwn (answer_of_raise budget left printed)
-own_raise budget left printed = own_if (nat_le printed.nodes left) (causes.Raised printed.bytes, line (codes "raised " ++ printed.bytes)) (spent budget) tt tt
+own_raise : (shown : List ℕ) (budget left : ℕ) (printed : Printed) → IsOwn (answer_of_raise shown budget left printed)
+own_raise shown budget left printed =
+    own_if (nat_le printed.nodes left) (causes.Raised printed.bytes, shown ++ line (codes "raised " ++ printed.bytes)) (spent shown budget) tt tt
 
-own_top : (k : Kernel) (budget : ℕ) (r : Ran) → IsOwn (answer_of_top k budget r)
-own_top k budget (Over c) = tt
-own_top k budget (TopRaised c left raise) = own_raise budget left (raise_text raise)
-own_top k budget (Ended c left) = own_if (has_script c) _ _ (own_tree budget (depth_first k (search_space c) (with_root k.statements script_variable c) left)) tt
+own_searched : (k : Kernel) (budget : ℕ) (c : Configuration) (left : ℕ) → IsOwn (searched k budget c left)
+own_searched k budget c left =
+    own_if (has_script c) _ _ (own_tree (shown_lines c) budget (depth_first k (search_space c) (with_root k.statements script_variable c) left)) tt
 
-own_answer : (k : Kernel) (budget : ℕ) → IsOwn (answer_to k budget)
-unfolding answer_to
-own_answer k budget = own_top k budget (run k.statements [] (opening k) budget)
+own_top : (rest : Configuration → ℕ → Answer) (budget : ℕ) → ((c : Configuration) (left : ℕ) → IsOwn (rest c left)) → (r : Ran) → IsOwn (answer_of_top rest budget r)
+own_top rest budget h (Over c) = tt
+own_top rest budget h (TopRaised c left raise) = own_raise (shown_lines c) budget left (raise_text raise)
+own_top rest budget h (Ended c left) = h c left
 
-gives_own : (text : List ℕ) (budget : ℕ) (cause : Cause) (reply : List ℕ) → IsOwn (cause, reply) → ProgramGives text budget (cause, reply) → TextGives text budget cause reply
-gives_own text budget causes.Done reply o g = g
-gives_own text budget (causes.Raised shown) reply o g = g
-gives_own text budget (causes.Spent total) reply o g = g
-gives_own text budget causes.NoScript reply o g = g
-gives_own text budget (causes.Refused fault) reply o g = absurd o
-gives_own text budget causes.NoMemory reply o g = absurd o
-gives_own text budget causes.Usage reply o g = absurd o
-gives_own text budget causes.ReadFault reply o g = absurd o
-gives_own text budget causes.WriteFault reply o g = absurd o
-gives_own text budget (causes.TooLarge count) reply o g = absurd o
+own_answer : (c : Command) (k : Kernel) → IsOwn (answer_of c k)
+unfolding all_answer run_answer
+own_answer (commands.All workers budget) k = own_top (searched k budget) budget (own_searched k budget) (run k [] (opening k) budget)
+own_answer (commands.Run budget) k = own_top (λ c left. (causes.Done, shown_lines c)) budget (λ c left. tt) (run k [] (opening k) budget)
+
+gives_own : (text : List ℕ) (c : Command) (cause : Cause) (reply : List ℕ) → IsOwn (cause, reply) → ProgramGives text c (cause, reply) → TextGives text c cause reply
+gives_own text c causes.Done reply o g = g
+gives_own text c (causes.Raised shown) reply o g = g
+gives_own text c (causes.Spent total) reply o g = g
+gives_own text c causes.NoScript reply o g = g
+gives_own text c (causes.Refused fault) reply o g = absurd o
+gives_own text c causes.NoMemory reply o g = absurd o
+gives_own text c causes.Usage reply o g = absurd o
+gives_own text c causes.ReadFault reply o g = absurd o
+gives_own text c causes.WriteFault reply o g = absurd o
+gives_own text c (causes.TooLarge count) reply o g = absurd o
 
 -- an accepted text
-pub accepted_gives : (text : List ℕ) (budget : ℕ) (p : Program) (cause : Cause) (reply : List ℕ) → Accepts text p → ◌≡◌ {A = Answer} (cause, reply) (answer_to (kernel_of p) budget) → TextGives text budget cause reply
-accepted_gives text budget p cause reply a h =
-    gives_own text budget cause reply (subst (λ (x : Answer). IsOwn x) (sym h) (own_answer (kernel_of p) budget)) (p, a, sym h)
+pub accepted_gives : (text : List ℕ) (c : Command) (p : Program) (cause : Cause) (reply : List ℕ) → Accepts text p → ◌≡◌ {A = Answer} (cause, reply) (answer_of c (kernel_of p)) → TextGives text c cause reply
+accepted_gives text c p cause reply a h =
+    gives_own text c cause reply (subst (λ (x : Answer). IsOwn x) (sym h) (own_answer c (kernel_of p))) (p, a, sym h)
 
-pub accepted_due : (text : List ℕ) (budget : ℕ) (p : Program) (answer : Answer) → ((q : Program) → Accepts text q → q ≡ p) → ((f : Fault) → IsRefused text f → ⊥) → answer ≡ answer_to (kernel_of p) budget → AsText text budget answer
-accepted_due text budget p answer only unrefused h = record {
+pub accepted_due : (text : List ℕ) (c : Command) (p : Program) (answer : Answer) → ((q : Program) → Accepts text q → q ≡ p) → ((f : Fault) → IsRefused text f → ⊥) → answer ≡ answer_of c (kernel_of p) → AsText text c answer
+accepted_due text c p answer only unrefused h = record {
   refused = λ n f r. absurd (unrefused f r);
-  accepted = λ n q b. h ∙ ap (λ (x : Program). answer_to (kernel_of x) budget) (sym (only q b));
+  accepted = λ n q b. h ∙ ap (λ (x : Program). answer_of c (kernel_of x)) (sym (only q b));
 }
 
 -- a refused text
-pub refused_gives : (text : List ℕ) (budget : ℕ) (fault : Fault) (cause : Cause) (reply : List ℕ) → IsRefused text fault → cause ≡ causes.Refused fault → reply ≡ refused_reply fault → TextGives text budget cause reply
-refused_gives text budget fault cause reply r c e = subst (λ (x : Cause). TextGives text budget x reply) (sym c) (r, e)
+pub refused_gives : (text : List ℕ) (c : Command) (fault : Fault) (cause : Cause) (reply : List ℕ) → IsRefused text fault → cause ≡ causes.Refused fault → reply ≡ refused_reply fault → TextGives text c cause reply
+refused_gives text c fault cause reply r is e = subst (λ (x : Cause). TextGives text c x reply) (sym is) (r, e)
 
-pub refused_due : (text : List ℕ) (budget : ℕ) (fault : Fault) (cause : Cause) (reply : List ℕ) → ((g : Fault) → IsRefused text g → g ≡ fault) → ((p : Program) → Accepts text p → ⊥) → cause ≡ causes.Refused fault → reply ≡ refused_reply fault → AsText text budget (cause, reply)
-refused_due text budget fault cause reply only unaccepted c e = record {
+pub refused_due : (text : List ℕ) (c : Command) (fault : Fault) (cause : Cause) (reply : List ℕ) → ((g : Fault) → IsRefused text g → g ≡ fault) → ((p : Program) → Accepts text p → ⊥) → cause ≡ causes.Refused fault → reply ≡ refused_reply fault → AsText text c (cause, reply)
+refused_due text c fault cause reply only unaccepted is e = record {
   refused = λ n f r.
-      ap (λ (x : Cause). (x, reply)) c
+      ap (λ (x : Cause). (x, reply)) is
       ∙ ap (λ (x : List ℕ). (causes.Refused fault, x)) e
       ∙ ap (λ (x : Fault). (causes.Refused x, refused_reply x)) (sym (only f r));
   accepted = λ n p a. absurd (unaccepted p a);
 }
 
 -- no memory for a text
-pub memory_gives : (text : List ℕ) (budget : ℕ) (cause : Cause) (reply : List ℕ) → cause ≡ causes.NoMemory → reply ≡ [] → TextGives text budget cause reply
-memory_gives text budget cause reply c e = subst (λ (x : Cause). TextGives text budget x reply) (sym c) e
+pub memory_gives : (text : List ℕ) (c : Command) (cause : Cause) (reply : List ℕ) → cause ≡ causes.NoMemory → reply ≡ [] → TextGives text c cause reply
+memory_gives text c cause reply is e = subst (λ (x : Cause). TextGives text c x reply) (sym is) e
 
-pub memory_due : (text : List ℕ) (budget : ℕ) (cause : Cause) (reply : List ℕ) → cause ≡ causes.NoMemory → AsText text budget (cause, reply)
-memory_due text budget cause reply c = record { refused = λ n f r. absurd (n c); accepted = λ n p a. absurd (n c) }
+pub memory_due : (text : List ℕ) (c : Command) (cause : Cause) (reply : List ℕ) → cause ≡ causes.NoMemory → AsText text c (cause, reply)
+memory_due text c cause reply is = record { refused = λ n f r. absurd (n is); accepted = λ n p a. absurd (n is) }
 
 -- Words
 
--- the command that was read asks for its budget and no other
-pub asks_by : (words : List (List ℕ)) (c : Command) (budget : ℕ) → budget ≡ budget_in c → IsCommand words c → Asks words budget
-asks_by words (commands.All workers other) budget e h = subst (λ (n : ℕ). Asks words n) (sym e) (record {
-  asked = record { workers = workers; spelled = h.spelled };
-  only = λ n asked. ap budget_in (h.only (commands.All asked.workers n) asked.spelled);
-})
+-- words that spell a command are no usage
+pub no_usage : (words : List (List ℕ)) (c : Command) → Spells words c → IsUsage words → ⊥
+no_usage words c w u = u c w
 
 -- no command
 pub usage_due : (words : List (List ℕ)) (bytes : List ℕ) (cause : Cause) (reply : List ℕ) → IsUsage words
@@ -133,11 +135,24 @@ usage_due words bytes cause reply u (inr h) = λ read memory. absurd (memory h.0
 usage_due words bytes cause reply u (inl h) = λ read memory. record {
   usage = λ v. ap (λ (x : Cause). (x, reply)) h.0 ∙ ap (λ (x : List ℕ). (causes.Usage, x)) h.1;
   all = λ budget asked. absurd (u (commands.All asked.workers budget) asked.spelled);
+  run = λ budget asked. absurd (u (commands.Run budget) asked);
 }
 
--- words that ask for something are no usage
-pub no_usage : (words : List (List ℕ)) (budget : ℕ) → AsksAll words budget → IsUsage words → ⊥
-no_usage words budget w u = u (commands.All w.workers budget) w.spelled
+-- what the one command that the words spell answers to the bytes
+is_reply : (words : List (List ℕ)) (bytes : List ℕ) (c : Command) (answer : Answer) → IsCommand words c → IsTextReply bytes (answer_of c) answer → IsReply words bytes answer
+is_reply words bytes c answer w h = record {
+  usage = λ u. absurd (no_usage words c w.spelled u);
+  all = λ budget asked. for (commands.All asked.workers budget) asked.spelled;
+  run = λ budget asked. for (commands.Run budget) asked;
+}
+  where
+    for : (d : Command) → Spells words d → IsTextReply bytes (answer_of d) answer
+    for d spelled = subst (λ (x : Command). IsTextReply bytes (answer_of x) answer) (sym (w.only d spelled)) h
+
+-- and the other way round
+text_reply : (words : List (List ℕ)) (bytes : List ℕ) (c : Command) (answer : Answer) → Spells words c → IsReply words bytes answer → IsTextReply bytes (answer_of c) answer
+text_reply words bytes (commands.All workers budget) answer w r = r.all budget (record { workers = workers; spelled = w })
+text_reply words bytes (commands.Run budget) answer w r = r.run budget w
 
 usage_planned : (words : List (List ℕ)) (old new : Reading) (planned : Cause) (reply : List ℕ) → IsUsage words → Plans words old new planned reply → (planned ≡ causes.Usage) ⊎ (planned ≡ causes.NoMemory)
 usage_planned words old new causes.Usage reply u p = inl refl
@@ -145,11 +160,11 @@ usage_planned words old new causes.NoMemory reply u p = inr refl
 usage_planned words old new causes.ReadFault reply u p = absurd (no_usage words p.0.0 p.0.1 u)
 usage_planned words old new (causes.TooLarge count) reply u p = absurd (no_usage words p.0.0 p.0.1 u)
 usage_planned words old new causes.WriteFault reply u p = absurd p
-usage_planned words old new (causes.Refused fault) reply u p = absurd (no_usage words p.budget p.asked u)
-usage_planned words old new causes.Done reply u p = absurd (no_usage words p.budget p.asked u)
-usage_planned words old new (causes.Raised shown) reply u p = absurd (no_usage words p.budget p.asked u)
-usage_planned words old new (causes.Spent total) reply u p = absurd (no_usage words p.budget p.asked u)
-usage_planned words old new causes.NoScript reply u p = absurd (no_usage words p.budget p.asked u)
+usage_planned words old new (causes.Refused fault) reply u p = absurd (no_usage words p.asked p.spelled u)
+usage_planned words old new causes.Done reply u p = absurd (no_usage words p.asked p.spelled u)
+usage_planned words old new (causes.Raised shown) reply u p = absurd (no_usage words p.asked p.spelled u)
+usage_planned words old new (causes.Spent total) reply u p = absurd (no_usage words p.asked p.spelled u)
+usage_planned words old new causes.NoScript reply u p = absurd (no_usage words p.asked p.spelled u)
 
 -- a call with words that are no command
 pub usage_ended : (words : List (List ℕ)) (old new : Reading) (before after : Writing) (planned cause : Cause) (reply : List ℕ) → IsUsage words → Plans words old new planned reply → Ends planned reply before after cause
@@ -184,20 +199,15 @@ part_read (Some xs) (Some ys) bytes text b l c =
     )
 
 -- a text that was read to its end
-pub due_text : (words : List (List ℕ)) (bytes text : List ℕ) (budget : ℕ) (before after : Option (List ℕ)) (answer : Answer) → Asks words budget → before ≡ Some bytes → Consumes before after text → IsAtEnd after → length text ≤ text_limit
-    → AsText text budget answer → IsDue words bytes answer.0 answer.1
-due_text words bytes text budget before after answer w b c e l a =
+pub due_text : (words : List (List ℕ)) (bytes text : List ℕ) (c : Command) (before after : Option (List ℕ)) (answer : Answer) → IsCommand words c → before ≡ Some bytes → Consumes before after text → IsAtEnd after → length text ≤ text_limit
+    → AsText text c answer → IsDue words bytes answer.0 answer.1
+due_text words bytes text k before after answer w b c e l a =
     let same = (whole_read before after bytes text b c e).0 in
-    λ read memory. record {
-      usage = λ u. absurd (no_usage words budget w.asked u);
-      all = λ other asked. record {
-        too_large = λ long. absurd (let k = ap length same in omega arith);
-        refused = λ short f r. a.refused memory f (subst (λ (xs : List ℕ). IsRefused xs f) (sym same) r);
-        accepted = λ short p q.
-            a.accepted memory p (subst (λ (xs : List ℕ). Accepts xs p) (sym same) q)
-            ∙ ap (λ (n : ℕ). answer_to (kernel_of p) n) (sym (w.only other asked));
-      };
-    }
+    λ read memory. is_reply words bytes k answer w (record {
+      too_large = λ long. absurd (let k = ap length same in omega arith);
+      refused = λ short f r. a.refused memory f (subst (λ (xs : List ℕ). IsRefused xs f) (sym same) r);
+      accepted = λ short p q. a.accepted memory p (subst (λ (xs : List ℕ). Accepts xs p) (sym same) q);
+    })
 
 pub read_text : (bytes text : List ℕ) (before after : Option (List ℕ)) (cause : Cause) → before ≡ Some bytes → Consumes before after text → IsAtEnd after → length text ≤ text_limit → IsRead bytes after cause
 read_text bytes text before after cause b c e l =
@@ -206,24 +216,21 @@ read_text bytes text before after cause b c e l =
     λ read memory. all.1 ∙ ap Some (sym (drop_all (text_limit + 1) bytes (omega arith)))
 
 -- a text that is too large
-pub plans_large : (words : List (List ℕ)) (old new : Reading) (budget : ℕ) (cause : Cause) (reply : List ℕ) → Asks words budget → ((bytes : List ℕ) × (length bytes ≡ text_limit + 1) × Consumes old.left new.left bytes)
+pub plans_large : (words : List (List ℕ)) (old new : Reading) (c : Command) (cause : Cause) (reply : List ℕ) → IsCommand words c → ((bytes : List ℕ) × (length bytes ≡ text_limit + 1) × Consumes old.left new.left bytes)
     → ((cause ≡ causes.TooLarge (text_limit + 1)) × (reply ≡ too_large_reply)) ⊎ ((cause ≡ causes.NoMemory) × (reply ≡ [])) → Plans words old new cause reply
-plans_large words old new budget cause reply w r (inl h) = subst (λ (x : Cause). Plans words old new x reply) (sym h.0) ((budget, w.asked), refl, r, h.1)
-plans_large words old new budget cause reply w r (inr h) = subst (λ (x : Cause). Plans words old new x reply) (sym h.0) h.1
+plans_large words old new c cause reply w r (inl h) = subst (λ (x : Cause). Plans words old new x reply) (sym h.0) ((c, w.spelled), refl, r, h.1)
+plans_large words old new c cause reply w r (inr h) = subst (λ (x : Cause). Plans words old new x reply) (sym h.0) h.1
 
-pub due_large : (words : List (List ℕ)) (bytes text : List ℕ) (budget : ℕ) (before after : Option (List ℕ)) (cause : Cause) (reply : List ℕ) → Asks words budget → before ≡ Some bytes → length text ≡ text_limit + 1 → Consumes before after text
+pub due_large : (words : List (List ℕ)) (bytes text : List ℕ) (c : Command) (before after : Option (List ℕ)) (cause : Cause) (reply : List ℕ) → IsCommand words c → before ≡ Some bytes → length text ≡ text_limit + 1 → Consumes before after text
     → ((cause ≡ causes.TooLarge (text_limit + 1)) × (reply ≡ too_large_reply)) ⊎ ((cause ≡ causes.NoMemory) × (reply ≡ [])) → IsDue words bytes cause reply
-due_large words bytes text budget before after cause reply w b l c (inr h) = λ read memory. absurd (memory h.0)
-due_large words bytes text budget before after cause reply w b l c (inl h) =
+due_large words bytes text k before after cause reply w b l c (inr h) = λ read memory. absurd (memory h.0)
+due_large words bytes text k before after cause reply w b l c (inl h) =
     let long = (part_read before after bytes text b l c).0 in
-    λ read memory. record {
-      usage = λ u. absurd (no_usage words budget w.asked u);
-      all = λ other asked. record {
-        too_large = λ q. ap (λ (x : Cause). (x, reply)) h.0 ∙ ap (λ (x : List ℕ). (causes.TooLarge (text_limit + 1), x)) h.1;
-        refused = λ short f r. absurd (omega arith);
-        accepted = λ short p q. absurd (omega arith);
-      };
-    }
+    λ read memory. is_reply words bytes k (cause, reply) w (record {
+      too_large = λ q. ap (λ (x : Cause). (x, reply)) h.0 ∙ ap (λ (x : List ℕ). (causes.TooLarge (text_limit + 1), x)) h.1;
+      refused = λ short f r. absurd (omega arith);
+      accepted = λ short p q. absurd (omega arith);
+    })
 
 pub read_large : (bytes text : List ℕ) (before after : Option (List ℕ)) (cause : Cause) → before ≡ Some bytes → length text ≡ text_limit + 1 → Consumes before after text → IsRead bytes after cause
 read_large bytes text before after cause b l c = λ read memory. (part_read before after bytes text b l c).1
@@ -245,16 +252,10 @@ whole_written (Some xs) (Some ys) before reply o h = let k : xs ≡ before = cc 
 
 -- The top
 
-pub top_ended : (kernel : Kernel) (budget steps : ℕ) (m d : Loaded) (top : List ℕ) (s : State) → top ≡ [] → m.kernel ≡ kernel → m.config ≡ opening kernel → d.kernel ≡ m.kernel
-    → IsRun d top budget (run m.kernel.statements top m.config budget) (ran.Ended s steps) → answer_of_top d.kernel budget (Ended d.config (budget - steps)) ≡ answer_to kernel budget
-unfolding answer_to
-top_ended kernel budget steps m d top s t k c e r =
-    let ran : run kernel.statements [] (opening kernel) budget ≡ Ended d.config (budget - steps) =
-    ap (λ (x : List ℕ). run kernel.statements x (opening kernel) budget) (sym t)
-    ∙ ap (λ (x : Configuration). run kernel.statements top x budget) (sym c)
-    ∙ ap (λ (x : Kernel). run x.statements top m.config budget) (sym k)
-    ∙ r.1 in
-    ap (λ (x : Kernel). answer_of_top x budget (Ended d.config (budget - steps))) (e ∙ k) ∙ ap (answer_of_top kernel budget) (sym ran)
+pub all_ended : (k : Kernel) (budget steps : ℕ) (m : Loaded) (s : State) → m.kernel ≡ k → IsRun m [] budget (run k [] (opening k) budget) (ran.Ended s steps)
+    → searched m.kernel budget m.config (budget - steps) ≡ all_answer k budget
+unfolding all_answer
+all_ended k budget steps m s e r = ap (λ (x : Kernel). searched x budget m.config (budget - steps)) e ∙ ap (answer_of_top (searched k budget) budget) (sym r.1)
 
 -- The whole call
 
@@ -318,28 +319,35 @@ asked words bytes before after cause answer only h = go (excused_or cause)
     go (inr e) = inr e
     go (inl n) = inl (answered words bytes before after cause answer only h n.0 n.1 n.2).0
 
--- Where they ask for `all`
+-- Where they spell a command
 
-module _ (words : List (List ℕ)) (budget : ℕ) (bytes : List ℕ) (before after : Writing) (cause : Cause) (w : AsksAll words budget) (h : Replied words bytes before after cause) where
+module _ (words : List (List ℕ)) (c : Command) (bytes : List ℕ) (before after : Writing) (cause : Cause) (w : Spells words c) (h : Replied words bytes before after cause) where
   pub asked_large : text_limit < length bytes → (cause ≡ causes.TooLarge (text_limit + 1)) ⊎ IsExcused cause
-  asked_large l = asked words bytes before after cause (causes.TooLarge (text_limit + 1), too_large_reply) (λ x r. (r.all budget w).too_large l) h
+  asked_large l = asked words bytes before after cause (causes.TooLarge (text_limit + 1), too_large_reply) (λ x r. (text_reply words bytes c x w r).too_large l) h
 
   pub asked_refused : (f : Fault) → length bytes ≤ text_limit → IsRefused bytes f → (cause ≡ causes.Refused f) ⊎ IsExcused cause
-  asked_refused f l q = asked words bytes before after cause (causes.Refused f, refused_reply f) (λ x r. (r.all budget w).refused l f q) h
+  asked_refused f l q = asked words bytes before after cause (causes.Refused f, refused_reply f) (λ x r. (text_reply words bytes c x w r).refused l f q) h
 
   module _ (p : Program) (l : length bytes ≤ text_limit) (a : Accepts bytes p) where
-    pub asked_accepted : (cause ≡ (answer_to (kernel_of p) budget).0) ⊎ IsExcused cause
-    asked_accepted = asked words bytes before after cause (answer_to (kernel_of p) budget) (λ x r. (r.all budget w).accepted l p a) h
+    only_answer : (x : Answer) → IsReply words bytes x → x ≡ answer_of c (kernel_of p)
+    only_answer x r = (text_reply words bytes c x w r).accepted l p a
 
-    searched : (found : Found) → Searches (kernel_of p) budget found → answer_to (kernel_of p) budget ≡ answer_of_tree budget found
-    unfolding answer_to
-    searched found s = rw (s.ended, s.script, s.searched) refl
+    pub asked_accepted : (cause ≡ (answer_of c (kernel_of p)).0) ⊎ IsExcused cause
+    asked_accepted = asked words bytes before after cause (answer_of c (kernel_of p)) only_answer h
 
-    pub asked_spent : Searches (kernel_of p) budget None → (cause ≡ causes.Spent budget) ⊎ IsExcused cause
-    asked_spent s = asked words bytes before after cause (spent budget) (λ x r. (r.all budget w).accepted l p a ∙ searched None s) h
+    -- what is written of one answer
+    pub written : (front : List ℕ) (answer : Answer) → answer_of c (kernel_of p) ≡ answer → before.written ≡ Some front
+        → cause ≢ causes.ReadFault → cause ≢ causes.WriteFault → cause ≢ causes.NoMemory → (cause ≡ answer.0) × (after.written ≡ Some (front ++ answer.1))
+    written front answer is o f n m =
+        let d = answered words bytes before after cause answer (λ x r. only_answer x r ∙ is) h f n m in
+        (d.0, whole_written before.written after.written front answer.1 o d.1)
 
-    pub leaves_written : (front : List ℕ) (found : List Leaf) (left : ℕ) → before.written ≡ Some front → Searches (kernel_of p) budget (Some (found, left))
-        → cause ≢ causes.ReadFault → cause ≢ causes.WriteFault → cause ≢ causes.NoMemory → (cause ≡ causes.Done) × (after.written ≡ Some (front ++ leaves_reply found))
-    leaves_written front found left o s f n m =
-        let d = answered words bytes before after cause (causes.Done, leaves_reply found) (λ x r. (r.all budget w).accepted l p a ∙ searched (Some (found, left)) s) h f n m in
-        (d.0, whole_written before.written after.written front (leaves_reply found) o d.1)
+-- the tree of the script is searched
+pub searched_all : (k : Kernel) (budget : ℕ) (found : Found) (s : Searches k budget found) → all_answer k budget ≡ answer_of_tree (shown_lines s.top) budget found
+unfolding all_answer
+searched_all k budget found s = rw (s.ended, s.script, s.searched) refl
+
+-- the top comes to rest
+pub ended_run : (k : Kernel) (budget left : ℕ) (top : Configuration) → run k [] (opening k) budget ≡ Ended top left → run_answer k budget ≡ (causes.Done, shown_lines top)
+unfolding run_answer
+ended_run k budget left top e = ap (answer_of_top (λ c left. (causes.Done, shown_lines c)) budget) e

@@ -37,7 +37,7 @@ finds_in_state k space visit d text steps left states.Running = refl
 fits_text : (nodes left : ℕ) → nodes ≤ left → nat_le nodes left ≡ true
 fits_text nodes left h = grind (arith, nat_tests)
 
-node_ended : (k : Kernel) (space : List ℕ) (f left : ℕ) (c d : Configuration) (s : State) → runs.run k.statements space c f ≡ runs.Ended d left → s ≡ state k.statements d.layers space
+node_ended : (k : Kernel) (space : List ℕ) (f left : ℕ) (c d : Configuration) (s : State) → runs.run k space c f ≡ runs.Ended d left → s ≡ state k.statements d.layers space
     → (state_text k.words d space s).nodes ≤ left
     → node_at k space (suc f) c ≡ At (record { config = d; state = s; text = (state_text k.words d space s).bytes; steps = suc f - left + (state_text k.words d space s).nodes })
 node_ended k space f left c d s e q h =
@@ -45,7 +45,7 @@ node_ended k space f left c d s e q h =
     ∙ ap (λ b. if b then At (record { config = d; state = s; text = (state_text k.words d space s).bytes; steps = suc f - left + (state_text k.words d space s).nodes }) else Beyond)
     (fits_text (state_text k.words d space s).nodes left h)
 
-node_found : (k : Kernel) (space : List ℕ) (visit : Visit) (f left : ℕ) (c d : Configuration) (s : State) → runs.run k.statements space c f ≡ runs.Ended d left → left ≤ f → s ≡ state k.statements d.layers space
+node_found : (k : Kernel) (space : List ℕ) (visit : Visit) (f left : ℕ) (c d : Configuration) (s : State) → runs.run k space c f ≡ runs.Ended d left → left ≤ f → s ≡ state k.statements d.layers space
     → (state_text k.words d space s).nodes ≤ left
     → found_at k.statements space visit (suc f) (node_at k space (suc f) c)
     ≡ with_front (leaf_by s (state_text k.words d space s).bytes) (visit_all visit (children_by k space d s) (left - (state_text k.words d space s).nodes))
@@ -57,7 +57,7 @@ node_found k space visit f left c d s e w q h =
     ∙ ap (λ n. with_front (leaf_by s (state_text k.words d space s).bytes) (visit_all visit (children_by k space d s) n)) spent
 
 visited_by : (k : Kernel) (c : Configuration) (d : Loaded) (space : List ℕ) (fuel steps : ℕ) (s : State) (text : Text) (opened after : List Configuration) (leaves leaves_after : List Leaf) → fuel ≢ 0
-    → IsRun d space (fuel - 1) (runs.run k.statements space c (fuel - 1)) (Ended s steps) → d.kernel ≡ k
+    → IsRun d space (fuel - 1) (runs.run k space c (fuel - 1)) (Ended s steps) → d.kernel ≡ k
     → PrintsWithin (state_text k.words d.config space s) (fuel - 1 - steps) (Some text)
     → after ≡ children_by k space d.config s ++ opened → leaves_after ≡ leaves ++ leaf_by s text.bytes
     → Visits k space c fuel (fuel - 1 - steps - text.steps) opened after leaves leaves_after
@@ -66,7 +66,7 @@ visited_by k c d space (suc f) steps s text opened after leaves leaves_after n r
     let one : suc f - 1 ≡ f = omega arith in
     let printed = state_text k.words d.config space s in
     let within : steps ≤ suc f - 1 = r.0 in
-    let ran : runs.run k.statements space c f ≡ runs.Ended d.config (f - steps) = ap (runs.run k.statements space c) (sym one) ∙ r.1 ∙ ap (λ m. runs.Ended d.config (m - steps)) one in
+    let ran : runs.run k space c f ≡ runs.Ended d.config (f - steps) = ap (runs.run k space c) (sym one) ∙ r.1 ∙ ap (λ m. runs.Ended d.config (m - steps)) one in
     let at_state : s ≡ state k.statements d.config.layers space = r.2 ∙ ap (λ (q : Kernel). state q.statements d.config.layers space) e in
     let bytes : text.bytes ≡ printed.bytes = p.0.0 in
     let nodes : text.steps ≡ printed.nodes = p.0.1 in
@@ -85,7 +85,7 @@ visited_by k c d space (suc f) steps s text opened after leaves leaves_after n r
 
 -- a node that was run, and whose text was printed
 pub visited : (m d : Loaded) (space : List ℕ) (fuel steps : ℕ) (s : State) (text : Text) (opened after : List Configuration) (leaves leaves_after : List Leaf) → fuel ≢ 0
-    → IsRun d space (fuel - 1) (runs.run m.kernel.statements space m.config (fuel - 1)) (Ended s steps) → d.kernel ≡ m.kernel
+    → IsRun d space (fuel - 1) (runs.run m.kernel space m.config (fuel - 1)) (Ended s steps) → d.kernel ≡ m.kernel
     → PrintsWithin (state_text d.kernel.words d.config space s) (fuel - 1 - steps) (Some text)
     → after ≡ children_by d.kernel space d.config s ++ opened → leaves_after ≡ leaves ++ leaf_by s text.bytes
     → Visits m.kernel space m.config fuel (fuel - 1 - steps - text.steps) opened after leaves leaves_after

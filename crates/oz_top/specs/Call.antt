@@ -4,10 +4,11 @@ use Rattle.std.specs.Io.KnownBytes.{Appends, Consumes, IsAtEnd}
 use Rattle.oz_outside.specs.Counts.{Rose}
 use Rattle.oz_semantics.specs.Refusals.{Program, Accepts, IsRefused}
 use Rattle.oz_semantics.specs.Translation.{kernel_of}
-use Rattle.oz_semantics.specs.Commands.{Spells, IsUsage, AsksAll}
+use Rattle.oz_semantics.specs.Commands.{Spells, IsUsage}
 use Rattle.oz_semantics.specs.declared.command.Command.{Command}
 use Rattle.oz_semantics.specs.declared.command.Command.TheVariants as command
-use Rattle.oz_semantics.specs.Replies.{Answer, IsReply, text_limit, usage_reply, too_large_reply, refused_reply, answer_to}
+use Rattle.oz_semantics.specs.Replies.{Answer, IsReply, text_limit, usage_reply, too_large_reply, refused_reply, all_answer, run_answer}
+use Rattle.oz_semantics.specs.declared.kernel.Kernel.{Kernel}
 use Rattle.oz_semantics.specs.declared.outcome.Fault.{Fault}
 use Rattle.oz_semantics.specs.declared.outcome.Cause.{Cause}
 use Rattle.oz_semantics.specs.declared.outcome.Cause.TheVariants as causes
@@ -27,34 +28,39 @@ pub record HasRead (old new : Reading) (text : List ℕ) : Type 0 where
   pub ended : IsAtEnd new.left
   pub fits : length text ≤ text_limit
 
+-- what a command answers for a kernel
+abbrev pub answer_of : Command → Kernel → Answer
+answer_of (command.All workers budget) = λ k. all_answer k budget
+answer_of (command.Run budget) = λ k. run_answer k budget
+
 -- a program of the text has this answer
-abbrev pub ProgramGives : List ℕ → ℕ → Answer → Type 0
-ProgramGives text budget answer = (p : Program) × Accepts text p × (answer_to (kernel_of p) budget ≡ answer)
+abbrev pub ProgramGives : List ℕ → Command → Answer → Type 0
+ProgramGives text c answer = (p : Program) × Accepts text p × (answer_of c (kernel_of p) ≡ answer)
 
 -- a text gives this cause and this reply, before anything is written
-abbrev pub TextGives : List ℕ → ℕ → Cause → List ℕ → Type 0
-TextGives text budget (causes.Refused fault) reply = IsRefused text fault × (reply ≡ refused_reply fault)
-TextGives text budget causes.Done reply = ProgramGives text budget (causes.Done, reply)
-TextGives text budget (causes.Raised shown) reply = ProgramGives text budget (causes.Raised shown, reply)
-TextGives text budget (causes.Spent total) reply = ProgramGives text budget (causes.Spent total, reply)
-TextGives text budget causes.NoScript reply = ProgramGives text budget (causes.NoScript, reply)
-TextGives text budget causes.NoMemory reply = reply ≡ []
-TextGives text budget causes.Usage reply = ⊥
-TextGives text budget causes.ReadFault reply = ⊥
-TextGives text budget causes.WriteFault reply = ⊥
-TextGives text budget (causes.TooLarge count) reply = ⊥
+abbrev pub TextGives : List ℕ → Command → Cause → List ℕ → Type 0
+TextGives text c (causes.Refused fault) reply = IsRefused text fault × (reply ≡ refused_reply fault)
+TextGives text c causes.Done reply = ProgramGives text c (causes.Done, reply)
+TextGives text c (causes.Raised shown) reply = ProgramGives text c (causes.Raised shown, reply)
+TextGives text c (causes.Spent total) reply = ProgramGives text c (causes.Spent total, reply)
+TextGives text c causes.NoScript reply = ProgramGives text c (causes.NoScript, reply)
+TextGives text c causes.NoMemory reply = reply ≡ []
+TextGives text c causes.Usage reply = ⊥
+TextGives text c causes.ReadFault reply = ⊥
+TextGives text c causes.WriteFault reply = ⊥
+TextGives text c (causes.TooLarge count) reply = ⊥
 
--- the words ask for `all`, and a text that was read gives this cause and this reply
+-- the words spell a command, and a text that was read gives this cause and this reply
 pub record ReadGives (words : List (List ℕ)) (old new : Reading) (cause : Cause) (reply : List ℕ) : Type 0 where
-  pub budget : ℕ
-  pub asked : AsksAll words budget
+  pub asked : Command
+  pub spelled : Spells words asked
   pub text : List ℕ
   pub read : HasRead old new text
-  pub gives : TextGives text budget cause reply
+  pub gives : TextGives text asked cause reply
 
--- the words ask for `all`
+-- the words spell a command
 abbrev pub AsksSome : List (List ℕ) → Type 0
-AsksSome words = (budget : ℕ) × AsksAll words budget
+AsksSome words = (c : Command) × Spells words c
 
 -- The words and what was read of the source give this cause and this reply, before anything is written.
 abbrev pub Plans : List (List ℕ) → Reading → Reading → Cause → List ℕ → Type 0
@@ -88,22 +94,14 @@ abbrev pub IsExcused : Cause → Type 0
 IsExcused cause = (cause ≡ causes.ReadFault) ⊎ ((cause ≡ causes.WriteFault) ⊎ (cause ≡ causes.NoMemory))
 
 -- What each text asks for, where memory is there.
-pub record AsText (text : List ℕ) (budget : ℕ) (answer : Answer) : Type 0 where
+pub record AsText (text : List ℕ) (c : Command) (answer : Answer) : Type 0 where
   pub refused : answer.0 ≢ causes.NoMemory → (fault : Fault) → IsRefused text fault → answer ≡ (causes.Refused fault, refused_reply fault)
-  pub accepted : answer.0 ≢ causes.NoMemory → (p : Program) → Accepts text p → answer ≡ answer_to (kernel_of p) budget
-
-abbrev pub budget_in : Command → ℕ
-budget_in (command.All workers budget) = budget
+  pub accepted : answer.0 ≢ causes.NoMemory → (p : Program) → Accepts text p → answer ≡ answer_of c (kernel_of p)
 
 -- the words spell this command and no other
 pub record IsCommand (words : List (List ℕ)) (c : Command) : Type 0 where
   pub spelled : Spells words c
   pub only : (d : Command) → Spells words d → d ≡ c
-
--- the words ask for `all` with this budget and no other
-pub record Asks (words : List (List ℕ)) (budget : ℕ) : Type 0 where
-  pub asked : AsksAll words budget
-  pub only : (other : ℕ) → AsksAll words other → other ≡ budget
 
 -- The plan is the answer to the words and bytes, where nothing fails.
 abbrev pub IsDue : List (List ℕ) → List ℕ → Cause → List ℕ → Type 0

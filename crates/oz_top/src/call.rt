@@ -1,37 +1,28 @@
 //! The call that does all that the program does.
-ghost use Rattle.std.specs.Prelude.{◌≡◌, ◌≢◌, ◌⊎◌, ◌≤◌, ◌<◌, ◌++◌, ◌+◌, ℕ, List, [], map, length, codes, IfOk, Some, None};
+ghost use Rattle.std.specs.Prelude.{◌≡◌, ◌≢◌, ◌⊎◌, ◌≤◌, ◌<◌, ◌++◌, ◌+◌, ℕ, List, [], map, length, IfOk, Some};
 ghost use Rattle.std.specs.String.{string_bytes};
 ghost use Rattle.std.specs.Io.KnownBytes.{Appends};
 ghost use Rattle.oz_outside.specs.Counts.{Rose};
 ghost use Rattle.oz_semantics.specs.Refusals.{Program, Accepts, IsRefused};
 ghost use Rattle.oz_semantics.specs.Translation.{kernel_of};
-ghost use Rattle.oz_semantics.specs.Commands.{IsUsage, AsksAll};
-ghost use Rattle.oz_semantics.specs.Runs.{Ended};
-ghost use Rattle.oz_semantics.specs.Search.{with_root, search_space, depth_first};
-ghost use Rattle.oz_semantics.specs.Texts.{raise_text};
-ghost use Rattle.oz_semantics.specs.Replies.{IsReply, Searches, status_of, text_limit, spent, usage_reply, too_large_reply, leaves_reply, kind_text, refused_reply, answer_of_tree, answer_of_raise, answer_of_top, answer_to};
+ghost use Rattle.oz_semantics.specs.Commands.{Spells, IsUsage, AsksAll, AsksRun};
+ghost use Rattle.oz_semantics.specs.Runs.{Ended, run, opening};
+ghost use Rattle.oz_semantics.specs.Replies.{IsReply, Searches, status_of, text_limit, usage_reply, too_large_reply, shown_lines, leaves_reply, kind_text, refused_reply, all_answer, run_answer};
+ghost use Rattle.oz_semantics.specs.declared.command.Command.{Command};
+ghost use Rattle.oz_semantics.specs.declared.configuration.Configuration.{Configuration};
 ghost use Rattle.oz_semantics.specs.declared.outcome.Fault.{Fault};
 ghost use Rattle.oz_semantics.specs.declared.outcome.Leaf.{Leaf};
 ghost use Rattle.oz_semantics.specs.declared.outcome.Cause.{Cause};
-ghost use Rattle.oz_top.specs.Call.{TextGives, AsText, budget_in, IsCommand, Asks, Plans, IsDue, IsRead, Ends, Answers, IsExcused};
+ghost use Rattle.oz_top.specs.Call.{answer_of, TextGives, AsText, IsCommand, Plans, IsDue, IsRead, Ends, Answers, IsExcused};
 
-use crate::reply::{add_decimal, leaves_reply};
-use crate::search::depth_first;
+use crate::answers::{Plan, answer_of};
+use crate::reply::add_decimal;
 use command_line::read_command;
-use oz_base::{Ident, Sequence};
-use oz_machine::{Machine, Ran, exception_text};
 use oz_outside::{Gate, READ_LIMIT, ReadError as SourceError, Sink, Source, read_all, write_all};
 use oz_reader::{Program, ReadError, read_program};
-use oz_semantics::{Cause, Command, Fault, Kernel, Raise, RefusalKind};
+use oz_semantics::{Cause, Command, Fault, RefusalKind};
 use oz_translation::translate;
 use std::alloc::{AllocError, Global};
-
-/// A cause, and what is to be written for it.
-#[derive(Drop)]
-struct Plan {
-    cause: Cause,
-    reply: Vec<u8>,
-}
 
 fn make_plan(alloc: Global, cause: Cause, reply: &[u8]) -> Result<Plan, AllocError>
     ensures { IfOk result (λ plan. (plan.cause ≡ cause) × (plan.reply.items ≡ reply.now)) }
@@ -40,106 +31,6 @@ fn make_plan(alloc: Global, cause: Cause, reply: &[u8]) -> Result<Plan, AllocErr
         cause,
         reply: reply.to_vec(alloc)?,
     })
-}
-
-/// The budget is exceeded.
-fn spent(alloc: Global, budget: u64) -> Result<Plan, AllocError>
-    ensures { IfOk result (λ plan. (plan.cause, plan.reply.items) ≡ spent budget) }
-{
-    let mut reply = b"spent ".to_vec(alloc)?;
-    add_decimal(alloc, budget, &mut reply)?;
-    reply.extend_from_slice(b"\n")?;
-    Ok(Plan {
-        cause: Cause::Spent { total: budget },
-        reply,
-    })
-}
-
-/// The line of an exception of the top.
-fn raised_line(alloc: Global, text: &[u8]) -> Result<Vec<u8>, AllocError>
-    ensures { IfOk result (λ line. line.items ≡ codes "raised " ++ text.now ++ codes "\n") }
-{
-    let mut line = b"raised ".to_vec(alloc)?;
-    line.extend_from_slice(text)?;
-    line.extend_from_slice(b"\n")?;
-    Ok(line)
-}
-
-/// An exception of the top, with so many steps left for its text.
-fn raised(alloc: Global, raise: Raise, budget: u64, left: u64) -> Result<Plan, AllocError>
-    ensures { IfOk result (λ plan. (plan.cause, plan.reply.items) ≡ answer_of_raise budget left (raise_text raise)) }
-{
-    match exception_text(alloc, raise, left)? {
-        None => spent(alloc, budget),
-        Some(text) => {
-            let reply = raised_line(alloc, text.bytes.as_slice())?;
-            let cause = Cause::Raised { text: text.bytes };
-            Ok(Plan { cause, reply })
-        }
-    }
-}
-
-/// Searches the tree of a script, with so many steps left.
-fn search<G: Gate>(
-    alloc: Global,
-    mut machine: Machine,
-    script: &Ident,
-    budget: u64,
-    left: u64,
-    gate: &G,
-) -> Result<Plan, AllocError>
-    ensures { IfOk result (λ plan. (plan.cause, plan.reply.items)
-        ≡ answer_of_tree budget (depth_first machine.kernel (search_space machine.config) (with_root machine.kernel.statements script.now machine.config) left)) }
-{
-    let space = machine.root(alloc, script)?;
-    match depth_first(alloc, machine, &space, left, gate)? {
-        None => spent(alloc, budget),
-        Some(leaves) => Ok(Plan {
-            cause: Cause::Done,
-            reply: leaves_reply(alloc, leaves.as_slice())?,
-        }),
-    }
-}
-
-fn no_script(alloc: Global) -> Result<Plan, AllocError>
-    ensures { IfOk result (λ plan. (plan.cause ≡ Cause.NoScript) × (plan.reply.items ≡ codes "no script\n")) }
-{
-    make_plan(alloc, Cause::NoScript, b"no script\n")
-}
-
-/// What follows the end of the top's run.
-fn after_top<G: Gate>(
-    alloc: Global,
-    machine: Machine,
-    budget: u64,
-    left: u64,
-    gate: &G,
-) -> Result<Plan, AllocError>
-    ensures { IfOk result (λ plan. (plan.cause, plan.reply.items) ≡ answer_of_top machine.kernel budget (Ended machine.config left)) }
-{
-    match machine.script(alloc)? {
-        None => no_script(alloc),
-        Some(script) => search(alloc, machine, &script, budget, left, gate),
-    }
-}
-
-/// What `all` answers for a kernel.
-#[tactic(auto, unfolding(oz_semantics::specs::Replies::answer_to))]
-fn answer_to<G: Gate>(
-    alloc: Global,
-    kernel: Kernel,
-    budget: u64,
-    gate: &G,
-) -> Result<Plan, AllocError>
-    ensures { IfOk result (λ plan. (plan.cause, plan.reply.items) ≡ answer_to kernel budget) }
-{
-    let mut machine = Machine::load(alloc, kernel)?;
-    let top = Sequence::new(alloc);
-    match machine.run(alloc, &top, budget)? {
-        Ran::OutOfFuel => spent(alloc, budget),
-        Ran::TopEnded { raise, steps } => raised(alloc, raise, budget, budget - steps),
-        Ran::Ended { steps, .. } => after_top(alloc, machine, budget, budget - steps, gate),
-    }
 }
 
 fn kind_text(kind: RefusalKind) -> &'static [u8]
@@ -168,27 +59,32 @@ fn refused(alloc: Global, fault: Fault) -> Result<Plan, AllocError>
     })
 }
 
-/// What `all` answers for a program.
+/// What a command answers for a program.
 fn answer_for<G: Gate>(
     alloc: Global,
+    command: Command,
     program: &Program,
-    budget: u64,
     gate: &G,
 ) -> Result<Plan, AllocError>
-    ensures { IfOk result (λ plan. (plan.cause, plan.reply.items) ≡ answer_to (kernel_of program.now) budget) }
+    ensures { IfOk result (λ plan. (plan.cause, plan.reply.items) ≡ answer_of command (kernel_of program.now)) }
 {
     let kernel = translate(alloc, program.words(), program.phrase())?;
-    answer_to(alloc, kernel, budget, gate)
+    answer_of(alloc, command, kernel, gate)
 }
 
-/// What `all` answers for a text.
-fn answer<G: Gate>(alloc: Global, text: &[u8], budget: u64, gate: &G) -> Result<Plan, AllocError>
+/// What a command answers for a text.
+fn answer<G: Gate>(
+    alloc: Global,
+    command: Command,
+    text: &[u8],
+    gate: &G,
+) -> Result<Plan, AllocError>
     requires { length text.now ≤ text_limit }
-    ensures gives { IfOk result (λ plan. TextGives text.now budget plan.cause plan.reply.items) }
-    ensures due { IfOk result (λ plan. AsText text.now budget (plan.cause, plan.reply.items)) }
+    ensures gives { IfOk result (λ plan. TextGives text.now command plan.cause plan.reply.items) }
+    ensures due { IfOk result (λ plan. AsText text.now command (plan.cause, plan.reply.items)) }
 {
     match read_program(alloc, text) {
-        Ok(program) => answer_for(alloc, &program, budget, gate),
+        Ok(program) => answer_for(alloc, command, &program, gate),
         Err(ReadError::Refused(fault)) => refused(alloc, fault),
         Err(ReadError::Memory) => Err(AllocError),
     }
@@ -205,13 +101,13 @@ fn silent(alloc: Global, cause: Cause) -> Plan
     }
 }
 
-/// What `all` answers for a text. Where memory is refused, that is the answer.
-fn plan_text<G: Gate>(alloc: Global, text: &[u8], budget: u64, gate: &G) -> Plan
+/// What a command answers for a text. Where memory is refused, that is the answer.
+fn plan_text<G: Gate>(alloc: Global, command: Command, text: &[u8], gate: &G) -> Plan
     requires { length text.now ≤ text_limit }
-    ensures gives { TextGives text.now budget result.cause result.reply.items }
-    ensures due { AsText text.now budget (result.cause, result.reply.items) }
+    ensures gives { TextGives text.now command result.cause result.reply.items }
+    ensures due { AsText text.now command (result.cause, result.reply.items) }
 {
-    match answer(alloc, text, budget, gate) {
+    match answer(alloc, command, text, gate) {
         Ok(plan) => plan,
         Err(_) => silent(alloc, Cause::NoMemory),
     }
@@ -229,30 +125,6 @@ fn plan_too_large(alloc: Global) -> Plan
     }
 }
 
-/// What `all` answers for the text of a source, before anything is written.
-fn plan_all<S: Source, G: Gate>(alloc: Global, budget: u64, source: &mut S, gate: &G) -> Plan
-    ensures plans { (words : List (List ℕ)) → Asks words budget → Plans words
-        (record { left = S.left source.old; faults = S.faults source.old })
-        (record { left = S.left source.new; faults = S.faults source.new }) result.cause result.reply.items }
-    ensures due { (words : List (List ℕ)) (bytes : List ℕ) → Asks words budget → S.left source.old ≡ Some bytes → IsDue words bytes result.cause result.reply.items }
-    ensures read { (bytes : List ℕ) → S.left source.old ≡ Some bytes → IsRead bytes (S.left source.new) result.cause }
-{
-    match read_all(alloc, source) {
-        Ok(text) => plan_text(alloc, text.as_slice(), budget, gate),
-        Err(SourceError::TooLarge) => plan_too_large(alloc),
-        Err(SourceError::Fault) => silent(alloc, Cause::ReadFault),
-        Err(SourceError::Memory) => silent(alloc, Cause::NoMemory),
-    }
-}
-
-fn budget_in(command: Command) -> u64
-    ensures { result ≡ budget_in command }
-{
-    match command {
-        Command::All { budget, .. } => budget,
-    }
-}
-
 /// What a command answers for the text of a source, before anything is written.
 fn plan_command<S: Source, G: Gate>(
     alloc: Global,
@@ -266,7 +138,12 @@ fn plan_command<S: Source, G: Gate>(
     ensures due { (words : List (List ℕ)) (bytes : List ℕ) → IsCommand words command → S.left source.old ≡ Some bytes → IsDue words bytes result.cause result.reply.items }
     ensures read { (bytes : List ℕ) → S.left source.old ≡ Some bytes → IsRead bytes (S.left source.new) result.cause }
 {
-    plan_all(alloc, budget_in(command), source, gate)
+    match read_all(alloc, source) {
+        Ok(text) => plan_text(alloc, command, text.as_slice(), gate),
+        Err(SourceError::TooLarge) => plan_too_large(alloc),
+        Err(SourceError::Fault) => silent(alloc, Cause::ReadFault),
+        Err(SourceError::Memory) => silent(alloc, Cause::NoMemory),
+    }
 }
 
 /// The words spell no command.
@@ -286,7 +163,7 @@ fn plan_words<S: Source, G: Gate>(alloc: Global, words: &[String], source: &mut 
         (record { left = S.left source.old; faults = S.faults source.old })
         (record { left = S.left source.new; faults = S.faults source.new }) result.cause result.reply.items }
     ensures due { (bytes : List ℕ) → S.left source.old ≡ Some bytes → IsDue (map string_bytes words.now) bytes result.cause result.reply.items }
-    ensures read { (budget : ℕ) (bytes : List ℕ) → AsksAll (map string_bytes words.now) budget → S.left source.old ≡ Some bytes → IsRead bytes (S.left source.new) result.cause }
+    ensures read { (c : Command) (bytes : List ℕ) → Spells (map string_bytes words.now) c → S.left source.old ≡ Some bytes → IsRead bytes (S.left source.new) result.cause }
     ensures unread { IsUsage (map string_bytes words.now) → source.new ≡ source.old }
 {
     match read_command(alloc, words) {
@@ -341,8 +218,8 @@ fn finish<K: Sink>(cause: Cause, reply: &[u8], sink: &mut K) -> Outcome
     }
 }
 
-/// Does what the words ask: reads a program from the source, and writes the leaves of its search to the sink. The words are
-/// those after the program's name.
+/// Does what the words ask: reads a program from the source, and writes to the sink what it shows, and for `all` then the leaves
+/// of its search. The words are those after the program's name.
 ///
 /// A fault of the source or of the sink comes only where its count rose in this call. Want of memory may be answered at any
 /// time before the writing, and then nothing is written.
@@ -371,32 +248,41 @@ pub fn oz_call<S: Source, K: Sink, G: Gate>(
         (record { written = K.written sink.new; faults = K.faults sink.new }) result.cause }
 
     // `all` on an accepted text whose top becomes quiescent with a script, and whose tree takes no more than what is left of
-    // the budget, writes exactly the unfailed leaves, each once, left to right, and their totals.
+    // the budget, writes what the top has shown and exactly the unfailed leaves, each once, left to right, and their totals.
     ensures leaves { (budget : ℕ) (bytes before : List ℕ) (p : Program) (found : List Leaf) (left : ℕ) → AsksAll (map string_bytes words.now) budget
         → S.left source.old ≡ Some bytes → K.written sink.old ≡ Some before → length bytes ≤ text_limit → Accepts bytes p
-        → Searches (kernel_of p) budget (Some (found, left))
+        → (s : Searches (kernel_of p) budget (Some (found, left)))
         → result.cause ≢ Cause.ReadFault → result.cause ≢ Cause.WriteFault → result.cause ≢ Cause.NoMemory
-        → (result.cause ≡ Cause.Done) × (K.written sink.new ≡ Some (before ++ leaves_reply found)) }
+        → (result.cause ≡ Cause.Done) × (K.written sink.new ≡ Some (before ++ shown_lines s.top ++ leaves_reply found)) }
 
     // It is spent exactly where the tree takes more.
     ensures spent { (budget : ℕ) (bytes : List ℕ) (p : Program) → AsksAll (map string_bytes words.now) budget
         → S.left source.old ≡ Some bytes → length bytes ≤ text_limit → Accepts bytes p → Searches (kernel_of p) budget None
         → (result.cause ≡ Cause.Spent budget) ⊎ IsExcused result.cause }
 
+    // `run` on an accepted text whose top becomes quiescent within the budget writes exactly what the top has shown.
+    ensures shown { (budget : ℕ) (bytes before : List ℕ) (p : Program) (top : Configuration) (left : ℕ) → AsksRun (map string_bytes words.now) budget
+        → S.left source.old ≡ Some bytes → K.written sink.old ≡ Some before → length bytes ≤ text_limit → Accepts bytes p
+        → run (kernel_of p) [] (opening (kernel_of p)) budget ≡ Ended top left
+        → result.cause ≢ Cause.ReadFault → result.cause ≢ Cause.WriteFault → result.cause ≢ Cause.NoMemory
+        → (result.cause ≡ Cause.Done) × (K.written sink.new ≡ Some (before ++ shown_lines top)) }
+
     // Other words are faulty, and nothing is read.
     ensures usage { IsUsage (map string_bytes words.now) → (result.cause ≡ Cause.Usage) ⊎ IsExcused result.cause }
     ensures unread { IsUsage (map string_bytes words.now) → source.new ≡ source.old }
 
     // All bytes are read, or the one after the last that a text may have.
-    ensures read { (budget : ℕ) (bytes : List ℕ) → AsksAll (map string_bytes words.now) budget → S.left source.old ≡ Some bytes → IsRead bytes (S.left source.new) result.cause }
+    ensures read { (c : Command) (bytes : List ℕ) → Spells (map string_bytes words.now) c → S.left source.old ≡ Some bytes → IsRead bytes (S.left source.new) result.cause }
 
     // When each other cause comes.
-    ensures too_large { (budget : ℕ) (bytes : List ℕ) → AsksAll (map string_bytes words.now) budget → S.left source.old ≡ Some bytes → text_limit < length bytes
+    ensures too_large { (c : Command) (bytes : List ℕ) → Spells (map string_bytes words.now) c → S.left source.old ≡ Some bytes → text_limit < length bytes
         → (result.cause ≡ Cause.TooLarge (text_limit + 1)) ⊎ IsExcused result.cause }
-    ensures refused { (budget : ℕ) (bytes : List ℕ) (fault : Fault) → AsksAll (map string_bytes words.now) budget → S.left source.old ≡ Some bytes → length bytes ≤ text_limit → IsRefused bytes fault
+    ensures refused { (c : Command) (bytes : List ℕ) (fault : Fault) → Spells (map string_bytes words.now) c → S.left source.old ≡ Some bytes → length bytes ≤ text_limit → IsRefused bytes fault
         → (result.cause ≡ Cause.Refused fault) ⊎ IsExcused result.cause }
     ensures accepted { (budget : ℕ) (bytes : List ℕ) (p : Program) → AsksAll (map string_bytes words.now) budget → S.left source.old ≡ Some bytes → length bytes ≤ text_limit → Accepts bytes p
-        → (result.cause ≡ (answer_to (kernel_of p) budget).0) ⊎ IsExcused result.cause }
+        → (result.cause ≡ (all_answer (kernel_of p) budget).0) ⊎ IsExcused result.cause }
+    ensures accepted_run { (budget : ℕ) (bytes : List ℕ) (p : Program) → AsksRun (map string_bytes words.now) budget → S.left source.old ≡ Some bytes → length bytes ≤ text_limit → Accepts bytes p
+        → (result.cause ≡ (run_answer (kernel_of p) budget).0) ⊎ IsExcused result.cause }
 
     // Faults come only where they were counted, and before the writing nothing is written.
     ensures read_fault { result.cause ≡ Cause.ReadFault → Rose (S.faults source.old) (S.faults source.new) }

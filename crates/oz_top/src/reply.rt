@@ -1,11 +1,25 @@
-//! What is written of the leaves of a search.
+//! What is written of the texts that were shown, and of the leaves of a search.
 ghost use Rattle.std.specs.Prelude.{◌≡◌, ◌++◌, IfOk, OnOk, codes, count_by};
+ghost use Rattle.std.specs.List.{flat_map};
 ghost use Rattle.std.specs.Fmt.{decimal};
-ghost use Rattle.oz_semantics.specs.Replies.{leaf_line, leaf_lines, is_solved, is_stuck, is_raised, is_suspended, total_line, leaves_reply};
+ghost use Rattle.oz_semantics.specs.Replies.{line, leaf_line, leaf_lines, is_solved, is_stuck, is_raised, is_suspended, total_line, leaves_reply};
 ghost use Rattle.oz_semantics.specs.declared.outcome.Leaf.{Leaf};
 
+use oz_base::Sequence;
 use oz_semantics::{Leaf, State};
 use std::alloc::{AllocError, Global};
+
+/// A line for each text.
+pub fn lines(alloc: Global, texts: &[Sequence<u8>]) -> Result<Vec<u8>, AllocError>
+    ensures { IfOk result (λ lines. lines.items ≡ flat_map line texts.now) }
+{
+    let mut lines = Vec::new(alloc);
+    for text in texts {
+        lines.extend_from_slice(text.as_slice())?;
+        lines.extend_from_slice(b"\n")?;
+    }
+    Ok(lines)
+}
 
 /// Adds a number in decimal digits.
 pub fn add_decimal(alloc: Global, number: u64, out: &mut Vec<u8>) -> Result<(), AllocError>
@@ -136,14 +150,12 @@ fn total_line(alloc: Global, leaves: &[Leaf]) -> Result<Vec<u8>, AllocError>
     Ok(line)
 }
 
-/// What a search that found these leaves writes.
+/// Adds what a search that found these leaves writes.
 #[tactic(auto, unfolding(oz_semantics::specs::Replies::leaves_reply))]
-pub fn leaves_reply(alloc: Global, leaves: &[Leaf]) -> Result<Vec<u8>, AllocError>
-    ensures { IfOk result (λ reply. reply.items ≡ leaves_reply leaves.now) }
+pub fn add_leaves_reply(alloc: Global, leaves: &[Leaf], out: &mut Vec<u8>) -> Result<(), AllocError>
+    ensures { OnOk result (out.new.items ≡ out.old.items ++ leaves_reply leaves.now) }
 {
-    let mut reply = Vec::new(alloc);
-    add_leaf_lines(alloc, leaves, &mut reply)?;
+    add_leaf_lines(alloc, leaves, out)?;
     let line = total_line(alloc, leaves)?;
-    reply.extend_from_slice(line.as_slice())?;
-    Ok(reply)
+    out.extend_from_slice(line.as_slice())
 }

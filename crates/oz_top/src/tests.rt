@@ -19,6 +19,10 @@ const ENDS: &[u8] = b"Y in proc {Script R} choice R=f(R) [] {R} [] {Script} [] Y
 const END_LEAVES: &str =
     "solved 1 f(^1)\nstuck 2 _\nraised 3 error(kernel(arity))\nsuspended 4\ntotal solved=1 stuck=1 raised=1 suspended=1\n";
 
+const SHOWN_ONE: &[u8] = b"{Show a} proc {Script R} R=b end";
+
+const SHOWN_LEAF: &str = "a\nsolved 1 b\ntotal solved=1 stuck=0 raised=0 suspended=0\n";
+
 const ENDLESS: &[u8] = b"proc {Script R} choice R=a [] {Script R} end end";
 
 fn call<G: Gate>(
@@ -35,6 +39,14 @@ fn call<G: Gate>(
     Ok(oz_call(alloc, list.as_slice(), source, sink, gate))
 }
 
+/// What is written for a text, and the status.
+fn answered(alloc: Global, words: &[&str], text: &[u8]) -> Result<(MemSink, u8), AllocError> {
+    let mut source = MemSource::new(alloc, text, 7, &[])?;
+    let mut sink = MemSink::new(alloc, 1000, 5, &[])?;
+    let outcome = call(alloc, words, &mut source, &mut sink, &OpenGate)?;
+    Ok((sink, outcome.status))
+}
+
 #[test]
 fn answers_each_text(rt: HostRuntime) -> Result<(), Fail> {
     let cases: [(&[&str], &[u8], &str, u8); 9] = [
@@ -49,11 +61,53 @@ fn answers_each_text(rt: HostRuntime) -> Result<(), Fail> {
         (&["all", "--workers", "2"], TWO, "usage\n", 2),
     ];
     for (words, text, reply, status) in cases {
-        let mut source = MemSource::new(rt.alloc(), text, 7, &[])?;
-        let mut sink = MemSink::new(rt.alloc(), 1000, 5, &[])?;
-        let outcome = call(rt.alloc(), words, &mut source, &mut sink, &OpenGate)?;
+        let (sink, ended) = answered(rt.alloc(), words, text)?;
         assert_eq!(rt; sink.written(), reply.as_bytes());
-        assert_eq!(rt; outcome.status, status);
+        assert_eq!(rt; ended, status);
+    }
+    Ok(())
+}
+
+#[test]
+fn runs_each_text(rt: HostRuntime) -> Result<(), Fail> {
+    let cases: [(&[&str], &[u8], &str, u8); 6] = [
+        (&["run"], b"{Show 1} {Show f(a)}", "1\nf(a)\n", 0),
+        (&["run"], b"", "", 0),
+        (&["run", "--budget", "8"], b"{Show a} {Show b}", "a\nb\n", 0),
+        (
+            &["run", "--budget=7"],
+            b"{Show a} {Show b}",
+            "a\nspent 7\n",
+            6,
+        ),
+        (&["run"], b"{Show a} fail", "a\nraised failure(fail)\n", 1),
+        (&["run"], b"{Show 1.5}", "refused byte 7\n", 3),
+    ];
+    for (words, text, reply, status) in cases {
+        let (sink, ended) = answered(rt.alloc(), words, text)?;
+        assert_eq!(rt; sink.written(), reply.as_bytes());
+        assert_eq!(rt; ended, status);
+    }
+    Ok(())
+}
+
+#[test]
+fn what_was_shown_stands_in_front(rt: HostRuntime) -> Result<(), Fail> {
+    let cases: [(&[&str], &[u8], &str, u8); 4] = [
+        (&["all"], b"{Show a}", "a\nno script\n", 9),
+        (&["all"], SHOWN_ONE, SHOWN_LEAF, 0),
+        (&["all", "--budget", "7"], SHOWN_ONE, "a\nspent 7\n", 6),
+        (
+            &["all"],
+            b"{Show a} Script=1 Script=2",
+            "a\nraised failure(tell)\n",
+            1,
+        ),
+    ];
+    for (words, text, reply, status) in cases {
+        let (sink, ended) = answered(rt.alloc(), words, text)?;
+        assert_eq!(rt; sink.written(), reply.as_bytes());
+        assert_eq!(rt; ended, status);
     }
     Ok(())
 }
@@ -106,7 +160,7 @@ fn a_failing_sink_cuts_the_reply_short(rt: HostRuntime) -> Result<(), Fail> {
 fn other_words_read_nothing(rt: HostRuntime) -> Result<(), Fail> {
     let mut source = MemSource::new(rt.alloc(), TWO, 100, &[1])?;
     let mut sink = MemSink::new(rt.alloc(), 1000, 1000, &[])?;
-    let outcome = call(rt.alloc(), &["run"], &mut source, &mut sink, &OpenGate)?;
+    let outcome = call(rt.alloc(), &["walk"], &mut source, &mut sink, &OpenGate)?;
     assert_eq!(rt; outcome.status, 2);
     let outcome = call(rt.alloc(), &["all"], &mut source, &mut sink, &OpenGate)?;
     assert_eq!(rt; outcome.status, 4);

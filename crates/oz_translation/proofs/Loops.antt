@@ -17,19 +17,19 @@ use Rattle.oz_translation.proofs.Naming.{declared_more}
 pub next_one : (ps : List Tree) (i : ℕ) (e : Tree) → i < length ps → e ≡ get_or ps i e → of_list (views (drop i ps)) ≡ more (view e) (of_list (views (drop (i + 1) ps)))
 next_one ps i e lt is = ap (λ es. of_list (views es)) (drop_more ps i e lt ∙ ap (λ y. y ∷ drop (i + 1) ps) (sym is))
 
-pub fill_loop : (o o' f : Output) (ps : List Tree) (i : ℕ) (e : Tree) (a : Name) (m m' n n' : ℕ) →
+pub fill_loop : (words : List (List ℕ)) (o o' f : Output) (ps : List Tree) (i : ℕ) (e : Tree) (a : Name) (m m' n n' : ℕ) →
     i < length ps → e ≡ get_or ps i e →
     a ≡ name_or m (variable_of (view e)) → m' ≡ next_after m (variable_of (view e)) →
-    o' ≡ with_all o (unless_variable (variable_of (view e)) (valued n a (view e))) → n' ≡ behind n (view e) →
-    with_all o (filled m n (of_list (views (drop i ps)))) ≡ f →
-    with_all o' (filled m' n' (of_list (views (drop (i + 1) ps)))) ≡ f
-fill_loop o o' f ps i e a m m' n n' lt is ea em eo en h =
+    o' ≡ with_all o (unless_variable (variable_of (view e)) (valued words n a (view e))) → n' ≡ behind n (view e) →
+    with_all o (filled words m n (of_list (views (drop i ps)))) ≡ f →
+    with_all o' (filled words m' n' (of_list (views (drop (i + 1) ps)))) ≡ f
+fill_loop words o o' f ps i e a m m' n n' lt is ea em eo en h =
     let rest = of_list (views (drop (i + 1) ps)) in
-    ap (λ q. with_all q (filled m' n' rest)) (eo ∙ ap (λ q. with_all o (unless_variable (variable_of (view e)) (valued n q (view e)))) ea)
-    ∙ ap (λ q. with_all (with_all o (unless_variable (variable_of (view e)) (valued n (name_or m (variable_of (view e))) (view e)))) (filled q n' rest)) em
-    ∙ ap (λ q. with_all (with_all o (unless_variable (variable_of (view e)) (valued n (name_or m (variable_of (view e))) (view e)))) (filled (next_after m (variable_of (view e))) q rest)) en
+    ap (λ q. with_all q (filled words m' n' rest)) (eo ∙ ap (λ q. with_all o (unless_variable (variable_of (view e)) (valued words n q (view e)))) ea)
+    ∙ ap (λ q. with_all (with_all o (unless_variable (variable_of (view e)) (valued words n (name_or m (variable_of (view e))) (view e)))) (filled words q n' rest)) em
+    ∙ ap (λ q. with_all (with_all o (unless_variable (variable_of (view e)) (valued words n (name_or m (variable_of (view e))) (view e)))) (filled words (next_after m (variable_of (view e))) q rest)) en
     ∙ with_both o _ _
-    ∙ sym (ap (λ es. with_all o (filled m n es)) (next_one ps i e lt is))
+    ∙ sym (ap (λ es. with_all o (filled words m n es)) (next_one ps i e lt is))
     ∙ h
 
 pub fill_next : (ps : List Tree) (i : ℕ) (e : Tree) (n n' g : ℕ) → i < length ps → e ≡ get_or ps i e → n' ≡ behind n (view e) →
@@ -37,17 +37,17 @@ pub fill_next : (ps : List Tree) (i : ℕ) (e : Tree) (n n' g : ℕ) → i < len
 fill_next ps i e n n' g lt is en h =
     ap (λ q. behind_each q (of_list (views (drop (i + 1) ps)))) en ∙ sym (ap (behind_each n) (next_one ps i e lt is)) ∙ h
 
-pub each_loop : (o o' f : Output) (ps : List Tree) (i : ℕ) (e : Tree) (n n' : ℕ) →
+pub each_loop : (words : List (List ℕ)) (o o' f : Output) (ps : List Tree) (i : ℕ) (e : Tree) (n n' : ℕ) →
     i < length ps → e ≡ get_or ps i e →
-    o' ≡ with_all o (translated n (view e)) → n' ≡ behind_statement n (view e) →
-    with_all o (translated_each n (of_list (views (drop i ps)))) ≡ f →
-    with_all o' (translated_each n' (of_list (views (drop (i + 1) ps)))) ≡ f
-each_loop o o' f ps i e n n' lt is eo en h =
+    o' ≡ with_all o (translated words n (view e)) → n' ≡ behind_statement n (view e) →
+    with_all o (translated_each words n (of_list (views (drop i ps)))) ≡ f →
+    with_all o' (translated_each words n' (of_list (views (drop (i + 1) ps)))) ≡ f
+each_loop words o o' f ps i e n n' lt is eo en h =
     let rest = of_list (views (drop (i + 1) ps)) in
-    ap (λ q. with_all q (translated_each n' rest)) eo
-    ∙ ap (λ q. with_all (with_all o (translated n (view e))) (translated_each q rest)) en
+    ap (λ q. with_all q (translated_each words n' rest)) eo
+    ∙ ap (λ q. with_all (with_all o (translated words n (view e))) (translated_each words q rest)) en
     ∙ with_both o _ _
-    ∙ sym (ap (λ es. with_all o (translated_each n es)) (next_one ps i e lt is))
+    ∙ sym (ap (λ es. with_all o (translated_each words n es)) (next_one ps i e lt is))
     ∙ h
 
 pub each_next : (ps : List Tree) (i : ℕ) (e : Tree) (n n' g : ℕ) → i < length ps → e ≡ get_or ps i e → n' ≡ behind_statement n (view e) →
@@ -55,33 +55,33 @@ pub each_next : (ps : List Tree) (i : ℕ) (e : Tree) (n n' g : ℕ) → i < len
 each_next ps i e n n' g lt is en h =
     ap (λ q. behind_statements q (of_list (views (drop (i + 1) ps)))) en ∙ sym (ap (behind_statements n) (next_one ps i e lt is)) ∙ h
 
-pub bodies_loop : (o o' f : Output) (ps : List Tree) (i : ℕ) (e : Tree) (n n' : ℕ) →
+pub bodies_loop : (words : List (List ℕ)) (o o' f : Output) (ps : List Tree) (i : ℕ) (e : Tree) (n n' : ℕ) →
     i < length ps → e ≡ get_or ps i e →
-    o' ≡ with_inside o (translated n (view e)) → n' ≡ behind_statement n (view e) →
-    with_bodies o (alternatives n (of_list (views (drop i ps)))) ≡ f →
-    with_bodies o' (alternatives n' (of_list (views (drop (i + 1) ps)))) ≡ f
-bodies_loop o o' f ps i e n n' lt is eo en h =
+    o' ≡ with_inside o (translated words n (view e)) → n' ≡ behind_statement n (view e) →
+    with_bodies o (alternatives words n (of_list (views (drop i ps)))) ≡ f →
+    with_bodies o' (alternatives words n' (of_list (views (drop (i + 1) ps)))) ≡ f
+bodies_loop words o o' f ps i e n n' lt is eo en h =
     let rest = of_list (views (drop (i + 1) ps)) in
-    ap (λ q. with_bodies q (alternatives n' rest)) eo
-    ∙ ap (λ q. with_bodies (with_inside o (translated n (view e))) (alternatives q rest)) en
+    ap (λ q. with_bodies q (alternatives words n' rest)) eo
+    ∙ ap (λ q. with_bodies (with_inside o (translated words n (view e))) (alternatives words q rest)) en
     ∙ bodies_both o _ _
-    ∙ sym (ap (λ es. with_bodies o (alternatives n es)) (next_one ps i e lt is))
+    ∙ sym (ap (λ es. with_bodies o (alternatives words n es)) (next_one ps i e lt is))
     ∙ h
 
-pub numbers_loop : (o o' : Output) (bs bs' f : List (List ℕ)) (b : List ℕ) (ps : List Tree) (i : ℕ) (e : Tree) (n n' : ℕ) →
+pub numbers_loop : (words : List (List ℕ)) (o o' : Output) (bs bs' f : List (List ℕ)) (b : List ℕ) (ps : List Tree) (i : ℕ) (e : Tree) (n n' : ℕ) →
     i < length ps → e ≡ get_or ps i e →
-    o' ≡ with_inside o (translated n (view e)) → b ≡ numbers (length o.statements) (translated n (view e)) → n' ≡ behind_statement n (view e) →
+    o' ≡ with_inside o (translated words n (view e)) → b ≡ numbers (length o.statements) (translated words n (view e)) → n' ≡ behind_statement n (view e) →
     bs' ≡ bs ++ b ∷ [] →
-    bs ++ numbers_each (length o.statements) (alternatives n (of_list (views (drop i ps)))) ≡ f →
-    bs' ++ numbers_each (length o'.statements) (alternatives n' (of_list (views (drop (i + 1) ps)))) ≡ f
-numbers_loop o o' bs bs' f b ps i e n n' lt is eo eb en es h =
+    bs ++ numbers_each (length o.statements) (alternatives words n (of_list (views (drop i ps)))) ≡ f →
+    bs' ++ numbers_each (length o'.statements) (alternatives words n' (of_list (views (drop (i + 1) ps)))) ≡ f
+numbers_loop words o o' bs bs' f b ps i e n n' lt is eo eb en es h =
     let rest = of_list (views (drop (i + 1) ps)) in
-    ap (λ q. q ++ numbers_each (length o'.statements) (alternatives n' rest)) (es ∙ ap (λ q. bs ++ q ∷ []) eb)
-    ∙ ap (λ q. (bs ++ numbers (length o.statements) (translated n (view e)) ∷ []) ++ numbers_each q (alternatives n' rest))
-    (ap (λ q. length q.statements) eo ∙ behind_inside o (translated n (view e)))
-    ∙ ap (λ q. (bs ++ numbers (length o.statements) (translated n (view e)) ∷ []) ++ numbers_each (length o.statements + count (translated n (view e))) (alternatives q rest)) en
-    ∙ append_assoc bs (numbers (length o.statements) (translated n (view e)) ∷ []) _
-    ∙ sym (ap (λ es. bs ++ numbers_each (length o.statements) (alternatives n es)) (next_one ps i e lt is))
+    ap (λ q. q ++ numbers_each (length o'.statements) (alternatives words n' rest)) (es ∙ ap (λ q. bs ++ q ∷ []) eb)
+    ∙ ap (λ q. (bs ++ numbers (length o.statements) (translated words n (view e)) ∷ []) ++ numbers_each q (alternatives words n' rest))
+    (ap (λ q. length q.statements) eo ∙ behind_inside o (translated words n (view e)))
+    ∙ ap (λ q. (bs ++ numbers (length o.statements) (translated words n (view e)) ∷ []) ++ numbers_each (length o.statements + count (translated words n (view e))) (alternatives words q rest)) en
+    ∙ append_assoc bs (numbers (length o.statements) (translated words n (view e)) ∷ []) _
+    ∙ sym (ap (λ es. bs ++ numbers_each (length o.statements) (alternatives words n es)) (next_one ps i e lt is))
     ∙ h
 
 pub declared_loop : (xs xs' f : List Name) (seen seen' : List ℕ) (ps : List Tree) (i : ℕ) (e : Tree) →
@@ -100,21 +100,21 @@ declared_loop xs xs' f seen seen' ps i e lt is ex es h =
 
 -- The end of a loop
 
-none_left : (ps : List Tree) (i : ℕ) → length ps ≤ i → of_list (views (drop i ps)) ≡ nothing
+pub none_left : (ps : List Tree) (i : ℕ) → length ps ≤ i → of_list (views (drop i ps)) ≡ nothing
 none_left ps i le = ap (λ es. of_list (views es)) (drop_all i ps le)
 
-pub fill_end : (o f : Output) (ps : List Tree) (i m n : ℕ) → length ps ≤ i → with_all o (filled m n (of_list (views (drop i ps)))) ≡ f → o ≡ f
-fill_end o f ps i m n le h = sym (with_nothing o) ∙ sym (ap (λ es. with_all o (filled m n es)) (none_left ps i le)) ∙ h
+pub fill_end : (words : List (List ℕ)) (o f : Output) (ps : List Tree) (i m n : ℕ) → length ps ≤ i → with_all o (filled words m n (of_list (views (drop i ps)))) ≡ f → o ≡ f
+fill_end words o f ps i m n le h = sym (with_nothing o) ∙ sym (ap (λ es. with_all o (filled words m n es)) (none_left ps i le)) ∙ h
 
-pub each_end : (o f : Output) (ps : List Tree) (i n : ℕ) → length ps ≤ i → with_all o (translated_each n (of_list (views (drop i ps)))) ≡ f → o ≡ f
-each_end o f ps i n le h = sym (with_nothing o) ∙ sym (ap (λ es. with_all o (translated_each n es)) (none_left ps i le)) ∙ h
+pub each_end : (words : List (List ℕ)) (o f : Output) (ps : List Tree) (i n : ℕ) → length ps ≤ i → with_all o (translated_each words n (of_list (views (drop i ps)))) ≡ f → o ≡ f
+each_end words o f ps i n le h = sym (with_nothing o) ∙ sym (ap (λ es. with_all o (translated_each words n es)) (none_left ps i le)) ∙ h
 
-pub bodies_end : (o f : Output) (ps : List Tree) (i n : ℕ) → length ps ≤ i → with_bodies o (alternatives n (of_list (views (drop i ps)))) ≡ f → o ≡ f
-bodies_end o f ps i n le h = sym (no_bodies o) ∙ sym (ap (λ es. with_bodies o (alternatives n es)) (none_left ps i le)) ∙ h
+pub bodies_end : (words : List (List ℕ)) (o f : Output) (ps : List Tree) (i n : ℕ) → length ps ≤ i → with_bodies o (alternatives words n (of_list (views (drop i ps)))) ≡ f → o ≡ f
+bodies_end words o f ps i n le h = sym (no_bodies o) ∙ sym (ap (λ es. with_bodies o (alternatives words n es)) (none_left ps i le)) ∙ h
 
-pub numbers_end : (bs f : List (List ℕ)) (ps : List Tree) (i m n : ℕ) → length ps ≤ i →
-    bs ++ numbers_each m (alternatives n (of_list (views (drop i ps)))) ≡ f → bs ≡ f
-numbers_end bs f ps i m n le h = sym (append-nil bs) ∙ sym (ap (λ es. bs ++ numbers_each m (alternatives n es)) (none_left ps i le)) ∙ h
+pub numbers_end : (words : List (List ℕ)) (bs f : List (List ℕ)) (ps : List Tree) (i m n : ℕ) → length ps ≤ i →
+    bs ++ numbers_each m (alternatives words n (of_list (views (drop i ps)))) ≡ f → bs ≡ f
+numbers_end words bs f ps i m n le h = sym (append-nil bs) ∙ sym (ap (λ es. bs ++ numbers_each m (alternatives words n es)) (none_left ps i le)) ∙ h
 
 -- Where there are some
 

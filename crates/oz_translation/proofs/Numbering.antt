@@ -3,6 +3,10 @@ use Rattle.std.proofs.Common.{◌≡◌, ℕ, suc, ◌+◌, arith, ◌∷◌, �
 use Rattle.oz_semantics.specs.Kernels.{Stmt, Stmts, none, followed, Bodies, no_body, ◌⨾◌, inside, count, count_bodies, numbers, statement_at, listed_inside, listed_all, listed_bodies}
 use Rattle.oz_semantics.specs.Kernels as k
 
+pub then_nothing : (a : Stmts) → (a ⨾ none) ≡ a
+then_nothing none = refl
+then_nothing (followed s a) = ap (followed s) (then_nothing a)
+
 pub count_both : (a b : Stmts) → count (a ⨾ b) ≡ count a + count b
 count_both none b = omega arith
 count_both (followed s a) b = let h = count_both a b in omega (arith, h)
@@ -26,6 +30,16 @@ mutual
   length-listed_inside n (k.local xs ss) = length-listed_all n ss
   length-listed_inside n (k.bind_procedure x xs ss) = length-listed_all n ss
   length-listed_inside n (k.choice bs) = length-listed_bodies n bs
+  length-listed_inside n (k.test x ss us) =
+      let first = length-listed_all n ss in
+      let second = length-listed_all (n + count ss) us in
+      let both = length-append (listed_all n ss) (listed_all (n + count ss) us) in
+      omega (arith, first, second, both)
+  length-listed_inside n (k.matching x p ss us) =
+      let first = length-listed_all n ss in
+      let second = length-listed_all (n + count ss) us in
+      let both = length-append (listed_all n ss) (listed_all (n + count ss) us) in
+      omega (arith, first, second, both)
   length-listed_inside n s = refl
 
   pub length-listed_all : (n : ℕ) (ss : Stmts) → length (listed_all n ss) ≡ count ss

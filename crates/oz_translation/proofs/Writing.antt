@@ -1,5 +1,5 @@
 -- What the output comes to, piece by piece.
-use Rattle.std.proofs.Common.{◌≡◌, ℕ, ◌+◌, List, [], ◌∷◌, ◌++◌, length, length-append, append_assoc, refl, ap, sym, ◌∙◌}
+use Rattle.std.proofs.Common.{◌≡◌, ℕ, ◌+◌, List, [], ◌∷◌, ◌++◌, length, length-append, append_assoc, refl, ap, sym, ◌∙◌, arith}
 use Rattle.std.proofs.lemmas.List.{append-nil}
 use Rattle.oz_semantics.specs.Grammar.{Phrase, Phrases, nothing, more}
 use Rattle.oz_semantics.specs.declared.token.Literal.{Literal}
@@ -10,17 +10,17 @@ use Rattle.oz_semantics.specs.declared.kernel.Statement.{Statement}
 use Rattle.oz_semantics.specs.declared.kernel.Statement.TheVariants as numbered
 use Rattle.oz_semantics.specs.Kernels.{Stmt, Stmts, none, followed, Bodies, no_body, just, ◌⨾◌, inside, count, numbers, numbers_each, statement_at, listed_inside, listed_all, listed_bodies}
 use Rattle.oz_semantics.specs.Kernels as k
-use Rattle.oz_semantics.specs.Translation.{scoped, declaring, declared, tuple_or_label, translated, kernel_of}
+use Rattle.oz_semantics.specs.Translation.{scoped, declaring, declared, record_or_label, translated, kernel_of}
 use Rattle.oz_translation.specs.declared.output.Output.{Output}
-use Rattle.oz_translation.specs.Outputs.{with_statement, with_all, with_inside, with_bodies, opened, joined, in_local, in_scope, in_declarations}
+use Rattle.oz_translation.specs.Outputs.{with_statement, with_all, with_inside, with_bodies, with_alone, opened, joined, in_local, in_scope, in_declarations}
 use Rattle.oz_translation.proofs.Numbering.{numbers_both, listed_both, length-listed_all, length-listed_inside}
 
 -- the same statements and the same body
-same : (s t : List Statement) (a b : List ℕ) → s ≡ t → a ≡ b →
+pub same : (s t : List Statement) (a b : List ℕ) → s ≡ t → a ≡ b →
     ◌≡◌ {A = Output} (record { statements = s; body = a }) (record { statements = t; body = b })
 same s t a b e d = λ i. record { statements = e i; body = d i }
 
-behind_all : (s : List Statement) (ss : Stmts) → length (s ++ listed_all (length s) ss) ≡ length s + count ss
+pub behind_all : (s : List Statement) (ss : Stmts) → length (s ++ listed_all (length s) ss) ≡ length s + count ss
 behind_all s ss = length-append s (listed_all (length s) ss) ∙ ap (λ m. length s + m) (length-listed_all (length s) ss)
 
 pub with_nothing : (o : Output) → with_all o none ≡ o
@@ -37,7 +37,7 @@ with_both o a b = same _ _ _ _
     ∙ append_assoc o.body _ _ ∙ ap (λ xs. o.body ++ xs) (sym (numbers_both (length o.statements) a b)))
 
 -- a statement has those inside it before it
-with_outer : (o : Output) (s : Stmt) →
+pub with_outer : (o : Output) (s : Stmt) →
     with_statement (record { statements = o.statements ++ listed_inside (length o.statements) s; body = o.body }) (statement_at (length o.statements) s)
     ≡ with_all o (just s)
 unfolding with_all
@@ -69,10 +69,10 @@ bind_written o x v = with_plain o (k.bind x v) (numbered.Bind x v) refl refl
 pub call_written : (o : Output) (x : Name) (xs : List Name) → with_all o (just (k.call x xs)) ≡ with_statement o (numbered.Call x xs)
 call_written o x xs = with_plain o (k.call x xs) (numbered.Call x xs) refl refl
 
-pub tuple_written : (o : Output) (x : Name) (l : Literal) (xs : List Name) →
-    with_all o (just (tuple_or_label x l xs)) ≡ with_statement o (statement_at 0 (tuple_or_label x l xs))
-tuple_written o x l [] = with_plain o (tuple_or_label x l []) _ refl refl
-tuple_written o x l (y ∷ ys) = with_plain o (tuple_or_label x l (y ∷ ys)) _ refl refl
+pub record_written : (o : Output) (x : Name) (l : Literal) (fs : List (Constant × Name)) →
+    with_all o (just (record_or_label x l fs)) ≡ with_statement o (statement_at 0 (record_or_label x l fs))
+record_written o x l [] = with_plain o (record_or_label x l []) _ refl refl
+record_written o x l (f ∷ fs) = with_plain o (record_or_label x l (f ∷ fs)) _ refl refl
 
 -- Bodies inside statements
 
@@ -102,6 +102,43 @@ unfolding with_bodies
 choice_written o o1 o2 ns bs e1 en e2 =
     e2 ∙ ap (λ q. with_statement q (numbered.Choice ns)) e1 ∙ ap (λ q. with_statement (with_bodies o bs) (numbered.Choice q)) en
     ∙ with_outer o (k.choice bs)
+
+-- an `if`, by its two bodies
+pub test_written : (o o1 o2 o3 : Output) (x : Name) (b c : List ℕ) (ss us : Stmts) →
+    o1 ≡ with_inside o ss → b ≡ numbers (length o.statements) ss →
+    o2 ≡ with_inside o1 us → c ≡ numbers (length o1.statements) us →
+    o3 ≡ with_statement o2 (numbered.If x b c) →
+    o3 ≡ with_all o (just (k.test x ss us))
+unfolding with_inside
+test_written o o1 o2 o3 x b c ss us e1 eb e2 ec e3 =
+    let m = length o.statements in
+    let behind : length o1.statements ≡ m + count ss = ap (λ q. length q.statements) e1 ∙ behind_all o.statements ss in
+    let both : o2 ≡ record { statements = o.statements ++ (listed_all m ss ++ listed_all (m + count ss) us); body = o.body } =
+    e2 ∙ ap (λ q. record { statements = o1.statements ++ listed_all q us; body = o1.body }) behind
+    ∙ ap (λ q. record { statements = q.statements ++ listed_all (m + count ss) us; body = q.body }) e1
+    ∙ same _ _ _ _ (append_assoc o.statements _ _) (λ i. o.body) in
+    e3 ∙ ap (λ q. with_statement q (numbered.If x b c)) both
+    ∙ ap (λ q. with_statement (record { statements = o.statements ++ (listed_all m ss ++ listed_all (m + count ss) us); body = o.body }) (numbered.If x q c)) eb
+    ∙ ap (λ q. with_statement (record { statements = o.statements ++ (listed_all m ss ++ listed_all (m + count ss) us); body = o.body }) (numbered.If x (numbers m ss) q))
+    (ec ∙ ap (λ q. numbers q us) behind)
+    ∙ with_outer o (k.test x ss us)
+
+-- a statement that has none inside, as a body of its own
+alone_inside : (o : Output) (s : Stmt) (st : Statement) → [] ≡ listed_inside (length o.statements) s → statement_at (length o.statements) s ≡ st →
+    with_alone o st ≡ with_inside o (just s)
+unfolding with_inside
+alone_inside o s st h e = same _ _ _ _
+    (ap (λ q. o.statements ++ q ∷ []) (sym e) ∙ ap (λ xs. o.statements ++ (xs ++ statement_at (length o.statements) s ∷ [])) h)
+    (λ i. o.body)
+
+pub skip_inside : (o : Output) → with_alone o numbered.Skip ≡ with_inside o (just k.skip)
+skip_inside o = alone_inside o k.skip numbered.Skip refl refl
+
+pub no_match_inside : (o : Output) → with_alone o numbered.NoMatch ≡ with_inside o (just k.no_match)
+no_match_inside o = alone_inside o k.no_match numbered.NoMatch refl refl
+
+pub only_number : (m : ℕ) → (m ∷ []) ≡ ((m + 0) ∷ [])
+only_number m = ap (λ q. q ∷ []) (omega arith)
 
 pub no_bodies : (o : Output) → with_bodies o no_body ≡ o
 unfolding with_bodies
@@ -161,10 +198,10 @@ declarations_written o o1 o2 o3 o4 outer ds a b e1 eo e2 e3 e4 =
 -- A whole program
 
 pub kernel_written : (w w' : List (List ℕ)) (o o' : Output) (p : Phrase) (n : ℕ) →
-    w' ≡ w → o ≡ record { statements = []; body = [] } → n ≡ 1 → o' ≡ with_all o (translated n p) →
+    w' ≡ w → o ≡ record { statements = []; body = [] } → n ≡ 1 → o' ≡ with_all o (translated w n p) →
     ◌≡◌ {A = Kernel} (record { words = w'; statements = o'.statements; body = o'.body }) (kernel_of (record { words = w; phrase = p }))
 unfolding with_all kernel_of
 kernel_written w w' o o' p n ew eo en e =
-    let all : o' ≡ with_all (record { statements = []; body = [] }) (translated 1 p) =
-    e ∙ ap (λ q. with_all q (translated n p)) eo ∙ ap (λ m. with_all (record { statements = []; body = [] }) (translated m p)) en in
+    let all : o' ≡ with_all (record { statements = []; body = [] }) (translated w 1 p) =
+    e ∙ ap (λ q. with_all q (translated w n p)) eo ∙ ap (λ m. with_all (record { statements = []; body = [] }) (translated w m p)) en in
     λ i. record { words = ew i; statements = (all i).statements; body = (all i).body }

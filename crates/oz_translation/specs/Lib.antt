@@ -1,2 +1,5 @@
 pub mod Outputs
 pub mod Declares
+pub mod Keys
+pub mod Chains
+pub mod Order

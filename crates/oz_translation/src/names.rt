@@ -10,12 +10,13 @@ use oz_semantics::Name;
 use oz_syntax::Phrase;
 use std::alloc::{AllocError, Global};
 
-/// The identifier of a variable.
+/// The identifier of a variable, or of a field that is one.
 pub fn variable_of(phrase: &Phrase) -> Option<Name>
     ensures { result ≡ variable_of (view phrase.now) }
 {
     match phrase {
         Phrase::Var { name, .. } => Some(Name::Word(*name)),
+        Phrase::Keyed { value, .. } => variable_of(value),
         _ => None,
     }
 }

@@ -1,13 +1,14 @@
 //! The statements written so far.
-ghost use Rattle.std.specs.Prelude.{◌≡◌, [], OnOk, IfOk};
-ghost use Rattle.oz_semantics.specs.Kernels.{statement_at, none, just};
+ghost use Rattle.std.specs.Prelude.{◌≡◌, [], ◌∷◌, length, OnOk, IfOk};
+ghost use Rattle.oz_semantics.specs.Kernels.{none, just};
 ghost use Rattle.oz_semantics.specs.Kernels as k;
 ghost use Rattle.oz_semantics.specs.declared.kernel.Statement.TheVariants as numbered;
-ghost use Rattle.oz_semantics.specs.Translation.{called, tuple_or_label};
-ghost use Rattle.oz_translation.specs.Outputs.{with_statement, with_all, opened, joined, in_local, in_scope};
+ghost use Rattle.oz_semantics.specs.Translation.{called};
+ghost use Rattle.oz_translation.specs.Chains.{with_chain};
+ghost use Rattle.oz_translation.specs.Outputs.{with_statement, with_all, with_alone, with_part_closed, opened, joined, in_local, in_scope};
 
-use oz_base::Sequence;
-use oz_semantics::{Constant, Literal, Name, Statement};
+use oz_base::{Sequence, Stack};
+use oz_semantics::{Constant, Name, Piece, Statement};
 use std::alloc::{AllocError, Global};
 use std::mem;
 
@@ -28,22 +29,11 @@ fn number_at(place: usize) -> Result<u32, AllocError>
     }
 }
 
-/// A tuple, or its label where it has no fields.
-fn tuple_or_label(name: Name, label: Literal, fields: Sequence<Name>) -> Statement
-    ensures { result ≡ statement_at 0 (tuple_or_label name label fields) }
-{
-    if fields.len() == 0 {
-        Statement::Bind {
-            name,
-            value: Constant::Literal(label),
-        }
-    } else {
-        Statement::BindTuple {
-            name,
-            label,
-            fields,
-        }
-    }
+/// A clause of a `case` whose body is written: the nodes of its pattern, and the numbers of the statements of its body.
+#[derive(Drop)]
+pub struct Arm {
+    pub pattern: Sequence<Piece>,
+    pub accepted: Sequence<u32>,
 }
 
 impl Output {
@@ -58,7 +48,7 @@ impl Output {
     }
 
     /// Adds a statement to the body.
-    fn push(&mut self, statement: Statement) -> Result<(), AllocError>
+    pub fn push(&mut self, statement: Statement) -> Result<(), AllocError>
         ensures { OnOk result (self.new ≡ with_statement self.old statement) }
     {
         let number = number_at(self.statements.len())?;
@@ -111,20 +101,6 @@ impl Output {
         Ok(())
     }
 
-    /// `X=l(Y ..)`, or `X=l`
-    #[tactic(auto, using(crate::proofs::Writing::tuple_written))]
-    pub fn tuple(
-        &mut self,
-        name: Name,
-        label: Literal,
-        fields: Sequence<Name>,
-    ) -> Result<(), AllocError>
-        ensures { OnOk result (self.new ≡ with_all self.old (just (tuple_or_label name label fields))) }
-    {
-        self.push(tuple_or_label(name, label, fields))?;
-        Ok(())
-    }
-
     /// A call of the first with the others.
     #[tactic(auto, using(crate::proofs::Writing::with_nothing, crate::proofs::Writing::call_written))]
     pub fn call(&mut self, mut names: Sequence<Name>) -> Result<(), AllocError>
@@ -161,6 +137,61 @@ impl Output {
         ensures { OnOk result (self.new ≡ with_statement self.old (numbered.Choice alternatives)) }
     {
         self.push(Statement::Choice { alternatives })
+    }
+
+    /// `if X then S .. else S .. end`, by the numbers of its bodies.
+    pub fn test(
+        &mut self,
+        condition: Name,
+        accepted: Sequence<u32>,
+        otherwise: Sequence<u32>,
+    ) -> Result<(), AllocError>
+        ensures { OnOk result (self.new ≡ with_statement self.old (numbered.If condition accepted otherwise)) }
+    {
+        self.push(Statement::If {
+            condition,
+            accepted,
+            otherwise,
+        })
+    }
+
+    /// Writes a statement that stands in no body yet, and hands out a body of it alone.
+    pub fn alone(
+        &mut self,
+        alloc: Global,
+        statement: Statement,
+    ) -> Result<Sequence<u32>, AllocError>
+        ensures output { OnOk result (self.new ≡ with_alone self.old statement) }
+        ensures body { IfOk result (λ body. body ≡ length self.old.statements ∷ []) }
+    {
+        let mut body = Sequence::new(alloc);
+        body.push(number_at(self.statements.len())?)?;
+        self.statements.push(statement)?;
+        Ok(body)
+    }
+
+    /// The `case` statements of clauses, from the last clause to the first, since a statement comes behind those inside it.
+    /// They go on with what is done where no clause matches.
+    pub fn chain(
+        &mut self,
+        alloc: Global,
+        subject: Name,
+        mut arms: Stack<Arm>,
+        last: Sequence<u32>,
+    ) -> Result<(), AllocError>
+        ensures { OnOk result (self.new ≡ with_chain subject arms self.old last) }
+    {
+        let mut otherwise = last;
+        'arms: while let Some(Arm { pattern, accepted }) = arms.pop() {
+            let statement = Statement::Case {
+                subject,
+                pattern,
+                accepted,
+                otherwise,
+            };
+            otherwise = self.alone(alloc, statement)?;
+        }
+        self.body.append(otherwise.into_vec())
     }
 
     /// Begins a body of its own, and hands out the outer one.
@@ -211,6 +242,25 @@ impl Output {
             self.join(outer)
         } else {
             self.close_local(outer, names)
+        }
+    }
+
+    /// Does so where the name is one that the translation made.
+    pub fn close_part(
+        &mut self,
+        alloc: Global,
+        outer: Sequence<u32>,
+        name: Name,
+    ) -> Result<(), AllocError>
+        ensures { OnOk result (self.new ≡ with_part_closed name outer self.old) }
+    {
+        match name {
+            Name::Word(_) => self.join(outer),
+            Name::Fresh(_) => {
+                let mut names = Sequence::new(alloc);
+                names.push(name)?;
+                self.close_local(outer, names)
+            }
         }
     }
 }

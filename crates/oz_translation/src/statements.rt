@@ -12,7 +12,7 @@ use crate::expressions::Writer;
 use crate::names::variables;
 use crate::output::Output;
 use oz_base::{Sequence, Words};
-use oz_semantics::{Kernel, Name};
+use oz_semantics::{Kernel, Name, Statement};
 use oz_syntax::Phrase;
 use std::alloc::{AllocError, Global};
 use std::mem;
@@ -28,81 +28,121 @@ fn parameters(alloc: Global, head: &[Phrase]) -> Result<Sequence<Name>, AllocErr
 }
 
 impl Writer {
-    /// The statements of a statement, a declaration or a body.
+    /// The statements of a statement, a declaration, a clause or a body.
     #[cycle(statements)]
-    fn statement(&mut self, phrase: &Phrase) -> Result<(), AllocError>
-        ensures output { OnOk result (self.new.output ≡ with_all self.old.output (translated self.old.numbers.next (view phrase.now))) }
+    pub fn statement(&mut self, words: &Words, phrase: &Phrase) -> Result<(), AllocError>
+        ensures output { OnOk result (self.new.output ≡ with_all self.old.output (translated words.now self.old.numbers.next (view phrase.now))) }
         ensures next { OnOk result (self.new.numbers.next ≡ behind_statement self.old.numbers.next (view phrase.now)) }
     {
         match phrase {
             Phrase::Skip => self.output.skip(),
             Phrase::Fail => self.output.fail(),
-            Phrase::Equal { left, right } => self.equate(left, right),
-            Phrase::Call { parts } => self.call(parts),
+            Phrase::Equal { left, right } => self.equate(words, left, right),
+            Phrase::Call { parts } => self.call(words, parts),
             Phrase::Proc { head, body } => match head_name(head) {
-                None => self.pass_over(body),
+                None => self.pass_over(words, body),
                 Some(name) => {
                     let parameters = parameters(self.alloc, head)?;
-                    self.procedure(name, parameters, body)
+                    self.procedure(words, name, parameters, body)
                 }
             },
             Phrase::Local { declarations, body } => {
                 let outer = self.output.open(self.alloc);
-                self.statements(declarations)?;
-                self.statement(body)?;
+                self.statements(words, declarations)?;
+                self.statement(words, body)?;
                 self.close_declarations(outer, declarations)?;
                 Ok(())
             }
-            Phrase::Choice { alternatives } => self.choice(alternatives),
+            Phrase::Choice { alternatives } => self.choice(words, alternatives),
+            Phrase::When { condition, body } => {
+                let part = self.open_part(words, condition)?;
+                let accepted = self.inner(words, body)?;
+                let refused = self.output.alone(self.alloc, Statement::Skip)?;
+                self.close_test(part, accepted, refused)?;
+                Ok(())
+            }
+            Phrase::Choose {
+                condition,
+                body,
+                otherwise,
+            } => {
+                let part = self.open_part(words, condition)?;
+                let accepted = self.inner(words, body)?;
+                let refused = self.inner(words, otherwise)?;
+                self.close_test(part, accepted, refused)?;
+                Ok(())
+            }
+            Phrase::Cases { subject, clauses } => {
+                let part = self.open_part(words, subject)?;
+                let arms = self.arms(words, clauses)?;
+                let last = self.output.alone(self.alloc, Statement::NoMatch)?;
+                self.close_chain(part, arms, last)?;
+                Ok(())
+            }
+            Phrase::CasesOr {
+                subject,
+                clauses,
+                otherwise,
+            } => {
+                let part = self.open_part(words, subject)?;
+                let arms = self.arms(words, clauses)?;
+                let last = self.inner(words, otherwise)?;
+                self.close_chain(part, arms, last)?;
+                Ok(())
+            }
+            Phrase::Clause { body, .. } => self.statement(words, body),
             Phrase::Body {
                 declarations,
                 statements,
             } => {
                 let outer = self.output.open(self.alloc);
-                self.statements(declarations)?;
-                self.statements_or_skip(statements)?;
+                self.statements(words, declarations)?;
+                self.statements_or_skip(words, statements)?;
                 self.close_declarations(outer, declarations)?;
                 Ok(())
             }
-            Phrase::Var { .. } | Phrase::Int(_) | Phrase::Literal(_) | Phrase::Tuple { .. } => {
-                self.output.nothing()
-            }
+            Phrase::Var { .. }
+            | Phrase::Any { .. }
+            | Phrase::Int { .. }
+            | Phrase::Literal { .. }
+            | Phrase::Record { .. }
+            | Phrase::Keyed { .. } => self.output.nothing(),
         }
     }
 
     /// One behind the other.
     #[cycle(statements)]
-    fn statements(&mut self, phrases: &[Phrase]) -> Result<(), AllocError>
-        ensures output { OnOk result (self.new.output ≡ with_all self.old.output (translated_each self.old.numbers.next (of_list (views phrases.now)))) }
+    fn statements(&mut self, words: &Words, phrases: &[Phrase]) -> Result<(), AllocError>
+        ensures output { OnOk result (self.new.output ≡ with_all self.old.output (translated_each words.now self.old.numbers.next (of_list (views phrases.now)))) }
         ensures next { OnOk result (self.new.numbers.next ≡ behind_statements self.old.numbers.next (of_list (views phrases.now))) }
     {
         'phrases: for phrase in phrases {
-            self.statement(phrase)?;
+            self.statement(words, phrase)?;
         }
         Ok(())
     }
 
     /// `skip` where there are none.
     #[cycle(statements)]
-    fn statements_or_skip(&mut self, phrases: &[Phrase]) -> Result<(), AllocError>
-        ensures output { OnOk result (self.new.output ≡ with_all self.old.output (or_skip (of_list (views phrases.now)) (translated_each self.old.numbers.next (of_list (views phrases.now))))) }
+    fn statements_or_skip(&mut self, words: &Words, phrases: &[Phrase]) -> Result<(), AllocError>
+        ensures output { OnOk result (self.new.output ≡ with_all self.old.output (or_skip (of_list (views phrases.now)) (translated_each words.now self.old.numbers.next (of_list (views phrases.now))))) }
         ensures next { OnOk result (self.new.numbers.next ≡ behind_statements self.old.numbers.next (of_list (views phrases.now))) }
     {
         match phrases {
             [] => self.output.skip(),
-            [_, ..] => self.statements(phrases),
+            [_, ..] => self.statements(words, phrases),
         }
     }
 
     /// The body of another statement: its statements are written, and the numbers of its own handed out.
     #[cycle(statements)]
-    fn inner(&mut self, phrase: &Phrase) -> Result<Sequence<u32>, AllocError>
-        ensures output { OnOk result (self.new.output ≡ with_inside self.old.output (translated self.old.numbers.next (view phrase.now))) }
-        ensures body { IfOk result (λ body. body ≡ numbers (length self.old.output.statements) (translated self.old.numbers.next (view phrase.now))) }
+    pub fn inner(&mut self, words: &Words, phrase: &Phrase) -> Result<Sequence<u32>, AllocError>
+        ensures output { OnOk result (self.new.output ≡ with_inside self.old.output (translated words.now self.old.numbers.next (view phrase.now))) }
+        ensures body { IfOk result (λ body. body ≡ numbers (length self.old.output.statements) (translated words.now self.old.numbers.next (view phrase.now))) }
         ensures next { OnOk result (self.new.numbers.next ≡ behind_statement self.old.numbers.next (view phrase.now)) }
     {
         let outer = self.output.open(self.alloc);
-        self.statement(phrase)?;
+        self.statement(words, phrase)?;
         let body = self.output.close(outer);
         Ok(body)
     }
@@ -111,14 +151,15 @@ impl Writer {
     #[cycle(statements)]
     fn procedure(
         &mut self,
+        words: &Words,
         name: u32,
         parameters: Sequence<Name>,
         body: &Phrase,
     ) -> Result<(), AllocError>
-        ensures output { OnOk result (self.new.output ≡ with_all self.old.output (bound (Some name) parameters (translated self.old.numbers.next (view body.now)))) }
+        ensures output { OnOk result (self.new.output ≡ with_all self.old.output (bound (Some name) parameters (translated words.now self.old.numbers.next (view body.now)))) }
         ensures next { OnOk result (self.new.numbers.next ≡ behind_statement self.old.numbers.next (view body.now)) }
     {
-        let body = self.inner(body)?;
+        let body = self.inner(words, body)?;
         self.output.procedure(Name::Word(name), parameters, body)?;
         Ok(())
     }
@@ -126,12 +167,12 @@ impl Writer {
     /// Writes nothing; the identifiers that the phrase would take are used up.
     #[cycle(statements)]
     #[tactic(auto, using(crate::proofs::Writing::with_nothing))]
-    fn pass_over(&mut self, phrase: &Phrase) -> Result<(), AllocError>
+    fn pass_over(&mut self, words: &Words, phrase: &Phrase) -> Result<(), AllocError>
         ensures output { OnOk result (self.new.output ≡ with_all self.old.output none) }
         ensures next { OnOk result (self.new.numbers.next ≡ behind_statement self.old.numbers.next (view phrase.now)) }
     {
         let output = mem::replace(&mut self.output, Output::new(self.alloc));
-        self.statement(phrase)?;
+        self.statement(words, phrase)?;
         self.output = output;
         Ok(())
     }
@@ -157,14 +198,18 @@ impl Writer {
 
     /// The bodies of alternatives.
     #[cycle(statements)]
-    fn alternatives(&mut self, phrases: &[Phrase]) -> Result<Sequence<Sequence<u32>>, AllocError>
-        ensures output { OnOk result (self.new.output ≡ with_bodies self.old.output (alternatives self.old.numbers.next (of_list (views phrases.now)))) }
-        ensures bodies { IfOk result (λ bodies. bodies ≡ numbers_each (length self.old.output.statements) (alternatives self.old.numbers.next (of_list (views phrases.now)))) }
+    fn alternatives(
+        &mut self,
+        words: &Words,
+        phrases: &[Phrase],
+    ) -> Result<Sequence<Sequence<u32>>, AllocError>
+        ensures output { OnOk result (self.new.output ≡ with_bodies self.old.output (alternatives words.now self.old.numbers.next (of_list (views phrases.now)))) }
+        ensures bodies { IfOk result (λ bodies. bodies ≡ numbers_each (length self.old.output.statements) (alternatives words.now self.old.numbers.next (of_list (views phrases.now)))) }
         ensures next { OnOk result (self.new.numbers.next ≡ behind_statements self.old.numbers.next (of_list (views phrases.now))) }
     {
         let mut bodies = Sequence::new(self.alloc);
         'phrases: for phrase in phrases {
-            let body = self.inner(phrase)?;
+            let body = self.inner(words, phrase)?;
             bodies.push(body)?;
         }
         Ok(bodies)
@@ -172,11 +217,11 @@ impl Writer {
 
     /// `choice B [] .. end`
     #[cycle(statements)]
-    fn choice(&mut self, phrases: &[Phrase]) -> Result<(), AllocError>
-        ensures output { OnOk result (self.new.output ≡ with_all self.old.output (translated self.old.numbers.next (choice (of_list (views phrases.now))))) }
+    fn choice(&mut self, words: &Words, phrases: &[Phrase]) -> Result<(), AllocError>
+        ensures output { OnOk result (self.new.output ≡ with_all self.old.output (translated words.now self.old.numbers.next (choice (of_list (views phrases.now))))) }
         ensures next { OnOk result (self.new.numbers.next ≡ behind_statements self.old.numbers.next (of_list (views phrases.now))) }
     {
-        let alternatives = self.alternatives(phrases)?;
+        let alternatives = self.alternatives(words, phrases)?;
         self.output.choice(alternatives)?;
         Ok(())
     }
@@ -189,7 +234,7 @@ pub fn translate(alloc: Global, words: &Words, phrase: &Phrase) -> Result<Kernel
     ensures { IfOk result (λ kernel. kernel ≡ kernel_of (record { words = words.now; phrase = view phrase.now })) }
 {
     let mut writer = Writer::new(alloc);
-    writer.statement(phrase)?;
+    writer.statement(words, phrase)?;
     Ok(Kernel {
         words: words.texts(alloc)?,
         statements: writer.output.statements,

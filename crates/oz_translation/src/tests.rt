@@ -1,11 +1,11 @@
 use crate::translate;
 use oz_base::{Sequence, Words};
-use oz_semantics::{Constant, Kernel, Literal, Name, Statement};
+use oz_semantics::{Constant, Kernel, Literal, Name, Piece, Statement};
 use oz_syntax::Phrase;
 use std::alloc::{AllocError, Global};
 use std::test::*;
 
-// The words are numbered as they stand here, so that `V2` is `R`.
+// The words are numbered as they stand here, so that `V2` is `R`. A test of the order of atoms numbers its own.
 const F: u32 = 10;
 
 const G: u32 = 11;
@@ -16,11 +16,38 @@ fn var(name: u32) -> Phrase {
     Phrase::Var { name, at: 0 }
 }
 
-fn tuple(label: u32, fields: Vec<Phrase>) -> Phrase {
-    Phrase::Tuple {
+fn int(value: i128) -> Phrase {
+    Phrase::Int { value, at: 0 }
+}
+
+fn atom(name: u32) -> Phrase {
+    Phrase::Literal {
+        literal: Literal::Atom(name),
+        at: 0,
+    }
+}
+
+fn record(label: u32, fields: Vec<Phrase>) -> Phrase {
+    Phrase::Record {
         label: Literal::Atom(label),
+        at: 0,
         fields,
     }
+}
+
+fn keyed(alloc: Global, key: Constant, value: Phrase) -> Result<Phrase, AllocError> {
+    Ok(Phrase::Keyed {
+        key,
+        at: 0,
+        value: Box::new(alloc, value)?,
+    })
+}
+
+fn clause(alloc: Global, pattern: Phrase, body: Phrase) -> Result<Phrase, AllocError> {
+    Ok(Phrase::Clause {
+        pattern: Box::new(alloc, pattern)?,
+        body: Box::new(alloc, body)?,
+    })
 }
 
 fn equal(alloc: Global, left: Phrase, right: Phrase) -> Result<Phrase, AllocError> {
@@ -90,6 +117,37 @@ fn constant_text(alloc: Global, value: &Constant) -> Result<String, AllocError> 
     }
 }
 
+fn features_text(alloc: Global, features: &Sequence<Constant>) -> Result<String, AllocError> {
+    let mut text = String::new(alloc);
+    for feature in features.as_slice() {
+        text.push_str(" ")?;
+        text.push_str(constant_text(alloc, feature)?.as_str())?;
+    }
+    Ok(text)
+}
+
+fn piece_text(alloc: Global, piece: &Piece) -> Result<String, AllocError> {
+    match piece {
+        Piece::Variable(name) => name_text(alloc, name),
+        Piece::Any => format!(in alloc; "_"),
+        Piece::Constant(value) => constant_text(alloc, value),
+        Piece::Record { label, features } => {
+            let label = literal_text(alloc, label)?;
+            let features = features_text(alloc, features)?;
+            format!(in alloc; "{label}({features} )")
+        }
+    }
+}
+
+fn pattern_text(alloc: Global, pattern: &Sequence<Piece>) -> Result<String, AllocError> {
+    let mut text = String::new(alloc);
+    for piece in pattern.as_slice() {
+        text.push_str(" ")?;
+        text.push_str(piece_text(alloc, piece)?.as_str())?;
+    }
+    Ok(text)
+}
+
 fn statement_text(alloc: Global, statement: &Statement) -> Result<String, AllocError> {
     match statement {
         Statement::Skip => format!(in alloc; "skip"),
@@ -109,15 +167,17 @@ fn statement_text(alloc: Global, statement: &Statement) -> Result<String, AllocE
             let value = constant_text(alloc, value)?;
             format!(in alloc; "{name}={value}")
         }
-        Statement::BindTuple {
+        Statement::BindRecord {
             name,
             label,
+            features,
             fields,
         } => {
             let name = name_text(alloc, name)?;
             let label = literal_text(alloc, label)?;
+            let features = features_text(alloc, features)?;
             let fields = names_text(alloc, fields)?;
-            format!(in alloc; "{name}={label}({fields} )")
+            format!(in alloc; "{name}={label}({features}:{fields} )")
         }
         Statement::BindProcedure {
             name,
@@ -141,6 +201,29 @@ fn statement_text(alloc: Global, statement: &Statement) -> Result<String, AllocE
             let alternatives = bodies_text(alloc, alternatives)?;
             format!(in alloc; "choice{alternatives}")
         }
+        Statement::If {
+            condition,
+            accepted,
+            otherwise,
+        } => {
+            let condition = name_text(alloc, condition)?;
+            let accepted = body_text(alloc, accepted)?;
+            let otherwise = body_text(alloc, otherwise)?;
+            format!(in alloc; "if {condition} then{accepted} else{otherwise}")
+        }
+        Statement::Case {
+            subject,
+            pattern,
+            accepted,
+            otherwise,
+        } => {
+            let subject = name_text(alloc, subject)?;
+            let pattern = pattern_text(alloc, pattern)?;
+            let accepted = body_text(alloc, accepted)?;
+            let otherwise = body_text(alloc, otherwise)?;
+            format!(in alloc; "case {subject} of{pattern} then{accepted} else{otherwise}")
+        }
+        Statement::NoMatch => format!(in alloc; "nomatch"),
     }
 }
 
@@ -167,7 +250,7 @@ fn a_choice_in_a_procedure(rt: HostRuntime) -> Result<(), Fail> {
     let alloc = rt.alloc();
     let first = body(
         Vec::new(alloc),
-        vec![in alloc; equal(alloc, var(2), Phrase::Literal(Literal::Atom(A)))?]?,
+        vec![in alloc; equal(alloc, var(2), atom(A))?]?,
     );
     let second = body(Vec::new(alloc), vec![in alloc; Phrase::Fail]?);
     let choice = Phrase::Choice {
@@ -186,12 +269,12 @@ fn a_choice_in_a_procedure(rt: HostRuntime) -> Result<(), Fail> {
 }
 
 #[test]
-fn tuples_in_tuples(rt: HostRuntime) -> Result<(), Fail> {
+fn records_in_records(rt: HostRuntime) -> Result<(), Fail> {
     // X Y in X=f(g(Y) Y a()) Y=X
     let alloc = rt.alloc();
-    let inner = tuple(G, vec![in alloc; var(3)]?);
-    let empty = tuple(A, Vec::new(alloc));
-    let outer = tuple(F, vec![in alloc; inner, var(3), empty]?);
+    let inner = record(G, vec![in alloc; var(3)]?);
+    let empty = record(A, Vec::new(alloc));
+    let outer = record(F, vec![in alloc; inner, var(3), empty]?);
     let first = equal(alloc, var(2), outer)?;
     let second = equal(alloc, var(3), var(2))?;
     let program = body(
@@ -200,7 +283,7 @@ fn tuples_in_tuples(rt: HostRuntime) -> Result<(), Fail> {
     );
     assert_eq!(rt;
         kernel_of(alloc, &program)?.as_str(),
-        "V2=a10( _1 V3 _2 ); _1=a11( V3 ); _2=a12; local _1 _2 in 0 1 2; V3=V2; local V2 V3 in 3 4; do 5"
+        "V2=a10( 1 2 3: _1 V3 _2 ); _1=a11( 1: V3 ); _2=a12; local _1 _2 in 0 1 2; V3=V2; local V2 V3 in 3 4; do 5"
     );
     Ok(())
 }
@@ -209,12 +292,12 @@ fn tuples_in_tuples(rt: HostRuntime) -> Result<(), Fail> {
 fn no_side_is_a_variable(rt: HostRuntime) -> Result<(), Fail> {
     // f(X)=g(1)
     let alloc = rt.alloc();
-    let left = tuple(F, vec![in alloc; var(2)]?);
-    let right = tuple(G, vec![in alloc; Phrase::Int(1)]?);
+    let left = record(F, vec![in alloc; var(2)]?);
+    let right = record(G, vec![in alloc; int(1)]?);
     let program = body(Vec::new(alloc), vec![in alloc; equal(alloc, left, right)?]?);
     assert_eq!(rt;
         kernel_of(alloc, &program)?.as_str(),
-        "_1=a10( V2 ); _1=a11( _2 ); _2=1; local _2 in 1 2; local _1 in 0 3; do 4"
+        "_1=a10( 1: V2 ); _1=a11( 1: _2 ); _2=1; local _2 in 1 2; local _1 in 0 3; do 4"
     );
     Ok(())
 }
@@ -228,8 +311,8 @@ fn declared_once(rt: HostRuntime) -> Result<(), Fail> {
         head: vec![in alloc; var(4), var(3)]?,
         body: Box::new(alloc, nothing)?,
     };
-    let value = equal(alloc, Phrase::Int(1), var(2))?;
-    let argument = tuple(F, vec![in alloc; var(2)]?);
+    let value = equal(alloc, int(1), var(2))?;
+    let argument = record(F, vec![in alloc; var(2)]?);
     let call = Phrase::Call {
         parts: vec![in alloc; var(4), argument, var(2)]?,
     };
@@ -241,7 +324,7 @@ fn declared_once(rt: HostRuntime) -> Result<(), Fail> {
     let program = body(Vec::new(alloc), vec![in alloc; local]?);
     assert_eq!(rt;
         kernel_of(alloc, &program)?.as_str(),
-        "skip; proc V4 V3: 0; V2=1; _1=a10( V2 ); call V4 _1 V2; local _1 in 3 4; local V2 V4 in 1 2 5; do 6"
+        "skip; proc V4 V3: 0; V2=1; _1=a10( 1: V2 ); call V4 _1 V2; local _1 in 3 4; local V2 V4 in 1 2 5; do 6"
     );
     Ok(())
 }
@@ -250,7 +333,7 @@ fn declared_once(rt: HostRuntime) -> Result<(), Fail> {
 fn what_is_no_statement(rt: HostRuntime) -> Result<(), Fail> {
     // An expression, a procedure without a name, a call of nothing, and `local skip in end`.
     let alloc = rt.alloc();
-    let both = equal(alloc, Phrase::Int(1), Phrase::Int(2))?;
+    let both = equal(alloc, int(1), int(2))?;
     let nameless = Phrase::Proc {
         head: Vec::new(alloc),
         body: Box::new(alloc, both)?,
@@ -262,10 +345,10 @@ fn what_is_no_statement(rt: HostRuntime) -> Result<(), Fail> {
     let call = Phrase::Call {
         parts: Vec::new(alloc),
     };
-    let last = equal(alloc, Phrase::Int(3), Phrase::Int(4))?;
+    let last = equal(alloc, int(3), int(4))?;
     let program = body(
         Vec::new(alloc),
-        vec![in alloc; Phrase::Int(1), nameless, call, local, last]?,
+        vec![in alloc; int(1), nameless, call, local, last]?,
     );
     assert_eq!(rt;
         kernel_of(alloc, &program)?.as_str(),
@@ -281,14 +364,122 @@ fn long_programs(rt: HostRuntime) -> Result<(), Fail> {
     let mut fields = Vec::new(alloc);
     let mut declarations = Vec::new(alloc);
     for i in 0..100000 {
-        statements.push(equal(alloc, var(2), Phrase::Int(1))?)?;
-        fields.push(Phrase::Int(1))?;
+        statements.push(equal(alloc, var(2), int(1))?)?;
+        fields.push(int(1))?;
         declarations.push(var(i))?;
     }
-    statements.push(equal(alloc, var(2), tuple(F, fields))?)?;
+    statements.push(equal(alloc, var(2), record(F, fields))?)?;
     let words = Words::new(alloc);
     let kernel = translate(alloc, &words, &body(declarations, statements))?;
     assert_eq!(rt; kernel.statements.len(), 200003);
     assert_eq!(rt; kernel.body.len(), 1);
+    Ok(())
+}
+
+#[test]
+fn a_test_without_else(rt: HostRuntime) -> Result<(), Fail> {
+    // if X then Y=1 end
+    let alloc = rt.alloc();
+    let value = equal(alloc, var(3), int(1))?;
+    let when = Phrase::When {
+        condition: Box::new(alloc, var(2))?,
+        body: Box::new(alloc, value)?,
+    };
+    assert_eq!(rt;
+        kernel_of(alloc, &when)?.as_str(),
+        "V3=1; skip; if V2 then 0 else 1; do 2"
+    );
+    Ok(())
+}
+
+#[test]
+fn a_test_of_a_record(rt: HostRuntime) -> Result<(), Fail> {
+    // if f(X) then Y=1 else fail end
+    let alloc = rt.alloc();
+    let value = equal(alloc, var(3), int(1))?;
+    let condition = record(F, vec![in alloc; var(2)]?);
+    let choose = Phrase::Choose {
+        condition: Box::new(alloc, condition)?,
+        body: Box::new(alloc, value)?,
+        otherwise: Box::new(alloc, Phrase::Fail)?,
+    };
+    assert_eq!(rt;
+        kernel_of(alloc, &choose)?.as_str(),
+        "_1=a10( 1: V2 ); V3=1; fail; if _1 then 1 else 2; local _1 in 0 3; do 4"
+    );
+    Ok(())
+}
+
+#[test]
+fn clauses_without_else(rt: HostRuntime) -> Result<(), Fail> {
+    // case X of 1 then skip [] Y then fail end
+    let alloc = rt.alloc();
+    let first = clause(alloc, int(1), Phrase::Skip)?;
+    let second = clause(alloc, var(3), Phrase::Fail)?;
+    let cases = Phrase::Cases {
+        subject: Box::new(alloc, var(2))?,
+        clauses: vec![in alloc; first, second]?,
+    };
+    assert_eq!(rt;
+        kernel_of(alloc, &cases)?.as_str(),
+        "skip; fail; nomatch; case V2 of V3 then 1 else 2; case V2 of 1 then 0 else 3; do 4"
+    );
+    Ok(())
+}
+
+#[test]
+fn a_clause_with_else(rt: HostRuntime) -> Result<(), Fail> {
+    // case a of f(_ g()) then skip else fail end
+    let alloc = rt.alloc();
+    let empty = record(G, Vec::new(alloc));
+    let pattern = record(F, vec![in alloc; Phrase::Any { at: 0 }, empty]?);
+    let cases = Phrase::CasesOr {
+        subject: Box::new(alloc, atom(A))?,
+        clauses: vec![in alloc; clause(alloc, pattern, Phrase::Skip)?]?,
+        otherwise: Box::new(alloc, Phrase::Fail)?,
+    };
+    assert_eq!(rt;
+        kernel_of(alloc, &cases)?.as_str(),
+        "_1=a12; skip; fail; case _1 of a10( 1 2 ) _ a11 then 1 else 2; local _1 in 0 3; do 4"
+    );
+    Ok(())
+}
+
+#[test]
+fn fields_in_arity_order(rt: HostRuntime) -> Result<(), Fail> {
+    // X=f(b:1 2:X a:2 3), where the text of the word 0 is `b` and that of 1 is `a`
+    let alloc = rt.alloc();
+    let mut words = Words::new(alloc);
+    let b = words.number(b"b")?;
+    let a = words.number(b"a")?;
+    let first = keyed(alloc, Constant::Literal(Literal::Atom(b)), int(1))?;
+    let second = keyed(alloc, Constant::Int(2), var(2))?;
+    let third = keyed(alloc, Constant::Literal(Literal::Atom(a)), int(2))?;
+    let fields = vec![in alloc; first, second, third, int(3)]?;
+    let program = equal(alloc, var(2), record(F, fields))?;
+    let kernel = translate(alloc, &words, &program)?;
+    assert_eq!(rt;
+        kernel_text(alloc, &kernel)?.as_str(),
+        "V2=a10( 1 2 a1 a0: _3 V2 _2 _1 ); _1=1; _2=2; _3=3; local _1 _2 _3 in 0 1 2 3; do 4"
+    );
+    Ok(())
+}
+
+#[test]
+fn a_pattern_in_arity_order(rt: HostRuntime) -> Result<(), Fail> {
+    // case X of f(true:g(Y) a:Z 1) then skip end
+    let alloc = rt.alloc();
+    let inner = record(G, vec![in alloc; var(3)]?);
+    let first = keyed(alloc, Constant::Literal(Literal::True), inner)?;
+    let second = keyed(alloc, Constant::Literal(Literal::Atom(A)), var(4))?;
+    let pattern = record(F, vec![in alloc; first, second, int(1)]?);
+    let cases = Phrase::Cases {
+        subject: Box::new(alloc, var(2))?,
+        clauses: vec![in alloc; clause(alloc, pattern, Phrase::Skip)?]?,
+    };
+    assert_eq!(rt;
+        kernel_of(alloc, &cases)?.as_str(),
+        "skip; nomatch; case V2 of a10( 1 a12 true ) 1 V4 a11( 1 ) V3 then 0 else 1; do 2"
+    );
     Ok(())
 }

@@ -3,7 +3,7 @@ use Rattle.std.proofs.Common.{◌≡◌, List, [], ◌∷◌, ◌++◌, Option, 
 use Rattle.std.proofs.lemmas.List.{append-nil}
 use Rattle.oz_semantics.specs.declared.token.Token.{Token}
 use Rattle.oz_semantics.specs.declared.token.Token.TheVariants.{Box}
-use Rattle.oz_semantics.specs.Grammar.{Phrase, Phrases, nothing, more, of_list, tokens_of, each, boxed, is_more, is_var, are_vars, expr, exprs, stmt, stmts, decl, decls, is_body, bodies}
+use Rattle.oz_semantics.specs.Grammar.{Phrase, Phrases, nothing, more, keyed, of_list, tokens_of, each, boxed, is_more, is_var, are_vars, term, fields as are_fields, expr, exprs, stmt, stmts, is_clause, clauses, decl, decls, is_body, bodies}
 use Rattle.reader_law.specs.Machine.{Stack, guard, bind, is_some_item, step, run}
 
 -- ---- truth values
@@ -66,6 +66,26 @@ pub exprs_snoc : (ps : List Phrase) (p : Phrase) → exprs (of_list ps) ≡ true
 exprs_snoc [] p h i = both (expr p) true i refl
 exprs_snoc (q ∷ ps) p h i = let j = split (expr q) (exprs (of_list ps)) h in both (expr q) _ j.fst (exprs_snoc ps p j.snd i)
 
+-- a field, with a key or without
+abbrev pub is_field : Bool → Phrase → Bool
+is_field w (keyed c place e) = term w e
+is_field w e = term w e
+
+pub fields_more : (w : Bool) (p : Phrase) (ps : Phrases) → are_fields w (more p ps) ≡ is_field w p && are_fields w ps
+fields_more w (keyed c place e) ps = refl
+fields_more w p ps = refl
+
+pub fields_snoc : (w : Bool) (ps : List Phrase) (p : Phrase) → are_fields w (of_list ps) ≡ true → is_field w p ≡ true → are_fields w (of_list (ps ++ p ∷ [])) ≡ true
+fields_snoc w [] p h i = fields_more w p nothing ∙ both (is_field w p) true i refl
+fields_snoc w (q ∷ ps) p h i =
+    let j = split (is_field w q) (are_fields w (of_list ps)) (sym (fields_more w q (of_list ps)) ∙ h) in
+    fields_more w q (of_list (ps ++ p ∷ [])) ∙ both (is_field w q) _ j.fst (fields_snoc w ps p j.snd i)
+
+-- a term is a field
+pub term_field : (w : Bool) (p : Phrase) → term w p ≡ true → is_field w p ≡ true
+term_field w (keyed c place e) h = absurd (cc)
+term_field w p h = h
+
 pub stmts_snoc : (ps : List Phrase) (p : Phrase) → stmts (of_list ps) ≡ true → stmt p ≡ true → stmts (of_list (ps ++ p ∷ [])) ≡ true
 stmts_snoc [] p h i = both (stmt p) true i refl
 stmts_snoc (q ∷ ps) p h i = let j = split (stmt q) (stmts (of_list ps)) h in both (stmt q) _ j.fst (stmts_snoc ps p j.snd i)
@@ -78,7 +98,11 @@ pub bodies_snoc : (ps : List Phrase) (p : Phrase) → bodies (of_list ps) ≡ tr
 bodies_snoc [] p h i = both (is_body p) true i refl
 bodies_snoc (q ∷ ps) p h i = let j = split (is_body q) (bodies (of_list ps)) h in both (is_body q) _ j.fst (bodies_snoc ps p j.snd i)
 
--- bodies, each with [] behind it
+pub clauses_snoc : (ps : List Phrase) (p : Phrase) → clauses (of_list ps) ≡ true → is_clause p ≡ true → clauses (of_list (ps ++ p ∷ [])) ≡ true
+clauses_snoc [] p h i = both (is_clause p) true i refl
+clauses_snoc (q ∷ ps) p h i = let j = split (is_clause q) (clauses (of_list ps)) h in both (is_clause q) _ j.fst (clauses_snoc ps p j.snd i)
+
+-- phrases, each with [] behind it
 abbrev pub boxes : List Phrase → List Token
 boxes [] = []
 boxes (b ∷ bs) = tokens_of b ++ Box ∷ boxes bs

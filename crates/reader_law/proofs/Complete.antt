@@ -3,17 +3,20 @@ use Rattle.std.proofs.Common.{◌≡◌, ℕ, ℤ, List, [], ◌∷◌, ◌++◌
 use Rattle.std.proofs.lemmas.List.{append-nil}
 use Rattle.oz_semantics.specs.declared.token.Literal.{Literal}
 use Rattle.oz_semantics.specs.declared.token.Token.{Token}
-use Rattle.oz_semantics.specs.declared.token.Token.TheVariants.{Var, Int, Literal as Lit, Label, CloseBrace, CloseParen, Equals, Box, End, Fail, In, Skip}
-use Rattle.oz_semantics.specs.Grammar.{Phrase, Phrases, nothing, more, of_list, var, int, literal, tuple, skip, fail, equal, call, proc, local, choice, body, tokens_of, each, boxed, is_more, is_var, are_vars, expr, exprs, stmt, stmts, decls, is_body, bodies}
-use Rattle.reader_law.specs.Machine.{Opener, program, declaring, of_local, of_proc, of_choice, block, have, right, fields, parts, head, Stack, bind, is_some_item, add, add_statement, item_again, close, enter, next, step, run, accepted_of, finish, parse}
+use Rattle.oz_semantics.specs.declared.token.Token.TheVariants.{Var, Any, Int, Literal as Lit, Label, CloseBrace, CloseParen, Colon, Equals, Box, Else, End, Fail, In, Of, Skip, Then}
+use Rattle.oz_semantics.specs.declared.kernel.Constant.{Constant}
+use Rattle.oz_semantics.specs.declared.kernel.Constant.TheVariants as constant
+use Rattle.oz_semantics.specs.Grammar.{Phrase, Phrases, nothing, more, of_list, var, any, int, literal, rec, keyed, skip, fail, equal, call, proc, local, choice, when, choose, cases, cases_or, clause, body, key_token, tokens_of, each, boxed, is_more, is_var, are_vars, term, fields as are_fields, expr, pattern, exprs, stmt, stmts, clauses, decls, is_body, bodies}
+use Rattle.reader_law.specs.Machine.{Opener, program, declaring, of_local, of_proc, of_choice, of_then, of_else, of_clause, of_case_else, block, have, right, fields, key, parts, head, testing, matching, patterns, Stack, bind, is_some_item, add, add_statement, item_again, close, enter, next, step, run, accepted_of, finish, parse}
 use Rattle.reader_law.proofs.Basics.{split, or_left, guard_true, list_of, of_list-list_of, some_snoc, then_run}
-use Rattle.reader_law.proofs.Good.{Takes}
+use Rattle.reader_law.proofs.Good.{in_pattern, Takes}
 
 -- ---- going on behind what is whole
 
--- tokens that do not go on with an expression
+-- tokens that do not go on with an expression or a pattern
 abbrev pub IsNext : Option Token → Type 0
 IsNext (Some Equals) = ⊥
+IsNext (Some Colon) = ⊥
 IsNext t = Unit {0}
 
 -- such a token finds the one as it finds the other
@@ -36,66 +39,138 @@ goes_on : (us : List Token) (t : Token) (ts : List Token) (j k : Stack) → ((u 
 goes_on [] t ts j k f = ap (λ q. run q ts) (f t)
 goes_on (u ∷ us) t ts j k f = ap (λ q. run q (us ++ t ∷ ts)) (f u)
 
-opened : (t : Token) (ts : List Token) (k j : Stack) → step t k ≡ Some j → run (Some k) (t ∷ ts) ≡ run (Some j) ts
-opened t ts k j h = ap (λ q. run q ts) h
+steps : (t : Token) (ts : List Token) (k j : Stack) → step t k ≡ Some j → run (Some k) (t ∷ ts) ≡ run (Some j) ts
+steps t ts k j h = ap (λ q. run q ts) h
 
--- ---- expressions
+-- ---- expressions and patterns
 
 opens_var : (name at : ℕ) (k : Stack) → Takes true k → step (Var name at) k ≡ Some (have (var name at) ∷ k)
 opens_var name at (block o d s ds ps ∷ k) h = refl
 opens_var name at (right a ∷ k) h = refl
-opens_var name at (fields l es ∷ k) h = refl
+opens_var name at (fields w l place fs ∷ k) h = refl
+opens_var name at (key w c place ∷ k) h = refl
 opens_var name at (parts es ∷ k) h = refl
+opens_var name at (testing ∷ k) h = refl
+opens_var name at (matching ∷ k) h = refl
+opens_var name at (patterns e cs ∷ k) h = refl
 opens_var name at k h = elim h [ ]
 
-opens_int : (i : ℤ) (k : Stack) → Takes false k → step (Int i) k ≡ Some (have (int i) ∷ k)
-opens_int i (block o d true ds ps ∷ k) h = refl
-opens_int i (block o d false ds ps ∷ k) h = absurd (cc)
-opens_int i (right a ∷ k) h = refl
-opens_int i (fields l es ∷ k) h = refl
-opens_int i (parts (p ∷ es) ∷ k) h = refl
-opens_int i (parts [] ∷ k) h = absurd (cc)
-opens_int i k h = elim h [ ]
+opens_any : (at : ℕ) (k : Stack) → in_pattern k ≡ true → Takes false k → step (Any at) k ≡ Some (have (any at) ∷ k)
+opens_any at (fields w l place fs ∷ k) i h = guard_true w _ i
+opens_any at (key w c place ∷ k) i h = guard_true w _ i
+opens_any at (patterns e cs ∷ k) i h = refl
+opens_any at k i h = absurd (cc)
 
-opens_literal : (l : Literal) (k : Stack) → Takes false k → step (Lit l) k ≡ Some (have (literal l) ∷ k)
-opens_literal l (block o d true ds ps ∷ k) h = refl
-opens_literal l (block o d false ds ps ∷ k) h = absurd (cc)
-opens_literal l (right a ∷ k) h = refl
-opens_literal l (fields l' es ∷ k) h = refl
-opens_literal l (parts (p ∷ es) ∷ k) h = refl
-opens_literal l (parts [] ∷ k) h = absurd (cc)
-opens_literal l k h = elim h [ ]
+opens_int : (i : ℤ) (at : ℕ) (k : Stack) → Takes false k → step (Int i at) k ≡ Some (have (int i at) ∷ k)
+opens_int i at (block o d true ds ps ∷ k) h = refl
+opens_int i at (block o d false ds ps ∷ k) h = absurd (cc)
+opens_int i at (right a ∷ k) h = refl
+opens_int i at (fields w l place fs ∷ k) h = refl
+opens_int i at (key w c place ∷ k) h = refl
+opens_int i at (parts (p ∷ es) ∷ k) h = refl
+opens_int i at (parts [] ∷ k) h = absurd (cc)
+opens_int i at (testing ∷ k) h = refl
+opens_int i at (matching ∷ k) h = refl
+opens_int i at (patterns e cs ∷ k) h = refl
+opens_int i at k h = elim h [ ]
 
-opens_tuple : (l : Literal) (k : Stack) → Takes false k → step (Label l) k ≡ Some (fields l [] ∷ k)
-opens_tuple l (block o d true ds ps ∷ k) h = refl
-opens_tuple l (block o d false ds ps ∷ k) h = absurd (cc)
-opens_tuple l (right a ∷ k) h = refl
-opens_tuple l (fields l' es ∷ k) h = refl
-opens_tuple l (parts (p ∷ es) ∷ k) h = refl
-opens_tuple l (parts [] ∷ k) h = absurd (cc)
-opens_tuple l k h = elim h [ ]
+opens_literal : (l : Literal) (at : ℕ) (k : Stack) → Takes false k → step (Lit l at) k ≡ Some (have (literal l at) ∷ k)
+opens_literal l at (block o d true ds ps ∷ k) h = refl
+opens_literal l at (block o d false ds ps ∷ k) h = absurd (cc)
+opens_literal l at (right a ∷ k) h = refl
+opens_literal l at (fields w m place fs ∷ k) h = refl
+opens_literal l at (key w c place ∷ k) h = refl
+opens_literal l at (parts (p ∷ es) ∷ k) h = refl
+opens_literal l at (parts [] ∷ k) h = absurd (cc)
+opens_literal l at (testing ∷ k) h = refl
+opens_literal l at (matching ∷ k) h = refl
+opens_literal l at (patterns e cs ∷ k) h = refl
+opens_literal l at k h = elim h [ ]
+
+opens_record : (l : Literal) (at : ℕ) (k : Stack) → Takes false k → step (Label l at) k ≡ Some (fields (in_pattern k) l at [] ∷ k)
+opens_record l at (block o d true ds ps ∷ k) h = refl
+opens_record l at (block o d false ds ps ∷ k) h = absurd (cc)
+opens_record l at (right a ∷ k) h = refl
+opens_record l at (fields w m place fs ∷ k) h = refl
+opens_record l at (key w c place ∷ k) h = refl
+opens_record l at (parts (p ∷ es) ∷ k) h = refl
+opens_record l at (parts [] ∷ k) h = absurd (cc)
+opens_record l at (testing ∷ k) h = refl
+opens_record l at (matching ∷ k) h = refl
+opens_record l at (patterns e cs ∷ k) h = refl
+opens_record l at k h = elim h [ ]
+
+-- fields begin with no `:`
+fields_start : (w : Bool) (fs : Phrases) → are_fields w fs ≡ true → Starts (each fs ++ CloseParen ∷ [])
+fields_start w nothing h = tt
+fields_start w (more (var name at) fs) h = tt
+fields_start w (more (any at) fs) h = tt
+fields_start w (more (int i at) fs) h = tt
+fields_start w (more (literal l at) fs) h = tt
+fields_start w (more (rec l at es) fs) h = tt
+fields_start w (more (keyed (constant.Int i) at e) fs) h = tt
+fields_start w (more (keyed (constant.Literal l) at e) fs) h = tt
+fields_start w (more e fs) h = absurd (cc)
+
+settles_field : (e : Phrase) (w : Bool) (l : Literal) (at : ℕ) (done : List Phrase) (k : Stack) → Settles (have e ∷ fields w l at done ∷ k) (fields w l at (done ++ e ∷ []) ∷ k)
+settles_field e w l at done k = record { on = found }
+  where
+    found : (t : Option Token) → IsNext t → next t (have e ∷ fields w l at done ∷ k) ≡ next t (fields w l at (done ++ e ∷ []) ∷ k)
+    found (Some Equals) i = elim i [ ]
+    found (Some Colon) i = elim i [ ]
+    found t i = refl
+
+-- a field, and those behind it
+plain_field : (e : Phrase) (fs : Phrases) (w : Bool) (l : Literal) (at : ℕ) (done : List Phrase) (k : Stack) → are_fields w fs ≡ true
+    → run (Some (fields w l at done ∷ k)) (tokens_of e) ≡ Some (have e ∷ fields w l at done ∷ k)
+    → run (Some (fields w l at (done ++ e ∷ []) ∷ k)) (each fs ++ CloseParen ∷ []) ≡ Some (have (rec l at (of_list ((done ++ e ∷ []) ++ list_of fs))) ∷ k)
+    → run (Some (fields w l at done ∷ k)) ((tokens_of e ++ each fs) ++ CloseParen ∷ []) ≡ Some (have (rec l at (of_list (done ++ e ∷ list_of fs))) ∷ k)
+plain_field e fs w l at done k h r q =
+    ap (run (Some (fields w l at done ∷ k))) (append_assoc (tokens_of e) (each fs) (CloseParen ∷ []))
+    ∙ then_run (Some (fields w l at done ∷ k)) (tokens_of e) (each fs ++ CloseParen ∷ []) _ r
+    ∙ restart (each fs ++ CloseParen ∷ []) (have e ∷ fields w l at done ∷ k) (fields w l at (done ++ e ∷ []) ∷ k) (settles_field e w l at done k) (fields_start w fs h)
+    ∙ q
+    ∙ ap (λ v. Some (have (rec l at (of_list v)) ∷ k)) (append_assoc done (e ∷ []) (list_of fs))
+
+-- a key and the `:` behind it
+opens_key : (c : Constant) (place : ℕ) (ts : List Token) (w : Bool) (l : Literal) (at : ℕ) (done : List Phrase) (k : Stack)
+    → run (Some (fields w l at done ∷ k)) (key_token c place ∷ Colon ∷ ts) ≡ run (Some (key w c place ∷ fields w l at done ∷ k)) ts
+opens_key (constant.Int i) place ts w l at done k = refl
+opens_key (constant.Literal m) place ts w l at done k = refl
+
+keyed_field : (c : Constant) (place : ℕ) (e : Phrase) (fs : Phrases) (w : Bool) (l : Literal) (at : ℕ) (done : List Phrase) (k : Stack)
+    → run (Some (key w c place ∷ fields w l at done ∷ k)) (tokens_of e) ≡ Some (have e ∷ key w c place ∷ fields w l at done ∷ k)
+    → run (Some (fields w l at (done ++ keyed c place e ∷ []) ∷ k)) (each fs ++ CloseParen ∷ []) ≡ Some (have (rec l at (of_list ((done ++ keyed c place e ∷ []) ++ list_of fs))) ∷ k)
+    → run (Some (fields w l at done ∷ k)) (each (more (keyed c place e) fs) ++ CloseParen ∷ []) ≡ Some (have (rec l at (of_list (done ++ keyed c place e ∷ list_of fs))) ∷ k)
+keyed_field c place e fs w l at done k r q =
+    opens_key c place ((tokens_of e ++ each fs) ++ CloseParen ∷ []) w l at done k
+    ∙ ap (run (Some (key w c place ∷ fields w l at done ∷ k))) (append_assoc (tokens_of e) (each fs) (CloseParen ∷ []))
+    ∙ then_run (Some (key w c place ∷ fields w l at done ∷ k)) (tokens_of e) (each fs ++ CloseParen ∷ []) _ r
+    ∙ goes_on (each fs) CloseParen [] (have e ∷ key w c place ∷ fields w l at done ∷ k) (fields w l at (done ++ keyed c place e ∷ []) ∷ k) (λ u. refl)
+    ∙ q
+    ∙ ap (λ v. Some (have (rec l at (of_list v)) ∷ k)) (append_assoc done (keyed c place e ∷ []) (list_of fs))
 
 mutual
-  reads_expr : (e : Phrase) (k : Stack) → expr e ≡ true → Takes (is_var e) k → run (Some k) (tokens_of e) ≡ Some (have e ∷ k)
-  reads_expr (var name at) k h i = opens_var name at k i
-  reads_expr (int n) k h i = opens_int n k i
-  reads_expr (literal l) k h i = opens_literal l k i
-  reads_expr (tuple l es) k h i =
-      opened (Label l) (each es ++ CloseParen ∷ []) k (fields l [] ∷ k) (opens_tuple l k i)
-      ∙ reads_fields es l [] k h
-      ∙ ap (λ w. Some (have (tuple l w) ∷ k)) (of_list-list_of es)
-  reads_expr e k h i = absurd (cc)
+  reads_term : (e : Phrase) (k : Stack) → term (in_pattern k) e ≡ true → Takes (is_var e) k → run (Some k) (tokens_of e) ≡ Some (have e ∷ k)
+  reads_term (var name at) k h i = opens_var name at k i
+  reads_term (any at) k h i = opens_any at k h i
+  reads_term (int n at) k h i = opens_int n at k i
+  reads_term (literal l at) k h i = opens_literal l at k i
+  reads_term (rec l at fs) k h i =
+      steps (Label l at) (each fs ++ CloseParen ∷ []) k (fields (in_pattern k) l at [] ∷ k) (opens_record l at k i)
+      ∙ reads_fields fs (in_pattern k) l at [] k h
+      ∙ ap (λ w. Some (have (rec l at w) ∷ k)) (of_list-list_of fs)
+  reads_term e k h i = absurd (cc)
 
-  reads_fields : (es : Phrases) (l : Literal) (done : List Phrase) (k : Stack) → exprs es ≡ true
-      → run (Some (fields l done ∷ k)) (each es ++ CloseParen ∷ []) ≡ Some (have (tuple l (of_list (done ++ list_of es))) ∷ k)
-  reads_fields nothing l done k h = ap (λ w. Some (have (tuple l (of_list w)) ∷ k)) (sym (append-nil done))
-  reads_fields (more e es) l done k h =
-      let i = split (expr e) (exprs es) h in
-      ap (run (Some (fields l done ∷ k))) (append_assoc (tokens_of e) (each es) (CloseParen ∷ []))
-      ∙ then_run (Some (fields l done ∷ k)) (tokens_of e) (each es ++ CloseParen ∷ []) _ (reads_expr e (fields l done ∷ k) i.fst tt)
-      ∙ goes_on (each es) CloseParen [] (have e ∷ fields l done ∷ k) (fields l (done ++ e ∷ []) ∷ k) (λ u. refl)
-      ∙ reads_fields es l (done ++ e ∷ []) k i.snd
-      ∙ ap (λ w. Some (have (tuple l (of_list w)) ∷ k)) (append_assoc done (e ∷ []) (list_of es))
+  reads_fields : (fs : Phrases) (w : Bool) (l : Literal) (at : ℕ) (done : List Phrase) (k : Stack) → are_fields w fs ≡ true
+      → run (Some (fields w l at done ∷ k)) (each fs ++ CloseParen ∷ []) ≡ Some (have (rec l at (of_list (done ++ list_of fs))) ∷ k)
+  reads_fields nothing w l at done k h = ap (λ v. Some (have (rec l at (of_list v)) ∷ k)) (sym (append-nil done))
+  reads_fields (more (keyed c place e) fs) w l at done k h =
+      let i = split (term w e) (are_fields w fs) h in
+      keyed_field c place e fs w l at done k (reads_term e (key w c place ∷ fields w l at done ∷ k) i.fst tt) (reads_fields fs w l at (done ++ keyed c place e ∷ []) k i.snd)
+  reads_fields (more e fs) w l at done k h =
+      let i = split (term w e) (are_fields w fs) h in
+      plain_field e fs w l at done k i.snd (reads_term e (fields w l at done ∷ k) i.fst tt) (reads_fields fs w l at (done ++ e ∷ []) k i.snd)
 
 -- ---- the parts of a call and of a procedure's head
 
@@ -105,7 +180,7 @@ reads_parts nothing done k m h = guard_true (is_some_item done) _ m ∙ ap (λ w
 reads_parts (more e es) done k m h =
     let i = split (expr e) (exprs es) h in
     ap (run (Some (parts done ∷ k))) (append_assoc (tokens_of e) (each es) (CloseBrace ∷ []))
-    ∙ then_run (Some (parts done ∷ k)) (tokens_of e) (each es ++ CloseBrace ∷ []) _ (reads_expr e (parts done ∷ k) i.fst (or_left (is_some_item done) (is_var e) m))
+    ∙ then_run (Some (parts done ∷ k)) (tokens_of e) (each es ++ CloseBrace ∷ []) _ (reads_term e (parts done ∷ k) i.fst (or_left (is_some_item done) (is_var e) m))
     ∙ goes_on (each es) CloseBrace [] (have e ∷ parts done ∷ k) (parts (done ++ e ∷ []) ∷ k) (λ u. refl)
     ∙ reads_parts es (done ++ e ∷ []) k (some_snoc done e) i.snd
     ∙ ap (λ w. add_statement (call (of_list w)) k) (append_assoc done (e ∷ []) (list_of es))
@@ -147,6 +222,18 @@ record ReadsStmts (ts : List Token) (ss : Phrases) (j : Stack) (o : Opener) (ds 
   reads : run (Some j) ts ≡ Some at
   on : Settles at (block o declares true ds (ps ++ list_of ss) ∷ k)
 
+-- the tokens of clauses, up to where the last one may end
+record ReadsClauses (cs : Phrases) (e : Phrase) (done : List Phrase) (k : Stack) : Type 0 where
+  at : Stack
+  declares : Bool
+  before : List Phrase
+  last : Phrase
+  declared : List Phrase
+  stated : List Phrase
+  whole : before ++ clause last (body (of_list declared) (of_list stated)) ∷ [] ≡ done ++ list_of cs
+  reads : run (Some (patterns e done ∷ k)) (boxed cs) ≡ Some at
+  on : Settles at (block (of_clause e before last) declares true declared stated ∷ k)
+
 -- the tokens of declarations
 record ReadsDecls (ds : Phrases) (o : Opener) (ps : List Phrase) (j k : Stack) : Type 0 where
   at : Stack
@@ -180,8 +267,8 @@ reads_equal a b o d ds ps k h i = record {
   at = have b ∷ right a ∷ block o d true ds ps ∷ k;
   declares = d && false;
   reads =
-      then_run (Some (block o d true ds ps ∷ k)) (tokens_of a) (Equals ∷ tokens_of b) _ (reads_expr a (block o d true ds ps ∷ k) h refl)
-      ∙ reads_expr b (right a ∷ block o d true ds ps ∷ k) i tt;
+      then_run (Some (block o d true ds ps ∷ k)) (tokens_of a) (Equals ∷ tokens_of b) _ (reads_term a (block o d true ds ps ∷ k) h refl)
+      ∙ reads_term b (right a ∷ block o d true ds ps ∷ k) i tt;
   on = record { on = λ t n. ap (λ q. bind q (item_again t)) (adds (equal a b) o d ds ps k) };
 }
 
@@ -230,13 +317,99 @@ reads_box b c cs done k r h =
     ∙ h
     ∙ ap (λ w. add_statement (choice (of_list w)) k) (append_assoc done (b ∷ []) (list_of (more c cs)))
 
+-- ---- tests
+
+reads_tested : (e : Phrase) (k : Stack) (ts : List Token) → expr e ≡ true → run (Some (testing ∷ k)) (tokens_of e ++ Then ∷ ts) ≡ run (Some (block (of_then e) true true [] [] ∷ k)) ts
+reads_tested e k ts h = then_run (Some (testing ∷ k)) (tokens_of e) (Then ∷ ts) _ (reads_term e (testing ∷ k) h tt)
+
+reads_when : (e b : Phrase) (o : Opener) (d : Bool) (ds ps : List Phrase) (k : Stack) → expr e ≡ true → ReadsBody b (of_then e) (block o d true ds ps ∷ k)
+    → run (Some (block o d true ds ps ∷ k)) (tokens_of (when e b)) ≡ add_statement (when e b) (block o d true ds ps ∷ k)
+reads_when e b o d ds ps k h r =
+    reads_tested e (block o d true ds ps ∷ k) (tokens_of b ++ End ∷ []) h
+    ∙ closes_end b (of_then e) (block o d true ds ps ∷ k) r
+    ∙ ap (λ w. add_statement (when e w) (block o d true ds ps ∷ k)) r.whole
+
+reads_choose : (e b c : Phrase) (o : Opener) (d : Bool) (ds ps : List Phrase) (k : Stack) → expr e ≡ true → ReadsBody b (of_then e) (block o d true ds ps ∷ k) → ReadsBody c (of_else e b) (block o d true ds ps ∷ k)
+    → run (Some (block o d true ds ps ∷ k)) (tokens_of (choose e b c)) ≡ add_statement (choose e b c) (block o d true ds ps ∷ k)
+reads_choose e b c o d ds ps k h r q =
+    reads_tested e (block o d true ds ps ∷ k) (tokens_of b ++ Else ∷ (tokens_of c ++ End ∷ [])) h
+    ∙ then_run (Some (block (of_then e) true true [] [] ∷ block o d true ds ps ∷ k)) (tokens_of b) (Else ∷ (tokens_of c ++ End ∷ [])) _ r.reads
+    ∙ ap (λ w. run w (tokens_of c ++ End ∷ [])) (r.on.on (Some Else) tt)
+    ∙ ap (λ w. run (Some (block (of_else e w) true true [] [] ∷ block o d true ds ps ∷ k)) (tokens_of c ++ End ∷ [])) r.whole
+    ∙ closes_end c (of_else e b) (block o d true ds ps ∷ k) q
+    ∙ ap (λ w. add_statement (choose e b w) (block o d true ds ps ∷ k)) q.whole
+
+-- ---- matches
+
+reads_subject : (e : Phrase) (k : Stack) (ts : List Token) → expr e ≡ true → run (Some (matching ∷ k)) (tokens_of e ++ Of ∷ ts) ≡ run (Some (patterns e [] ∷ k)) ts
+reads_subject e k ts h = then_run (Some (matching ∷ k)) (tokens_of e) (Of ∷ ts) _ (reads_term e (matching ∷ k) h tt)
+
+reads_pattern : (p e : Phrase) (done : List Phrase) (k : Stack) (ts : List Token) → pattern p ≡ true
+    → run (Some (patterns e done ∷ k)) (tokens_of p ++ Then ∷ ts) ≡ run (Some (block (of_clause e done p) true true [] [] ∷ k)) ts
+reads_pattern p e done k ts h = then_run (Some (patterns e done ∷ k)) (tokens_of p) (Then ∷ ts) _ (reads_term p (patterns e done ∷ k) h tt)
+
+-- the last clause, and one before others
+last_clause : (p b e : Phrase) (done : List Phrase) (k : Stack) → pattern p ≡ true → ReadsBody b (of_clause e done p) k → ReadsClauses (more (clause p b) nothing) e done k
+last_clause p b e done k h r = record {
+  at = r.at;
+  declares = r.declares;
+  before = done;
+  last = p;
+  declared = r.before;
+  stated = r.done;
+  whole = ap (λ w. done ++ clause p w ∷ []) r.whole;
+  reads = ap (run (Some (patterns e done ∷ k))) (append-nil (tokens_of (clause p b))) ∙ reads_pattern p e done k (tokens_of b) h ∙ r.reads;
+  on = r.on;
+}
+
+next_clause : (p b c : Phrase) (cs : Phrases) (e : Phrase) (done : List Phrase) (k : Stack) → pattern p ≡ true → ReadsBody b (of_clause e done p) k
+    → ReadsClauses (more c cs) e (done ++ clause p b ∷ []) k → ReadsClauses (more (clause p b) (more c cs)) e done k
+next_clause p b c cs e done k h r q = record {
+  at = q.at;
+  declares = q.declares;
+  before = q.before;
+  last = q.last;
+  declared = q.declared;
+  stated = q.stated;
+  whole = q.whole ∙ append_assoc done (clause p b ∷ []) (list_of (more c cs));
+  reads =
+      ap (run (Some (patterns e done ∷ k))) (append_assoc (tokens_of p) (Then ∷ tokens_of b) (Box ∷ boxed (more c cs)))
+      ∙ reads_pattern p e done k (tokens_of b ++ Box ∷ boxed (more c cs)) h
+      ∙ then_run (Some (block (of_clause e done p) true true [] [] ∷ k)) (tokens_of b) (Box ∷ boxed (more c cs)) _ r.reads
+      ∙ ap (λ w. run w (boxed (more c cs))) (r.on.on (Some Box) tt)
+      ∙ ap (λ w. run (Some (patterns e (done ++ clause p w ∷ []) ∷ k)) (boxed (more c cs))) r.whole
+      ∙ q.reads;
+  on = q.on;
+}
+
+reads_cases : (e : Phrase) (cs : Phrases) (o : Opener) (d : Bool) (ds ps : List Phrase) (k : Stack) → expr e ≡ true → ReadsClauses cs e [] (block o d true ds ps ∷ k)
+    → run (Some (block o d true ds ps ∷ k)) (tokens_of (cases e cs)) ≡ add_statement (cases e cs) (block o d true ds ps ∷ k)
+reads_cases e cs o d ds ps k h r =
+    reads_subject e (block o d true ds ps ∷ k) (boxed cs ++ End ∷ []) h
+    ∙ then_run (Some (patterns e [] ∷ block o d true ds ps ∷ k)) (boxed cs) (End ∷ []) _ r.reads
+    ∙ r.on.on (Some End) tt
+    ∙ ap (λ w. add_statement (cases e (of_list w)) (block o d true ds ps ∷ k)) r.whole
+    ∙ ap (λ w. add_statement (cases e w) (block o d true ds ps ∷ k)) (of_list-list_of cs)
+
+reads_cases_or : (e : Phrase) (cs : Phrases) (b : Phrase) (o : Opener) (d : Bool) (ds ps : List Phrase) (k : Stack) → expr e ≡ true → ReadsClauses cs e [] (block o d true ds ps ∷ k)
+    → ReadsBody b (of_case_else e (list_of cs)) (block o d true ds ps ∷ k)
+    → run (Some (block o d true ds ps ∷ k)) (tokens_of (cases_or e cs b)) ≡ add_statement (cases_or e cs b) (block o d true ds ps ∷ k)
+reads_cases_or e cs b o d ds ps k h r q =
+    reads_subject e (block o d true ds ps ∷ k) (boxed cs ++ Else ∷ (tokens_of b ++ End ∷ [])) h
+    ∙ then_run (Some (patterns e [] ∷ block o d true ds ps ∷ k)) (boxed cs) (Else ∷ (tokens_of b ++ End ∷ [])) _ r.reads
+    ∙ ap (λ w. run w (tokens_of b ++ End ∷ [])) (r.on.on (Some Else) tt)
+    ∙ ap (λ w. run (Some (block (of_case_else e w) true true [] [] ∷ block o d true ds ps ∷ k)) (tokens_of b ++ End ∷ [])) r.whole
+    ∙ closes_end b (of_case_else e (list_of cs)) (block o d true ds ps ∷ k) q
+    ∙ ap (λ w. add_statement (cases_or e w (body (of_list q.before) (of_list q.done))) (block o d true ds ps ∷ k)) (of_list-list_of cs)
+    ∙ ap (λ w. add_statement (cases_or e cs w) (block o d true ds ps ∷ k)) q.whole
+
 -- ---- sequences
 
 expr_starts : (e : Phrase) (rest : List Token) → expr e ≡ true → Starts (tokens_of e ++ rest)
 expr_starts (var name at) rest h = tt
-expr_starts (int i) rest h = tt
-expr_starts (literal l) rest h = tt
-expr_starts (tuple l es) rest h = tt
+expr_starts (int i at) rest h = tt
+expr_starts (literal l at) rest h = tt
+expr_starts (rec l at fs) rest h = tt
 expr_starts e rest h = absurd (cc)
 
 stmt_starts : (p : Phrase) (rest : List Token) → stmt p ≡ true → Starts (tokens_of p ++ rest)
@@ -247,6 +420,10 @@ stmt_starts (call es) rest h = tt
 stmt_starts (proc hs b) rest h = tt
 stmt_starts (local ds b) rest h = tt
 stmt_starts (choice bs) rest h = tt
+stmt_starts (when e b) rest h = tt
+stmt_starts (choose e b c) rest h = tt
+stmt_starts (cases e cs) rest h = tt
+stmt_starts (cases_or e cs b) rest h = tt
 stmt_starts p rest h = absurd (cc)
 
 -- a statement, and those behind it
@@ -343,6 +520,24 @@ mutual
   reads_stmt (choice bs) o d ds ps k h =
       let i = split (is_more bs) (bodies bs) h in
       reads_added (choice bs) (tokens_of (choice bs)) o d ds ps k (reads_boxed bs [] (block o d true ds ps ∷ k) i.fst i.snd ∙ ap (λ w. add_statement (choice w) (block o d true ds ps ∷ k)) (of_list-list_of bs))
+  reads_stmt (when e b) o d ds ps k h =
+      let i = split (expr e) (is_body b) h in
+      reads_added (when e b) (tokens_of (when e b)) o d ds ps k (reads_when e b o d ds ps k i.fst (reads_body b (of_then e) (block o d true ds ps ∷ k) tt i.snd))
+  reads_stmt (choose e b c) o d ds ps k h =
+      let i = split (expr e) (is_body b && is_body c) h in
+      let j = split (is_body b) (is_body c) i.snd in
+      reads_added (choose e b c) (tokens_of (choose e b c)) o d ds ps k
+      (reads_choose e b c o d ds ps k i.fst (reads_body b (of_then e) (block o d true ds ps ∷ k) tt j.fst) (reads_body c (of_else e b) (block o d true ds ps ∷ k) tt j.snd))
+  reads_stmt (cases e cs) o d ds ps k h =
+      let i = split (expr e) (is_more cs && clauses cs) h in
+      let j = split (is_more cs) (clauses cs) i.snd in
+      reads_added (cases e cs) (tokens_of (cases e cs)) o d ds ps k (reads_cases e cs o d ds ps k i.fst (reads_clauses cs e [] (block o d true ds ps ∷ k) j.fst j.snd))
+  reads_stmt (cases_or e cs b) o d ds ps k h =
+      let i = split (expr e) (is_more cs && (clauses cs && is_body b)) h in
+      let j = split (is_more cs) (clauses cs && is_body b) i.snd in
+      let v = split (clauses cs) (is_body b) j.snd in
+      reads_added (cases_or e cs b) (tokens_of (cases_or e cs b)) o d ds ps k
+      (reads_cases_or e cs b o d ds ps k i.fst (reads_clauses cs e [] (block o d true ds ps ∷ k) j.fst v.fst) (reads_body b (of_case_else e (list_of cs)) (block o d true ds ps ∷ k) tt v.snd))
   reads_stmt p o d ds ps k h = absurd (cc)
 
   reads_stmts : (ss : Phrases) (j : Stack) (o : Opener) (d : Bool) (ds ps : List Phrase) (k : Stack) → stmts ss ≡ true → Settles j (block o d true ds ps ∷ k) → ReadsStmts (each ss) ss j o ds ps k
@@ -373,6 +568,17 @@ mutual
   reads_boxed (more b (more c cs)) done k m h =
       let i = split (is_body b) (bodies (more c cs)) h in
       reads_box b c cs done k (reads_body b (of_choice done) k tt i.fst) (reads_boxed (more c cs) (done ++ b ∷ []) k refl i.snd)
+
+  reads_clauses : (cs : Phrases) (e : Phrase) (done : List Phrase) (k : Stack) → is_more cs ≡ true → clauses cs ≡ true → ReadsClauses cs e done k
+  reads_clauses nothing e done k m h = absurd (cc)
+  reads_clauses (more (clause p b) nothing) e done k m h =
+      let i = split (pattern p) (is_body b) (split (pattern p && is_body b) true h).fst in
+      last_clause p b e done k i.fst (reads_body b (of_clause e done p) k tt i.snd)
+  reads_clauses (more (clause p b) (more c cs)) e done k m h =
+      let v = split (pattern p && is_body b) (clauses (more c cs)) h in
+      let i = split (pattern p) (is_body b) v.fst in
+      next_clause p b c cs e done k i.fst (reads_body b (of_clause e done p) k tt i.snd) (reads_clauses (more c cs) e (done ++ clause p b ∷ []) k refl v.snd)
+  reads_clauses (more p cs) e done k m h = absurd (cc)
 
   reads_body : (x : Phrase) (o : Opener) (k : Stack) → HoldsBody o → is_body x ≡ true → ReadsBody x o k
   reads_body (body nothing ss) o k i h = plain_body ss o k (reads_stmts ss (block o true true [] [] ∷ k) o true [] [] k h (settled (block o true true [] [] ∷ k)))

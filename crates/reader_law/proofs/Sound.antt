@@ -1,13 +1,14 @@
 -- What is open spells the tokens that were read, and stays good.
-use Rattle.std.proofs.Common.{◌≡◌, List, [], ◌∷◌, ◌++◌, Option, Some, None, Bool, true, false, ◌&&◌, ◌||◌, refl, sym, ap, ◌∙◌, subst, append_assoc}
+use Rattle.std.proofs.Common.{◌≡◌, ℕ, List, [], ◌∷◌, ◌++◌, Option, Some, None, Bool, true, false, ◌&&◌, ◌||◌, refl, sym, ap, ◌∙◌, subst, append_assoc}
 use Rattle.std.proofs.lemmas.List.{append-nil}
 use Rattle.oz_semantics.specs.declared.token.Literal.{Literal}
 use Rattle.oz_semantics.specs.declared.token.Token.{Token}
-use Rattle.oz_semantics.specs.declared.token.Token.TheVariants.{Var, Int, Literal as Lit, Label, OpenBrace, CloseBrace, CloseParen, Equals, Box, Choice, End, Fail, In, Local, Proc, Skip}
-use Rattle.oz_semantics.specs.Grammar.{Phrase, of_list, var, int, literal, skip, fail, equal, call, proc, local, choice, body, tokens_of, each, declared, is_more, is_var, are_vars, expr, exprs, stmt, stmts, decl, decls, is_body, Derives}
-use Rattle.reader_law.specs.Machine.{Opener, program, declaring, of_local, of_proc, of_choice, block, have, right, fields, parts, heading, head, accepted, Stack, guard, bind, is_some_item, operand, add, add_statement, close, enter_body, enter, item, item_again, behind, next_field, next_part, next_head, open_head, whole, step, run, start, accepted_of, finish, parse}
-use Rattle.reader_law.proofs.Basics.{split, both, or_left, or_true, and_false, more_snoc, each_snoc, vars_snoc, exprs_snoc, stmts_snoc, decls_snoc, bodies_snoc, boxes_snoc, boxed_snoc, run_none}
-use Rattle.reader_law.proofs.Good.{opener_tokens, spelled, Takes, Says, GoodItems, GoodOpener, GoodParts, Good, Leads}
+use Rattle.oz_semantics.specs.declared.token.Token.TheVariants.{Var, Any, Int, Literal as Lit, Label, OpenBrace, CloseBrace, CloseParen, Colon, Equals, Box, Case, Choice, Else, End, Fail, If, In, Local, Of, Proc, Skip, Then}
+use Rattle.oz_semantics.specs.declared.kernel.Constant.{Constant}
+use Rattle.oz_semantics.specs.Grammar.{Phrase, of_list, var, any, int, literal, keyed, skip, fail, equal, call, proc, local, choice, when, choose, cases, cases_or, clause, body, tokens_of, each, declared, is_more, is_var, are_vars, term, fields as are_fields, expr, exprs, pattern, stmt, stmts, is_clause, clauses, decl, decls, is_body, Derives}
+use Rattle.reader_law.specs.Machine.{Opener, program, declaring, of_local, of_proc, of_choice, of_then, of_else, of_clause, of_case_else, block, have, right, fields, key, parts, heading, head, testing, matching, patterns, accepted, Stack, guard, bind, is_some_item, operand, add, add_statement, body_of, close, enter_body, enter, item, item_again, behind, next_field, turn_key, behind_field, behind_value, next_part, next_head, open_head, tested, subjected, claused, whole, step, run, start, accepted_of, finish, parse}
+use Rattle.reader_law.proofs.Basics.{split, both, or_left, or_true, and_false, more_snoc, each_snoc, vars_snoc, exprs_snoc, is_field, fields_snoc, term_field, stmts_snoc, clauses_snoc, decls_snoc, bodies_snoc, boxes_snoc, boxed_snoc, run_none}
+use Rattle.reader_law.proofs.Good.{opener_tokens, spelled, in_pattern, Takes, Says, GoodItems, GoodOpener, GoodParts, Good, Leads}
 
 -- ---- what flags say
 
@@ -43,6 +44,10 @@ other_flag declaring s s' k h f = (h.0, f h.1)
 other_flag (of_local ls) s s' k h f = h
 other_flag (of_proc hs) s s' k h f = h
 other_flag (of_choice bs) s s' k h f = h
+other_flag (of_then e) s s' k h f = h
+other_flag (of_else e b) s s' k h f = h
+other_flag (of_clause e cs p) s s' k h f = h
+other_flag (of_case_else e cs) s s' k h f = h
 
 -- one that may be a declaration, may be a statement
 add_leads : (p : Phrase) (d' s' : Bool) (k : Stack) → Says d' (decl p ≡ true) → Says s' (stmt p ≡ true) → Good k → Leads k (tokens_of p) (add p d' s' k)
@@ -65,6 +70,23 @@ add_leads p d' s' (f ∷ k) h i g = tt
 body_good : (ds ps : List Phrase) → decls (of_list ds) ≡ true → stmts (of_list ps) ≡ true → is_body (body (of_list ds) (of_list ps)) ≡ true
 body_good ds ps w i = both (decls (of_list ds)) (stmts (of_list ps)) w i
 
+-- `end` makes a statement
+ends_leads : (p : Phrase) (o : Opener) (d s : Bool) (ds ps : List Phrase) (k : Stack) → spelled k ++ tokens_of p ≡ spelled (block o d s ds ps ∷ k) ++ End ∷ [] → stmt p ≡ true → Good k
+    → Leads (block o d s ds ps ∷ k) (End ∷ []) (add_statement p k)
+ends_leads p o d s ds ps k e h g = leads_from k (block o d s ds ps ∷ k) (tokens_of p) (End ∷ []) (add_statement p k) e (add_leads p false true k tt h g)
+
+-- a clause of a `case`, with its body
+clause_good : (p : Phrase) (ds ps : List Phrase) → pattern p ≡ true → decls (of_list ds) ≡ true → stmts (of_list ps) ≡ true → is_clause (clause p (body_of ds ps)) ≡ true
+clause_good p ds ps h w i = both (pattern p) _ h (body_good ds ps w i)
+
+close_clause : (e : Phrase) (cs : List Phrase) (p : Phrase) (d s : Bool) (ds ps : List Phrase) (k : Stack) → GoodOpener (of_clause e cs p) s k → Good k → decls (of_list ds) ≡ true → stmts (of_list ps) ≡ true
+    → Leads (block (of_clause e cs p) d s ds ps ∷ k) (End ∷ []) (add_statement (cases e (of_list (cs ++ clause p (body_of ds ps) ∷ []))) k)
+close_clause e cs p d s ds ps k h g w i =
+    let c = clause p (body_of ds ps) in
+    ends_leads (cases e (of_list (cs ++ c ∷ []))) (of_clause e cs p) d s ds ps k
+    (ap (λ ts. spelled k ++ (Case ∷ (tokens_of e ++ Of ∷ (ts ++ End ∷ [])))) (boxed_snoc cs c) ∙ simp append_assoc)
+    (both (expr e) _ h.1 (both (is_more (of_list (cs ++ c ∷ []))) _ (more_snoc cs c) (clauses_snoc cs c h.2 (clause_good p ds ps h.3 w i)))) g
+
 close_leads : (t : Token) (o : Opener) (d s : Bool) (ds ps : List Phrase) (k : Stack) → GoodOpener o s k → Good k → decls (of_list ds) ≡ true → stmts (of_list ps) ≡ true
     → Leads (block o d s ds ps ∷ k) (t ∷ []) (close (Some t) o ds ps k)
 close_leads End (of_local ls) d s ds ps k h g w i =
@@ -84,6 +106,23 @@ close_leads End (of_choice bs) d s ds ps k h g w i =
 close_leads Box (of_choice bs) d s ds ps k h g w i =
     let b = body (of_list ds) (of_list ps) in
     (ap (λ ts. spelled k ++ ((Choice ∷ ts) ++ [])) (boxes_snoc bs b) ∙ simp (append_assoc, append-nil), ((fresh_items, (h.0, bodies_snoc bs b h.1 (body_good ds ps w i))), g))
+close_leads End (of_then e) d s ds ps k h g w i =
+    ends_leads (when e (body_of ds ps)) (of_then e) d s ds ps k (simp append_assoc) (both (expr e) _ h.1 (body_good ds ps w i)) g
+close_leads Else (of_then e) d s ds ps k h g w i = (simp (append_assoc, append-nil), ((fresh_items, (h.0, h.1, body_good ds ps w i)), g))
+close_leads End (of_else e b) d s ds ps k h g w i =
+    ends_leads (choose e b (body_of ds ps)) (of_else e b) d s ds ps k (simp append_assoc) (both (expr e) _ h.1 (both (is_body b) _ h.2 (body_good ds ps w i))) g
+close_leads End (of_clause e cs p) d s ds ps k h g w i = close_clause e cs p d s ds ps k h g w i
+close_leads Box (of_clause e cs p) d s ds ps k h g w i =
+    let c = clause p (body_of ds ps) in
+    (ap (λ ts. spelled k ++ (Case ∷ (tokens_of e ++ Of ∷ ts))) (boxes_snoc cs c) ∙ simp append_assoc, ((h.0, h.1, clauses_snoc cs c h.2 (clause_good p ds ps h.3 w i)), g))
+close_leads Else (of_clause e cs p) d s ds ps k h g w i =
+    let c = clause p (body_of ds ps) in (
+      ap (λ ts. spelled k ++ ((Case ∷ (tokens_of e ++ Of ∷ (ts ++ Else ∷ []))) ++ [])) (boxed_snoc cs c) ∙ simp (append_assoc, append-nil),
+      ((fresh_items, (h.0, h.1, more_snoc cs c, clauses_snoc cs c h.2 (clause_good p ds ps h.3 w i))), g),
+    )
+close_leads End (of_case_else e cs) d s ds ps k h g w i =
+    ends_leads (cases_or e (of_list cs) (body_of ds ps)) (of_case_else e cs) d s ds ps k (simp append_assoc)
+    (both (expr e) _ h.1 (both (is_more (of_list cs)) _ h.2 (both (clauses (of_list cs)) _ h.3 (body_good ds ps w i)))) g
 close_leads t o d s ds ps k h g w i = tt
 
 -- `in` behind declarations
@@ -95,6 +134,10 @@ enter_body_leads declaring s p ps k h g i = (simp (append_assoc, append-nil), ((
 enter_body_leads (of_local ls) s p ps k h g i = (simp (append_assoc, append-nil), (((tt, refl, i, refl), h), g))
 enter_body_leads (of_proc hs) s p ps k h g i = (simp (append_assoc, append-nil), (((tt, refl, i, refl), h), g))
 enter_body_leads (of_choice bs) s p ps k h g i = (simp (append_assoc, append-nil), (((tt, refl, i, refl), h), g))
+enter_body_leads (of_then e) s p ps k h g i = (simp (append_assoc, append-nil), (((tt, refl, i, refl), h), g))
+enter_body_leads (of_else e b) s p ps k h g i = (simp (append_assoc, append-nil), (((tt, refl, i, refl), h), g))
+enter_body_leads (of_clause e cs c) s p ps k h g i = (simp (append_assoc, append-nil), (((tt, refl, i, refl), h), g))
+enter_body_leads (of_case_else e cs) s p ps k h g i = (simp (append_assoc, append-nil), (((tt, refl, i, refl), h), g))
 
 enter_leads : (o : Opener) (d s : Bool) (ds ps : List Phrase) (k : Stack) → Good (block o d s ds ps ∷ k) → Leads (block o d s ds ps ∷ k) (In ∷ []) (enter o d ps k)
 enter_leads o false s ds ps k g = tt
@@ -106,15 +149,17 @@ enter_leads o true s (d ∷ ds) (p ∷ ps) k g = elim g.0.0.0.0 [ ]
 
 item_leads : (t : Token) (o : Opener) (d s : Bool) (ds ps : List Phrase) (k : Stack) → Good (block o d s ds ps ∷ k) → Leads (block o d s ds ps ∷ k) (t ∷ []) (item (Some t) o d s ds ps k)
 item_leads (Var name at) o d s ds ps k g = (refl, ((refl, or_true s), g))
-item_leads (Int i) o d s ds ps k g = guard_leads s (block o d s ds ps ∷ k) (Int i ∷ []) (Some (have (int i) ∷ block o d s ds ps ∷ k)) (λ h. (refl, ((refl, or_left s false h), g)))
-item_leads (Lit l) o d s ds ps k g = guard_leads s (block o d s ds ps ∷ k) (Lit l ∷ []) (Some (have (literal l) ∷ block o d s ds ps ∷ k)) (λ h. (refl, ((refl, or_left s false h), g)))
-item_leads (Label l) o d s ds ps k g = guard_leads s (block o d s ds ps ∷ k) (Label l ∷ []) (Some (fields l [] ∷ block o d s ds ps ∷ k)) (λ h. (refl, ((refl, or_left s false h), g)))
+item_leads (Int i at) o d s ds ps k g = guard_leads s (block o d s ds ps ∷ k) (Int i at ∷ []) (Some (have (int i at) ∷ block o d s ds ps ∷ k)) (λ h. (refl, ((refl, or_left s false h), g)))
+item_leads (Lit l at) o d s ds ps k g = guard_leads s (block o d s ds ps ∷ k) (Lit l at ∷ []) (Some (have (literal l at) ∷ block o d s ds ps ∷ k)) (λ h. (refl, ((refl, or_left s false h), g)))
+item_leads (Label l at) o d s ds ps k g = guard_leads s (block o d s ds ps ∷ k) (Label l at ∷ []) (Some (fields false l at [] ∷ block o d s ds ps ∷ k)) (λ h. (refl, ((refl, or_left s false h, refl), g)))
 item_leads Skip o d s ds ps k g = add_leads skip false true (block o d s ds ps ∷ k) tt refl g
 item_leads Fail o d s ds ps k g = add_leads fail false true (block o d s ds ps ∷ k) tt refl g
 item_leads OpenBrace o d s ds ps k g = guard_leads s (block o d s ds ps ∷ k) (OpenBrace ∷ []) (Some (parts [] ∷ block o d s ds ps ∷ k)) (λ h. (refl, ((tt, h), g)))
 item_leads Proc o d s ds ps k g = (refl, (tt, g))
 item_leads Local o d s ds ps k g = guard_leads s (block o d s ds ps ∷ k) (Local ∷ []) (Some (block declaring true false [] [] ∷ block o d s ds ps ∷ k)) (λ h. (refl, ((((tt, refl), tt, refl, refl), (h, refl)), g)))
 item_leads Choice o d s ds ps k g = guard_leads s (block o d s ds ps ∷ k) (Choice ∷ []) (Some (block (of_choice []) true true [] [] ∷ block o d s ds ps ∷ k)) (λ h. (refl, ((fresh_items, (h, refl)), g)))
+item_leads If o d s ds ps k g = guard_leads s (block o d s ds ps ∷ k) (If ∷ []) (Some (testing ∷ block o d s ds ps ∷ k)) (λ h. (refl, (h, g)))
+item_leads Case o d s ds ps k g = guard_leads s (block o d s ds ps ∷ k) (Case ∷ []) (Some (matching ∷ block o d s ds ps ∷ k)) (λ h. (refl, (h, g)))
 item_leads In o d s ds ps k g = enter_leads o d s ds ps k g
 item_leads t o d s ds ps k g = guard_leads s (block o d s ds ps ∷ k) (t ∷ []) (close (Some t) o ds ps k) (λ h. close_leads t o d s ds ps k g.0.1 g.1 g.0.0.2 (told s _ g.0.0.1 h))
 
@@ -127,16 +172,17 @@ again_leads t k ts (Some (f ∷ j)) l = tt
 
 -- ---- expressions
 
-operand_leads : (t : Token) (k : Stack) → Takes true k → Takes false k → Good k → Leads k (t ∷ []) (operand (Some t) k)
+operand_leads : (t : Token) (k : Stack) → Takes true k → Takes false k → Good k → Leads k (t ∷ []) (operand (in_pattern k) (Some t) k)
 operand_leads (Var name at) k h i g = (refl, ((refl, h), g))
-operand_leads (Int n) k h i g = (refl, ((refl, i), g))
-operand_leads (Lit l) k h i g = (refl, ((refl, i), g))
-operand_leads (Label l) k h i g = (refl, ((refl, i), g))
+operand_leads (Any at) k h i g = guard_leads (in_pattern k) k (Any at ∷ []) (Some (have (any at) ∷ k)) (λ q. (refl, ((q, i), g)))
+operand_leads (Int n at) k h i g = (refl, ((refl, i), g))
+operand_leads (Lit l at) k h i g = (refl, ((refl, i), g))
+operand_leads (Label l at) k h i g = (refl, ((refl, i, refl), g))
 operand_leads t k h i g = tt
 
-field_leads : (t : Token) (l : Literal) (es : List Phrase) (k : Stack) → Good (fields l es ∷ k) → Leads (fields l es ∷ k) (t ∷ []) (next_field (Some t) l es k)
-field_leads CloseParen l es k g = (simp append_assoc, (g.0, g.1))
-field_leads t l es k g = operand_leads t (fields l es ∷ k) tt tt g
+field_leads : (t : Token) (w : Bool) (l : Literal) (at : ℕ) (fs : List Phrase) (k : Stack) → Good (fields w l at fs ∷ k) → Leads (fields w l at fs ∷ k) (t ∷ []) (next_field (Some t) w l at fs k)
+field_leads CloseParen w l at fs k g = (simp append_assoc, ((subst (λ v. are_fields v (of_list fs) ≡ true) g.0.2 g.0.0, g.0.1), g.1))
+field_leads t w l at fs k g = operand_leads t (fields w l at fs ∷ k) tt tt g
 
 call_leads : (es : List Phrase) (k : Stack) → Good (parts es ∷ k) → Leads (parts es ∷ k) (CloseBrace ∷ []) (guard (is_some_item es) (add_statement (call (of_list es)) k))
 call_leads [] k g = tt
@@ -147,7 +193,7 @@ call_leads (p ∷ es) k g =
 part_leads : (t : Token) (es : List Phrase) (k : Stack) → Good (parts es ∷ k) → Leads (parts es ∷ k) (t ∷ []) (next_part (Some t) es k)
 part_leads CloseBrace es k g = call_leads es k g
 part_leads (Var name at) es k g = (refl, ((refl, or_true (is_some_item es)), g))
-part_leads t es k g = guard_leads (is_some_item es) (parts es ∷ k) (t ∷ []) (operand (Some t) (parts es ∷ k)) (λ h. operand_leads t (parts es ∷ k) (or_true (is_some_item es)) (or_left (is_some_item es) false h) g)
+part_leads t es k g = guard_leads (is_some_item es) (parts es ∷ k) (t ∷ []) (operand false (Some t) (parts es ∷ k)) (λ h. operand_leads t (parts es ∷ k) (or_true (is_some_item es)) (or_left (is_some_item es) false h) g)
 
 -- ---- heads
 
@@ -186,17 +232,55 @@ pub part_good : (es : List Phrase) (e : Phrase) → GoodParts es → expr e ≡ 
 part_good [] e g h i = both (is_var e) true i refl
 part_good (p ∷ es) e g h i = let j = split (is_var p) (exprs (of_list es)) g in both (is_var p) _ j.fst (exprs_snoc es e j.snd h)
 
+-- one more field
+field_added : (t : Token) (e : Phrase) (w : Bool) (l : Literal) (at : ℕ) (fs : List Phrase) (j k : Stack) → spelled j ≡ spelled (fields w l at fs ∷ k) ++ tokens_of e → is_field w e ≡ true → Good (fields w l at fs ∷ k)
+    → Leads j (t ∷ []) (next_field (Some t) w l at (fs ++ e ∷ []) k)
+field_added t e w l at fs j k q h g =
+    leads_from (fields w l at (fs ++ e ∷ []) ∷ k) j (t ∷ []) (t ∷ []) (next_field (Some t) w l at (fs ++ e ∷ []) k)
+    (ap (λ ts. ts ++ t ∷ []) (ap (λ ts. spelled k ++ Label l at ∷ ts) (each_snoc fs e) ∙ sym (append_assoc (spelled k) (Label l at ∷ each (of_list fs)) (tokens_of e)) ∙ sym q))
+    (field_leads t w l at (fs ++ e ∷ []) k ((fields_snoc w fs e g.0.0 h, g.0.1, g.0.2), g.1))
+
+key_leads : (e : Phrase) (w : Bool) (l : Literal) (at : ℕ) (fs : List Phrase) (k : Stack) → Good (have e ∷ fields w l at fs ∷ k)
+    → Leads (have e ∷ fields w l at fs ∷ k) (Colon ∷ []) (turn_key e w (fields w l at fs ∷ k))
+key_leads (int i place) w l at fs k g = (simp append_assoc, (refl, g.1))
+key_leads (literal m place) w l at fs k g = (simp append_assoc, (refl, g.1))
+key_leads e w l at fs k g = tt
+
+behind_field_leads : (t : Token) (e : Phrase) (w : Bool) (l : Literal) (at : ℕ) (fs : List Phrase) (k : Stack) → Good (have e ∷ fields w l at fs ∷ k)
+    → Leads (have e ∷ fields w l at fs ∷ k) (t ∷ []) (behind_field (Some t) e w l at fs k)
+behind_field_leads Colon e w l at fs k g = key_leads e w l at fs k g
+behind_field_leads t e w l at fs k g = field_added t e w l at fs (have e ∷ fields w l at fs ∷ k) k refl (term_field w e g.0.0) g.1
+
+behind_value_leads : (t : Token) (e : Phrase) (w : Bool) (c : Constant) (place : ℕ) (k : Stack) → Good (have e ∷ key w c place ∷ k) → Leads (have e ∷ key w c place ∷ k) (t ∷ []) (behind_value (Some t) e c place k)
+behind_value_leads t e w c place (fields v l at fs ∷ k) g =
+    field_added t (keyed c place e) v l at fs (have e ∷ key w c place ∷ fields v l at fs ∷ k) k (simp append_assoc) (subst (λ q. term q e ≡ true) g.1.0 g.0.0) g.1.1
+behind_value_leads t e w c place [] g = tt
+behind_value_leads t e w c place (f ∷ k) g = tt
+
+tested_leads : (t : Token) (e : Phrase) (k : Stack) → Good (have e ∷ testing ∷ k) → Leads (have e ∷ testing ∷ k) (t ∷ []) (tested (Some t) e k)
+tested_leads Then e k g = (simp (append_assoc, append-nil), ((fresh_items, (g.1.0, g.0.0)), g.1.1))
+tested_leads t e k g = tt
+
+subjected_leads : (t : Token) (e : Phrase) (k : Stack) → Good (have e ∷ matching ∷ k) → Leads (have e ∷ matching ∷ k) (t ∷ []) (subjected (Some t) e k)
+subjected_leads Of e k g = (simp append_assoc, ((g.1.0, g.0.0, refl), g.1.1))
+subjected_leads t e k g = tt
+
+claused_leads : (t : Token) (p e : Phrase) (cs : List Phrase) (k : Stack) → Good (have p ∷ patterns e cs ∷ k) → Leads (have p ∷ patterns e cs ∷ k) (t ∷ []) (claused (Some t) p e cs k)
+claused_leads Then p e cs k g = (simp (append_assoc, append-nil), ((fresh_items, (g.1.0.0, g.1.0.1, g.1.0.2, g.0.0)), g.1.1))
+claused_leads t p e cs k g = tt
+
 whole_leads : (t : Token) (e : Phrase) (k : Stack) → Good (have e ∷ k) → Leads (have e ∷ k) (t ∷ []) (whole (Some t) e k)
 whole_leads t e (block o d s ds ps ∷ k) g = behind_leads t e o d s ds ps k g
 whole_leads t e (right a ∷ k) g = right_leads t e a k g
-whole_leads t e (fields l es ∷ k) g =
-    leads_from (fields l (es ++ e ∷ []) ∷ k) (have e ∷ fields l es ∷ k) (t ∷ []) (t ∷ []) (next_field (Some t) l (es ++ e ∷ []) k)
-    (ap (λ ts. (spelled k ++ Label l ∷ ts) ++ t ∷ []) (each_snoc es e) ∙ simp append_assoc)
-    (field_leads t l (es ++ e ∷ []) k ((exprs_snoc es e g.1.0.0 g.0.0, g.1.0.1), g.1.1))
+whole_leads t e (fields w l at fs ∷ k) g = behind_field_leads t e w l at fs k g
+whole_leads t e (key w c place ∷ k) g = behind_value_leads t e w c place k g
 whole_leads t e (parts es ∷ k) g =
     leads_from (parts (es ++ e ∷ []) ∷ k) (have e ∷ parts es ∷ k) (t ∷ []) (t ∷ []) (next_part (Some t) (es ++ e ∷ []) k)
     (ap (λ ts. (spelled k ++ OpenBrace ∷ ts) ++ t ∷ []) (each_snoc es e) ∙ simp append_assoc)
     (part_leads t (es ++ e ∷ []) k ((part_good es e g.1.0.0 g.0.0 g.0.1, g.1.0.1), g.1.1))
+whole_leads t e (testing ∷ k) g = tested_leads t e k g
+whole_leads t e (matching ∷ k) g = subjected_leads t e k g
+whole_leads t p (patterns e cs ∷ k) g = claused_leads t p e cs k g
 whole_leads t e [] g = tt
 whole_leads t e (f ∷ k) g = tt
 
@@ -208,10 +292,14 @@ step_leads t [] g = tt
 step_leads t (block o d s ds ps ∷ k) g = item_leads t o d s ds ps k g
 step_leads t (have e ∷ k) g = whole_leads t e k g
 step_leads t (right a ∷ k) g = operand_leads t (right a ∷ k) tt tt g
-step_leads t (fields l es ∷ k) g = field_leads t l es k g
+step_leads t (fields w l at fs ∷ k) g = field_leads t w l at fs k g
+step_leads t (key w c place ∷ k) g = operand_leads t (key w c place ∷ k) tt tt g
 step_leads t (parts es ∷ k) g = part_leads t es k g
 step_leads t (heading ∷ k) g = open_leads t k g
 step_leads t (head hs ∷ k) g = head_leads t hs k g
+step_leads t (testing ∷ k) g = operand_leads t (testing ∷ k) tt tt g
+step_leads t (matching ∷ k) g = operand_leads t (matching ∷ k) tt tt g
+step_leads t (patterns e cs ∷ k) g = operand_leads t (patterns e cs ∷ k) tt tt g
 step_leads t (accepted p ∷ k) g = tt
 
 run_leads_from : (ts : List Token) (t : Token) (k : Stack) (o : Option Stack) → Leads k (t ∷ []) o → ((j : Stack) → Good j → Leads j ts (run (Some j) ts)) → Leads k (t ∷ ts) (run o ts)
@@ -252,6 +340,8 @@ finish_have e (right a ∷ k) p g h =
     subst (λ us. Derives us p) (simp append_assoc)
     (finish_again k (tokens_of (equal a e)) (add_statement (equal a e) k) p (add_leads (equal a e) false true k tt (both (expr a) (expr e) g.1.0.0 g.0.0) g.1.1) h)
 finish_have e (parts es ∷ k) p g h = absurd (none_of (is_some_item (es ++ e ∷ [])) p h)
+finish_have e (key w c place ∷ fields v l at fs ∷ k) p g h = absurd (cc)
+finish_have e (key w c place ∷ k) p g h = elim g.1.0 [ ]
 finish_have e [] p g h = absurd (cc)
 finish_have e (f ∷ k) p g h = absurd (cc)
 

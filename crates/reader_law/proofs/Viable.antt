@@ -1,11 +1,11 @@
 -- What is open can be completed.
 use Rattle.std.proofs.Common.{◌≡◌, List, [], ◌∷◌, ◌++◌, Option, Some, None, Bool, true, false, ◌&&◌, ◌||◌, refl, ap, ◌∙◌, subst}
 use Rattle.oz_semantics.specs.declared.token.Token.{Token}
-use Rattle.oz_semantics.specs.declared.token.Token.TheVariants.{Var, OpenBrace, CloseBrace, CloseParen, Equals, End, In, Skip}
-use Rattle.oz_semantics.specs.Grammar.{Phrase, of_list, var, tuple, skip, equal, call, proc, local, choice, body}
-use Rattle.reader_law.specs.Machine.{Opener, program, declaring, of_local, of_proc, of_choice, Frame, block, have, right, fields, parts, heading, head, accepted, Stack, bind, is_some_item, add, add_statement, close, enter_body, item_again, run, finish}
+use Rattle.oz_semantics.specs.declared.token.Token.TheVariants.{Var, OpenBrace, CloseBrace, CloseParen, Equals, End, In, Of, Skip, Then}
+use Rattle.oz_semantics.specs.Grammar.{Phrase, of_list, var, rec, keyed, skip, equal, call, proc, local, choice, when, choose, cases, cases_or, clause, body}
+use Rattle.reader_law.specs.Machine.{Opener, program, declaring, of_local, of_proc, of_choice, of_then, of_else, of_clause, of_case_else, Frame, block, have, right, fields, key, parts, heading, head, testing, matching, patterns, accepted, Stack, bind, is_some_item, add, add_statement, body_of, close, enter_body, item_again, run, finish}
 use Rattle.reader_law.proofs.Basics.{guard_true, some_snoc, run_append}
-use Rattle.reader_law.proofs.Good.{Good, Leads}
+use Rattle.reader_law.proofs.Good.{AmongStatements, Good, Leads}
 use Rattle.reader_law.proofs.Complete.{adds}
 use Rattle.reader_law.proofs.Sound.{run_leads}
 
@@ -41,11 +41,14 @@ Below [] = Unit {0}
 Below (f ∷ k) = Goes k
 
 -- `end` makes a statement of the block
-complete_added : (p : Phrase) (o : Opener) (d : Bool) (ds ps : List Phrase) (o' : Opener) (d' : Bool) (ds' ps' : List Phrase) (k : Stack) → Goes k → Good (block o d true ds ps ∷ block o' d' true ds' ps' ∷ k)
-    → close (Some End) o ds ps (block o' d' true ds' ps' ∷ k) ≡ add_statement p (block o' d' true ds' ps' ∷ k) → Completes (block o d true ds ps ∷ block o' d' true ds' ps' ∷ k)
-complete_added p o d ds ps o' d' ds' ps' k f g e =
+complete_ended : (p : Phrase) (o : Opener) (d : Bool) (ds ps : List Phrase) (k : Stack) → Below k → Good (block o d true ds ps ∷ k) → AmongStatements k → close (Some End) o ds ps k ≡ add_statement p k
+    → Completes (block o d true ds ps ∷ k)
+complete_ended p o d ds ps (block o' d' true ds' ps' ∷ k) f g a e =
     completes_by (End ∷ []) (block o d true ds ps ∷ block o' d' true ds' ps' ∷ k) (block o' (d' && false) true ds' (ps' ++ p ∷ []) ∷ k) g (e ∙ adds p o' d' ds' ps' k)
     (f o' (d' && false) true ds' (ps' ++ p ∷ []))
+complete_ended p o d ds ps (block o' d' false ds' ps' ∷ k) f g a e = absurd (cc)
+complete_ended p o d ds ps [] f g a e = elim a [ ]
+complete_ended p o d ds ps (x ∷ k) f g a e = elim a [ ]
 
 adds_either : (p : Phrase) (o : Opener) (d s : Bool) (ds ps : List Phrase) (k : Stack) → d || s ≡ true → add p true true (block o d s ds ps ∷ k) ≡ Some (block o d s ds (ps ++ p ∷ []) ∷ k)
 adds_either p o true true ds ps k h = refl
@@ -58,15 +61,12 @@ complete_open : (o : Opener) (d : Bool) (ds ps : List Phrase) (k : Stack) → Be
 complete_open program d ds ps [] f g = record { by = []; program = body (of_list ds) (of_list ps); ends = refl }
 complete_open program d ds ps (e ∷ k) f g = elim g.0.1 [ ]
 complete_open declaring d ds ps k f g = absurd (cc (g.0.1.1))
-complete_open (of_local ls) d ds ps (block o' d' true ds' ps' ∷ k) f g = complete_added (local (of_list ls) (body (of_list ds) (of_list ps))) (of_local ls) d ds ps o' d' ds' ps' k f g refl
-complete_open (of_local ls) d ds ps (block o' d' false ds' ps' ∷ k) f g = absurd (cc (g.0.1.0))
-complete_open (of_local ls) d ds ps [] f g = elim g.0.1.0 [ ]
-complete_open (of_local ls) d ds ps (e ∷ k) f g = elim g.0.1.0 [ ]
-complete_open (of_choice bs) d ds ps (block o' d' true ds' ps' ∷ k) f g =
-    complete_added (choice (of_list (bs ++ body (of_list ds) (of_list ps) ∷ []))) (of_choice bs) d ds ps o' d' ds' ps' k f g refl
-complete_open (of_choice bs) d ds ps (block o' d' false ds' ps' ∷ k) f g = absurd (cc (g.0.1.0))
-complete_open (of_choice bs) d ds ps [] f g = elim g.0.1.0 [ ]
-complete_open (of_choice bs) d ds ps (e ∷ k) f g = elim g.0.1.0 [ ]
+complete_open (of_local ls) d ds ps k f g = complete_ended (local (of_list ls) (body_of ds ps)) (of_local ls) d ds ps k f g g.0.1.0 refl
+complete_open (of_choice bs) d ds ps k f g = complete_ended (choice (of_list (bs ++ body_of ds ps ∷ []))) (of_choice bs) d ds ps k f g g.0.1.0 refl
+complete_open (of_then e) d ds ps k f g = complete_ended (when e (body_of ds ps)) (of_then e) d ds ps k f g g.0.1.0 refl
+complete_open (of_else e b) d ds ps k f g = complete_ended (choose e b (body_of ds ps)) (of_else e b) d ds ps k f g g.0.1.0 refl
+complete_open (of_clause e cs p) d ds ps k f g = complete_ended (cases e (of_list (cs ++ clause p (body_of ds ps) ∷ []))) (of_clause e cs p) d ds ps k f g g.0.1.0 refl
+complete_open (of_case_else e cs) d ds ps k f g = complete_ended (cases_or e (of_list cs) (body_of ds ps)) (of_case_else e cs) d ds ps k f g g.0.1.0 refl
 complete_open (of_proc hs) d ds ps (block o' d' s' ds' ps' ∷ k) f g =
     let p = proc (of_list hs) (body (of_list ds) (of_list ps)) in
     completes_by (End ∷ []) (block (of_proc hs) d true ds ps ∷ block o' d' s' ds' ps' ∷ k) (block o' d' s' ds' (ps' ++ p ∷ []) ∷ k) g (adds_either p o' d' s' ds' ps' k g.1.0.0.3)
@@ -81,6 +81,10 @@ complete_enter us j program ps k f g e = completes_by us j (block program false 
 complete_enter us j (of_local ls) ps k f g e = completes_by us j (block (of_local ls) false true ps [] ∷ k) g e (complete_open (of_local ls) false ps [] k f)
 complete_enter us j (of_proc hs) ps k f g e = completes_by us j (block (of_proc hs) false true ps [] ∷ k) g e (complete_open (of_proc hs) false ps [] k f)
 complete_enter us j (of_choice bs) ps k f g e = completes_by us j (block (of_choice bs) false true ps [] ∷ k) g e (complete_open (of_choice bs) false ps [] k f)
+complete_enter us j (of_then t) ps k f g e = completes_by us j (block (of_then t) false true ps [] ∷ k) g e (complete_open (of_then t) false ps [] k f)
+complete_enter us j (of_else t b) ps k f g e = completes_by us j (block (of_else t b) false true ps [] ∷ k) g e (complete_open (of_else t b) false ps [] k f)
+complete_enter us j (of_clause t cs p) ps k f g e = completes_by us j (block (of_clause t cs p) false true ps [] ∷ k) g e (complete_open (of_clause t cs p) false ps [] k f)
+complete_enter us j (of_case_else t cs) ps k f g e = completes_by us j (block (of_case_else t cs) false true ps [] ∷ k) g e (complete_open (of_case_else t cs) false ps [] k f)
 
 -- a block where only declarations may stand
 complete_shut : (o : Opener) (ds ps : List Phrase) (k : Stack) → Below k → Good (block o true false ds ps ∷ k) → Completes (block o true false ds ps ∷ k)
@@ -130,8 +134,16 @@ complete_have (block o false false ds ps ∷ k) e g = absurd (cc (g.1.0.0.3))
 complete_have (right a ∷ block o d true ds ps ∷ k) e g = complete_right e a o d ds ps k g
 complete_have (right a ∷ block o d false ds ps ∷ k) e g = absurd (cc (g.1.0.1))
 complete_have (right a ∷ k) e g = elim g.1.0.1 [ ]
-complete_have (fields l es ∷ k) e g =
-    completes_by (CloseParen ∷ []) (have e ∷ fields l es ∷ k) (have (tuple l (of_list (es ++ e ∷ []))) ∷ k) g refl (complete_have k (tuple l (of_list (es ++ e ∷ []))))
+complete_have (fields w l at fs ∷ k) e g =
+    completes_by (CloseParen ∷ []) (have e ∷ fields w l at fs ∷ k) (have (rec l at (of_list (fs ++ e ∷ []))) ∷ k) g refl (complete_have k (rec l at (of_list (fs ++ e ∷ []))))
+complete_have (key w c place ∷ fields v l at fs ∷ k) e g =
+    completes_by (CloseParen ∷ []) (have e ∷ key w c place ∷ fields v l at fs ∷ k) (have (rec l at (of_list (fs ++ keyed c place e ∷ []))) ∷ k) g refl (complete_have k (rec l at (of_list (fs ++ keyed c place e ∷ []))))
+complete_have (key w c place ∷ k) e g = elim g.1.0 [ ]
+complete_have (testing ∷ k) e g = completes_by (Then ∷ []) (have e ∷ testing ∷ k) (block (of_then e) true true [] [] ∷ k) g refl (complete_block k (of_then e) true true [] [])
+complete_have (matching ∷ k) e g =
+    completes_by (Of ∷ Var 0 0 ∷ Then ∷ []) (have e ∷ matching ∷ k) (block (of_clause e [] (var 0 0)) true true [] [] ∷ k) g refl (complete_block k (of_clause e [] (var 0 0)) true true [] [])
+complete_have (patterns s cs ∷ k) e g =
+    completes_by (Then ∷ []) (have e ∷ patterns s cs ∷ k) (block (of_clause s cs e) true true [] [] ∷ k) g refl (complete_block k (of_clause s cs e) true true [] [])
 complete_have (parts es ∷ block o d true ds ps ∷ k) e g = complete_part e es o d ds ps k g
 complete_have (parts es ∷ block o d false ds ps ∷ k) e g = absurd (cc (g.1.0.1))
 complete_have (parts es ∷ k) e g = elim g.1.0.1 [ ]
@@ -144,7 +156,11 @@ pub complete : (f : Frame) (k : Stack) → Good (f ∷ k) → Completes (f ∷ k
 complete (block o d s ds ps) k g = complete_block k o d s ds ps g
 complete (have e) k g = complete_have k e g
 complete (right a) k g = completes_by (Var 0 0 ∷ []) (right a ∷ k) (have (var 0 0) ∷ right a ∷ k) g refl (complete_have (right a ∷ k) (var 0 0))
-complete (fields l es) k g = completes_by (Var 0 0 ∷ []) (fields l es ∷ k) (have (var 0 0) ∷ fields l es ∷ k) g refl (complete_have (fields l es ∷ k) (var 0 0))
+complete (fields w l at fs) k g = completes_by (Var 0 0 ∷ []) (fields w l at fs ∷ k) (have (var 0 0) ∷ fields w l at fs ∷ k) g refl (complete_have (fields w l at fs ∷ k) (var 0 0))
+complete (key w c place) k g = completes_by (Var 0 0 ∷ []) (key w c place ∷ k) (have (var 0 0) ∷ key w c place ∷ k) g refl (complete_have (key w c place ∷ k) (var 0 0))
+complete testing k g = completes_by (Var 0 0 ∷ []) (testing ∷ k) (have (var 0 0) ∷ testing ∷ k) g refl (complete_have (testing ∷ k) (var 0 0))
+complete matching k g = completes_by (Var 0 0 ∷ []) (matching ∷ k) (have (var 0 0) ∷ matching ∷ k) g refl (complete_have (matching ∷ k) (var 0 0))
+complete (patterns e cs) k g = completes_by (Var 0 0 ∷ []) (patterns e cs ∷ k) (have (var 0 0) ∷ patterns e cs ∷ k) g refl (complete_have (patterns e cs ∷ k) (var 0 0))
 complete (parts es) k g = completes_by (Var 0 0 ∷ []) (parts es ∷ k) (have (var 0 0) ∷ parts es ∷ k) g refl (complete_have (parts es ∷ k) (var 0 0))
 complete heading k g = completes_by (OpenBrace ∷ Var 0 0 ∷ CloseBrace ∷ []) (heading ∷ k) (block (of_proc (var 0 0 ∷ [])) true true [] [] ∷ k) g refl (complete_block k (of_proc (var 0 0 ∷ [])) true true [] [])
 complete (head hs) k g =

@@ -1,2 +1,4 @@
+pub mod Keys
 pub mod Pending
+pub mod Placing
 pub mod TextWithin

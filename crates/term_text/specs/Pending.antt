@@ -1,9 +1,10 @@
--- What is left to print while some tuples are open.
+-- What is left to print while some records are open.
 use Rattle.std.specs.Prelude.{ℕ, ◌+◌, ◌≡◌, List, [], ◌∷◌, ◌++◌, Option, Some, None, map, position, codes}
 use Rattle.oz_base.specs.declared.names.Ident.{Ident}
 use Rattle.oz_semantics.specs.Store.{same, value_of}
-use Rattle.oz_semantics.specs.Texts.{Printed, printed, spaced, count_nodes, tuple_printed, tuple_or_up, value_printed, literal_text}
-use Rattle.oz_semantics.specs.declared.configuration.Tuple.{Tuple}
+use Rattle.oz_semantics.specs.Texts.{Printed, printed, spaced, count_nodes, fields_text, record_printed, record_or_up, value_printed}
+use Rattle.oz_semantics.specs.declared.kernel.Constant.{Constant}
+use Rattle.oz_semantics.specs.declared.configuration.Record.{Record}
 use Rattle.oz_semantics.specs.declared.configuration.Tell.{Tell}
 use Rattle.term_text.specs.declared.printer.Open.{Open}
 use Rattle.term_text.specs.declared.printer.Printer.{Printer}
@@ -20,45 +21,54 @@ nothing = record { bytes = []; nodes = 0 }
 abbrev pub beside : Printed → Printed → Printed
 beside p q = record { bytes = p.bytes ++ q.bytes; nodes = p.nodes + q.nodes }
 
--- what follows the fields that are printed, up to the end of the tuple
-abbrev pub rest_printed : List Printed → Printed
-rest_printed ps = record { bytes = spaced (map (λ (p : Printed). p.bytes) ps) ++ codes ")"; nodes = count_nodes ps }
+-- a gap before the first, and a blank before each of the others
+abbrev pub led_by : List ℕ → List (List ℕ) → List ℕ
+led_by gap [] = []
+led_by gap (t ∷ ts) = gap ++ (t ++ spaced ts)
 
--- what is left of the tuples that are open
+-- fields with these features behind a gap, where n is the next feature to be left out, up to the end of the record
+abbrev pub rest_printed : List ℕ → List (List ℕ) → ℕ → List Constant → List Printed → Printed
+rest_printed gap words n fs ps =
+    record { bytes = led_by gap (fields_text words n fs (map (λ (p : Printed). p.bytes) ps)) ++ codes ")"; nodes = count_nodes ps }
+
+-- what is left of a record inside those that are open
+abbrev pub record_left : List ℕ → List (List ℕ) → List Tell → List Open → Open → Printed
+record_left gap words view os o = rest_printed gap words o.next o.features.now (map (printed words view o.bound (o.variable.now ∷ variables_of os)) o.fields.now)
+
+-- what is left of the records that are open
 abbrev pub pending : List (List ℕ) → List Tell → List Open → Printed
 pending words view [] = nothing
-pending words view (o ∷ os) =
-    beside (rest_printed (map (printed words view o.bound (o.variable.now ∷ variables_of os)) o.fields.now)) (pending words view os)
+pending words view (o ∷ os) = beside (record_left (codes " ") words view os o) (pending words view os)
+
+-- what is left of a record, and what follows it
+abbrev pub with_rest : List ℕ → List (List ℕ) → List Tell → List Open → Open → Printed
+with_rest gap words view os o = beside (record_left gap words view os o) (pending words view os)
 
 -- a term, and what follows it
 abbrev pub with_term : List (List ℕ) → List Tell → List Open → Term → Printed
 with_term words view os t = beside (printed words view t.bound (variables_of os) t.variable.now) (pending words view os)
 
--- the fields of a tuple that is the value of x, each printed in it
-abbrev pub fields_printed : List (List ℕ) → List Tell → List Open → ℕ → Ident → Tuple → List Printed
-fields_printed words view os bound x t = map (printed words view bound (x ∷ variables_of os)) t.fields
+-- a record that is the value of x, written in full, and what follows it
+abbrev pub with_fields : List (List ℕ) → List Tell → List Open → ℕ → Ident → Record → Printed
+with_fields words view os bound x r =
+    beside (record_printed words r.label r.features (map (printed words view bound (x ∷ variables_of os)) r.fields)) (pending words view os)
 
--- a tuple that is the value of x, written in full, and what follows it
-abbrev pub with_fields : List (List ℕ) → List Tell → List Open → ℕ → Ident → Tuple → Printed
-with_fields words view os bound x t =
-    beside (tuple_printed (literal_text words t.label) (fields_printed words view os bound x t)) (pending words view os)
-
--- a tuple that is the value of x, and what follows it
-abbrev pub with_tuple : List (List ℕ) → List Tell → List Open → ℕ → Ident → Tuple → Printed
-with_tuple words view os bound x t =
-    beside (tuple_or_up words (printed words view bound (x ∷ variables_of os)) t (position (same view x) (variables_of os))) (pending words view os)
+-- a record that is the value of x, and what follows it
+abbrev pub with_record : List (List ℕ) → List Tell → List Open → ℕ → Ident → Record → Printed
+with_record words view os bound x r =
+    beside (record_or_up words (printed words view bound (x ∷ variables_of os)) r (position (same view x) (variables_of os))) (pending words view os)
 
 -- the value of x, and what follows it
 abbrev pub with_value : List (List ℕ) → List Tell → List Open → ℕ → Ident → Printed
 with_value words view os bound x =
     beside (value_printed words (printed words view bound (x ∷ variables_of os)) (position (same view x) (variables_of os)) (value_of view x)) (pending words view os)
 
--- what is left after a node: the term that comes next, if it lies in the tuple that was opened last
+-- what is left after a node: the term that comes next, if it lies in the record that was opened last
 abbrev pub after_node : List (List ℕ) → List Tell → List Open → Option Term → Printed
 after_node words view os None = pending words view os
 after_node words view os (Some t) = with_term words view os t
 
--- what is left once the next term is found: nothing where all tuples are closed
+-- what is left once the next term is found: nothing where all records are closed
 abbrev pub after_move : List (List ℕ) → List Tell → List Open → Option Term → Printed
 after_move words view os None = nothing
 after_move words view os (Some t) = with_term words view os t

@@ -1,7 +1,9 @@
-//! The text of a term: nested tuples, with `^K` where a tuple leads back to one that encloses it.
+//! The text of a term: nested records, with `^K` where a record leads back to one that encloses it.
 #![tactic(auto)]
 
 mod constants;
+mod keys;
+mod nesting;
 mod printer;
 mod terms;
 #[cfg(test)]

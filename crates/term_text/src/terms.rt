@@ -15,11 +15,12 @@ pub struct Text {
     pub nodes: u64,
 }
 
-/// The text of a variable's term in a view. `None` where the term has more nodes than the fuel. It refuses where there is no memory.
+/// The text of a variable's term in a view. `None` where the term has more nodes than the fuel. It refuses where there is no
+/// memory, and where a field has no feature, as no program makes one.
 ///
-/// An atom's text is its word. `^K` stands for the K-th of the enclosing tuples, the innermost being 1. The time goes with the
-/// nodes that are printed, at most as many as the fuel, and for each tuple with those that enclose it; the depth of a term takes
-/// memory, but no stack.
+/// An atom's text is its word. A field has its feature before it, as `a:X`, but the features 1, 2, .. are left out as far as they
+/// go without a gap. `^K` stands for the K-th of the enclosing records, the innermost being 1. The time goes with the nodes that
+/// are printed, at most as many as the fuel; the depth of a term takes memory, but no stack.
 pub fn term_text<'a>(
     alloc: Global,
     words: &[Sequence<u8>],

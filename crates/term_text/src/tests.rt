@@ -1,6 +1,6 @@
 use crate::{Text, term_text};
 use oz_base::{Ident, Sequence};
-use oz_semantics::{Constant, Layer, Literal, Next, Status, Tell, Tuple, Value};
+use oz_semantics::{Builtin, Constant, Layer, Literal, Next, Record, Status, Tell, Value};
 use oz_store::{Seen, seen_by};
 use std::alloc::{AllocError, Global};
 use std::test::Fail;
@@ -10,6 +10,8 @@ const F: Literal = Literal::Atom(0);
 const G: Literal = Literal::Atom(1);
 
 const A: Literal = Literal::Atom(2);
+
+const B: Literal = Literal::Atom(3);
 
 fn var(alloc: Global, number: u32) -> Ident {
     Ident {
@@ -38,19 +40,46 @@ fn constant(alloc: Global, x: u32, constant: Constant) -> Tell {
     }
 }
 
-/// `x=l(y ..)`
-fn tuple(alloc: Global, x: u32, label: Literal, fields: &[u32]) -> Result<Tell, AllocError> {
+/// `x=l(k:y ..)`
+fn record(
+    alloc: Global,
+    x: u32,
+    label: Literal,
+    fields: &[(Constant, u32)],
+) -> Result<Tell, AllocError> {
+    let mut features = Sequence::new(alloc);
     let mut variables = Sequence::new(alloc);
-    for field in fields {
+    for (feature, field) in fields {
+        features.push(*feature)?;
         variables.push(var(alloc, *field))?;
     }
     Ok(Tell::Is {
         variable: var(alloc, x),
-        value: Value::Tuple(Tuple {
+        value: Value::Record(Record {
             label,
+            features,
             fields: variables,
         }),
     })
+}
+
+/// `x=l(y ..)`
+fn tuple(alloc: Global, x: u32, label: Literal, fields: &[u32]) -> Result<Tell, AllocError> {
+    let mut keyed = Vec::new(alloc);
+    for (feature, field) in (1..i128::MAX).zip(fields) {
+        keyed.push((Constant::Int(feature), *field))?;
+    }
+    record(alloc, x, label, keyed.as_slice())
+}
+
+/// An atom's feature, or that of another literal.
+fn key(literal: Literal) -> Constant {
+    Constant::Literal(literal)
+}
+
+/// `x=a`
+fn atom(alloc: Global, x: u32, literal: Literal) -> Tell {
+    constant(alloc, x, Constant::Literal(literal))
 }
 
 /// What a space sees that was told this.
@@ -73,7 +102,10 @@ fn told(alloc: Global, tells: Vec<Tell>) -> Result<Seen, AllocError> {
 
 /// The text of variable 0.
 fn text(alloc: Global, tells: Vec<Tell>, fuel: u64) -> Result<Option<Text>, AllocError> {
-    let words = vec![in alloc; word(alloc, b"f")?, word(alloc, b"g")?, word(alloc, b"a")?]?;
+    let mut words = Vec::new(alloc);
+    for letter in b"fgab" {
+        words.push(word(alloc, &[*letter])?)?;
+    }
     let seen = told(alloc, tells)?;
     term_text(alloc, words.as_slice(), &seen, &var(alloc, 0), fuel)
 }
@@ -106,12 +138,87 @@ fn values_of_each_kind(rt: HostRuntime) -> Result<(), Fail> {
     let alloc = rt.alloc();
     let tells = vec![in alloc;
         tuple(alloc, 0, F, &[1, 2, 3, 4])?,
-        constant(alloc, 1, Constant::Literal(A)),
+        atom(alloc, 1, A),
         constant(alloc, 2, Constant::Int(-2)),
-        constant(alloc, 3, Constant::Literal(Literal::True)),
+        atom(alloc, 3, Literal::True),
         tuple(alloc, 4, G, &[5])?,
     ]?;
     assert!(rt; is_text(&text(alloc, tells, 100)?, b"f(a ~2 true g(_))", 6));
+    Ok(())
+}
+
+#[test]
+fn a_builtin_procedure(rt: HostRuntime) -> Result<(), Fail> {
+    let alloc = rt.alloc();
+    let show = Tell::Is {
+        variable: var(alloc, 0),
+        value: Value::Builtin(Builtin::Show),
+    };
+    assert!(rt; is_text(&text(alloc, vec![in alloc; show]?, 1)?, b"<proc>", 1));
+    Ok(())
+}
+
+#[test]
+fn fields_with_keys(rt: HostRuntime) -> Result<(), Fail> {
+    let alloc = rt.alloc();
+    let fields = [(key(A), 1), (key(B), 2)];
+    let tells = vec![in alloc; record(alloc, 0, F, &fields)?, atom(alloc, 1, B)]?;
+    assert!(rt; is_text(&text(alloc, tells, 3)?, b"f(a:b b:_)", 3));
+    Ok(())
+}
+
+#[test]
+fn a_key_behind_a_gap(rt: HostRuntime) -> Result<(), Fail> {
+    let alloc = rt.alloc();
+    let fields = [(Constant::Int(1), 1), (Constant::Int(3), 2)];
+    let tells = vec![in alloc;
+        record(alloc, 0, F, &fields)?,
+        atom(alloc, 1, A),
+        atom(alloc, 2, B),
+    ]?;
+    assert!(rt; is_text(&text(alloc, tells, 3)?, b"f(a 3:b)", 3));
+    Ok(())
+}
+
+#[test]
+fn keys_before_the_first_feature(rt: HostRuntime) -> Result<(), Fail> {
+    let alloc = rt.alloc();
+    let fields = [
+        (Constant::Int(-1), 1),
+        (Constant::Int(0), 1),
+        (Constant::Int(1), 2),
+        (Constant::Int(2), 1),
+    ];
+    let tells = vec![in alloc; record(alloc, 0, F, &fields)?, atom(alloc, 2, A)]?;
+    assert!(rt; is_text(&text(alloc, tells, 5)?, b"f(~1:_ 0:_ a _)", 5));
+    Ok(())
+}
+
+#[test]
+fn features_of_each_kind(rt: HostRuntime) -> Result<(), Fail> {
+    let alloc = rt.alloc();
+    let fields = [
+        (Constant::Int(1), 1),
+        (Constant::Int(2), 2),
+        (key(A), 1),
+        (key(Literal::False), 2),
+        (key(Literal::Unit), 1),
+    ];
+    let tells = vec![in alloc;
+        record(alloc, 0, Literal::True, &fields)?,
+        atom(alloc, 2, B),
+    ]?;
+    assert!(rt; is_text(&text(alloc, tells, 6)?, b"true(_ b a:_ false:b unit:_)", 6));
+    Ok(())
+}
+
+#[test]
+fn a_way_up_from_a_field_with_a_key(rt: HostRuntime) -> Result<(), Fail> {
+    let alloc = rt.alloc();
+    let outer = [(key(A), 1), (key(B), 0)];
+    let inner = [(Constant::Int(2), 0), (key(A), 1)];
+    let tells = vec![in alloc; record(alloc, 0, F, &outer)?, record(alloc, 1, G, &inner)?]?;
+    assert!(rt; is_text(&text(alloc, tells, 9)?, b"f(a:g(2:^2 a:^1) b:^1)", 5));
     Ok(())
 }
 

@@ -1,5 +1,5 @@
 use super::*;
-use oz_semantics::{Constant, Literal, Tuple};
+use oz_semantics::{Constant, Literal, Record};
 use std::test::Fail;
 
 const F: Literal = Literal::Atom(7);
@@ -11,19 +11,27 @@ fn var(alloc: Global, number: u32) -> Result<Ident, AllocError> {
     })
 }
 
-/// `x=f(y ..)`
-fn tuple(alloc: Global, x: u32, fields: &[u32]) -> Result<Tell, AllocError> {
+/// `x=f(y ..)`, with features from `first` on
+fn record_from(alloc: Global, x: u32, first: u32, fields: &[u32]) -> Result<Tell, AllocError> {
+    let mut features = Sequence::new(alloc);
     let mut variables = Sequence::new(alloc);
-    for field in fields {
+    for (feature, field) in (first..u32::MAX).zip(fields) {
+        features.push(Constant::Int(i128::from(feature)))?;
         variables.push(var(alloc, *field)?)?;
     }
     Ok(Tell::Is {
         variable: var(alloc, x)?,
-        value: Value::Tuple(Tuple {
+        value: Value::Record(Record {
             label: F,
+            features,
             fields: variables,
         }),
     })
+}
+
+/// `x=f(y ..)`
+fn record(alloc: Global, x: u32, fields: &[u32]) -> Result<Tell, AllocError> {
+    record_from(alloc, x, 1, fields)
 }
 
 /// `x=i`
@@ -42,9 +50,9 @@ fn equal(alloc: Global, x: u32, y: u32) -> Result<Tell, AllocError> {
     })
 }
 
-fn tell_tuples(alloc: Global, seen: &mut Seen, told: &[(u32, &[u32])]) -> Result<(), AllocError> {
+fn tell_records(alloc: Global, seen: &mut Seen, told: &[(u32, &[u32])]) -> Result<(), AllocError> {
     for (x, fields) in told {
-        let tell = tuple(alloc, *x, fields)?;
+        let tell = record(alloc, *x, fields)?;
         seen.tell(alloc, &tell)?;
     }
     Ok(())
@@ -81,10 +89,10 @@ fn are_same(alloc: Global, seen: &Seen, x: u32, y: u32) -> Result<bool, AllocErr
 }
 
 #[test]
-fn fields_of_equal_tuples_are_equal(rt: HostRuntime) -> Result<(), Fail> {
+fn fields_of_equal_records_are_equal(rt: HostRuntime) -> Result<(), Fail> {
     let alloc = rt.alloc();
     let mut seen = Seen::new(alloc);
-    tell_tuples(alloc, &mut seen, &[(0, &[1, 2]), (3, &[4, 5])])?;
+    tell_records(alloc, &mut seen, &[(0, &[1, 2]), (3, &[4, 5])])?;
     tell_ints(alloc, &mut seen, &[(4, 1), (5, 2)])?;
     tell_equations(alloc, &mut seen, &[(0, 3)])?;
     assert!(rt; are_same(alloc, &seen, 1, 4)?);
@@ -98,7 +106,7 @@ fn fields_of_equal_tuples_are_equal(rt: HostRuntime) -> Result<(), Fail> {
 fn trees_without_end_are_equal(rt: HostRuntime) -> Result<(), Fail> {
     let alloc = rt.alloc();
     let mut seen = Seen::new(alloc);
-    tell_tuples(alloc, &mut seen, &[(0, &[0]), (1, &[2]), (2, &[1])])?;
+    tell_records(alloc, &mut seen, &[(0, &[0]), (1, &[2]), (2, &[1])])?;
     tell_equations(alloc, &mut seen, &[(0, 1)])?;
     assert!(rt; are_same(alloc, &seen, 0, 2)?);
     assert!(rt; seen.is_consistent());
@@ -113,5 +121,30 @@ fn values_that_differ_clash(rt: HostRuntime) -> Result<(), Fail> {
     tell_equations(alloc, &mut seen, &[(0, 1)])?;
     assert!(rt; !seen.is_consistent());
     assert_eq!(rt; int_of(alloc, &seen, 1)?, Some(1));
+    Ok(())
+}
+
+#[test]
+fn records_of_other_features_clash(rt: HostRuntime) -> Result<(), Fail> {
+    let alloc = rt.alloc();
+    let mut seen = Seen::new(alloc);
+    seen.tell(alloc, &record_from(alloc, 0, 1, &[2])?)?;
+    seen.tell(alloc, &record_from(alloc, 1, 2, &[3])?)?;
+    tell_equations(alloc, &mut seen, &[(0, 1)])?;
+    assert!(rt; !seen.is_consistent());
+    assert!(rt; !are_same(alloc, &seen, 2, 3)?);
+    Ok(())
+}
+
+#[test]
+fn a_class_has_one_place(rt: HostRuntime) -> Result<(), Fail> {
+    let alloc = rt.alloc();
+    let mut seen = Seen::new(alloc);
+    tell_equations(alloc, &mut seen, &[(0, 1)])?;
+    tell_ints(alloc, &mut seen, &[(1, 5), (2, 5)])?;
+    let x = var(alloc, 0)?;
+    assert_eq!(rt; seen.value_place(&x), Some(1));
+    let y = var(alloc, 2)?;
+    assert_eq!(rt; seen.value_place(&y), Some(2));
     Ok(())
 }

@@ -3,4 +3,6 @@ use Rattle.command_line.proofs.Builds.{adds_command}
 use Rattle.command_line.proofs.commands.program.Goals as goal
 
 pub returns : goal.returns
-returns c = IfOk-weaker c.subcommand.result _ _ (λ new h. adds_command _ _ new _ _ c.start.ensures c.in_ok-all.ensures.app c.in_ok-all.ensures.local h) c.subcommand.ensures
+returns c =
+    let first = adds_command _ _ _ _ _ c.start.ensures c.in_ok-all.ensures.app c.in_ok-all.ensures.local c.in_ok-subcommand.ensures in
+    IfOk-weaker c.subcommand-2.result _ _ (λ new h. adds_command _ _ new _ _ first c.in_ok-run.ensures.app c.in_ok-run.ensures.local h) c.subcommand-2.ensures

@@ -1,51 +1,99 @@
-use Rattle.std.proofs.Common.{◌≡◌, ◌∙◌, ◌-◌, ◌+◌, List, true, false, sym, subst, ap, arith}
-use Rattle.oz_semantics.specs.Spaces.{state}
+use Rattle.std.proofs.Common.{◌≡◌, ◌∙◌, ◌-◌, ◌≤◌, ◌&&◌, not, suc, List, true, false, sym, ap, arith}
+use Rattle.oz_base.specs.Lists.{is_empty}
+use Rattle.oz_semantics.specs.Spaces.{goes_on, state}
 use Rattle.oz_semantics.specs.Schedule.{turn}
-use Rattle.oz_semantics.specs.Runs.{Ended, TopRaised}
+use Rattle.oz_semantics.specs.Runs.{Ended, TopRaised, Over, run_for}
 use Rattle.oz_semantics.specs.declared.kernel.Statement.{Statement}
-use Rattle.oz_machine.proofs.RunLaws.{MayTurn, run_out, run_went, run_stopped, run_done}
+use Rattle.oz_machine.specs.Turns.{cost_of}
+use Rattle.oz_machine.proofs.RunLaws.{MayTurn, was_made, not_made, made_within, turn_costs, run_out, run_went, run_stopped, run_done}
 use Rattle.oz_machine.proofs.machine.run.Goals as goal
 
-pub returns-then-left-eq0 : goal.returns-then-left-eq0
-returns-then-left-eq0 c =
-    let statements = c.args.kernel.now.statements in
-    let may = subst (λ (s : List Statement). MayTurn s c.args.space.now c.turns.configuration true) c.as_slice-statements.ensures (sym c.may_turn.ensures ∙ c.turns-test.true) in
-    sym c.turns.invariant.same ∙ run_out statements c.args.space.now c.turns.configuration may c.turns.left c.if-left-eq0.true
+pub returns-in_default : goal.returns-in_default
+returns-in_default c =
+    let k = c.args.kernel.now in
+    let space = c.args.space.now in
+    let here = c.turns.configuration in
+    let may : MayTurn k space here true
+    = ap (λ (st : List Statement). goes_on st here.layers space && not (is_empty here.queue)) (sym c.as_slice-statements.ensures) ∙ sym c.may_turn.ensures ∙ c.turns-test.true in
+    let over = not_made (turn k here) c.turns.left here c.step.new.configuration c.in_ok-stepped.field-0 c.in_ok-stepped.ensures.turn c.in_default.not-Some in
+    sym c.turns.invariant.same ∙ run_out k space here c.turns.left may over.0 ∙ ap Over (sym over.1)
+
+pub overflow_sub-left : goal.overflow_sub-left
+overflow_sub-left c =
+    let within = made_within c.turns.left c.in_ok-stepped.field-0 c.in-Some.stepped c.in_ok-stepped.ensures.cost c.in-Some.is in
+    let cost = c.cost_of-left.ensures in
+    omega (arith, within, cost)
 
 pub turns-preserved : goal.turns-preserved
 turns-preserved c =
-    let statements = c.args.kernel.now.statements in
-    let may = subst (λ (s : List Statement). MayTurn s c.args.space.now c.turns.configuration true) c.as_slice-statements.ensures (sym c.may_turn.ensures ∙ c.turns-test.true) in
-    let turned = subst (λ (s : List Statement). turn s c.turns.configuration ≡ (c.in_ok-raise.field-0, c.step.new.configuration)) c.as_slice-statements.ensures c.in_ok-raise.ensures.turn in
+    let k = c.args.kernel.now in
+    let space = c.args.space.now in
+    let here = c.turns.configuration in
+    let there = c.step.new.configuration in
+    let left = c.turns.left in
+    let s = c.in-Some.stepped in
+    let may : MayTurn k space here true
+    = ap (λ (st : List Statement). goes_on st here.layers space && not (is_empty here.queue)) (sym c.as_slice-statements.ensures) ∙ sym c.may_turn.ensures ∙ c.turns-test.true in
+    let turned = was_made (turn k here) left here there c.in_ok-stepped.field-0 s c.in_ok-stepped.ensures.turn c.in-Some.is in
+    let within = made_within left c.in_ok-stepped.field-0 s c.in_ok-stepped.ensures.cost c.in-Some.is in
     record {
-      viewed = c.in_ok-raise.ensures.views;
+      viewed = c.in_ok-stepped.ensures.views;
       within = let w = c.turns.invariant.within in omega arith;
-      same = run_went statements c.args.space.now c.turns.left c.turns.configuration c.step.new.configuration c.in_ok-raise.field-0 may turned c.in_default.not-TopEnded c.if-left-eq0.false
+      same = ap (λ n. run_for k space (suc (left - n)) there (left - n)) c.cost_of-left.ensures
+          ∙ run_went k space left here there s may turned c.in_default-stepped.not-TopEnded within
           ∙ c.turns.invariant.same;
     }
 
+pub turns-smaller : goal.turns-smaller
+turns-smaller c =
+    let k = c.args.kernel.now in
+    let space = c.args.space.now in
+    let here = c.turns.configuration in
+    let there = c.step.new.configuration in
+    let left = c.turns.left in
+    let s = c.in-Some.stepped in
+    let may : MayTurn k space here true
+    = ap (λ (st : List Statement). goes_on st here.layers space && not (is_empty here.queue)) (sym c.as_slice-statements.ensures) ∙ sym c.may_turn.ensures ∙ c.turns-test.true in
+    let turned = was_made (turn k here) left here there c.in_ok-stepped.field-0 s c.in_ok-stepped.ensures.turn c.in-Some.is in
+    let within = made_within left c.in_ok-stepped.field-0 s c.in_ok-stepped.ensures.cost c.in-Some.is in
+    let some = turn_costs k space here there s may turned in
+    let cost = c.cost_of-left.ensures in
+    omega (arith, within, some, cost)
+
 pub returns-in-TopEnded : goal.returns-in-TopEnded
 returns-in-TopEnded c =
-    let statements = c.args.kernel.now.statements in
-    let may = subst (λ (s : List Statement). MayTurn s c.args.space.now c.turns.configuration true) c.as_slice-statements.ensures (sym c.may_turn.ensures ∙ c.turns-test.true) in
-    let turned = subst (λ (s : List Statement). turn s c.turns.configuration ≡ (c.in_ok-raise.field-0, c.step.new.configuration)) c.as_slice-statements.ensures c.in_ok-raise.ensures.turn in
-    let within = c.turns.invariant.within in
-    let some = c.if-left-eq0.false in
-    let spent : c.turns.left - 1 ≡ c.args.fuel - (c.args.fuel - c.turns.left + 1) = omega arith in (
-      omega arith,
+    let k = c.args.kernel.now in
+    let space = c.args.space.now in
+    let here = c.turns.configuration in
+    let there = c.step.new.configuration in
+    let left = c.turns.left in
+    let s = c.in-Some.stepped in
+    let raise = c.in-TopEnded.raise in
+    let spent = c.in-TopEnded.cost in
+    let may : MayTurn k space here true
+    = ap (λ (st : List Statement). goes_on st here.layers space && not (is_empty here.queue)) (sym c.as_slice-statements.ensures) ∙ sym c.may_turn.ensures ∙ c.turns-test.true in
+    let turned = was_made (turn k here) left here there c.in_ok-stepped.field-0 s c.in_ok-stepped.ensures.turn c.in-Some.is in
+    let all : spent ≡ cost_of s = sym (ap cost_of c.in-TopEnded.is) in
+    let paid : c.cost_of-left.result ≡ spent = c.cost_of-left.ensures ∙ sym all in
+    let within : spent ≤ left = let w = made_within left c.in_ok-stepped.field-0 s c.in_ok-stepped.ensures.cost c.in-Some.is in omega (arith, w, all) in
+    let held = c.turns.invariant.within in
+    let rest : left - spent ≡ c.args.fuel - (c.args.fuel - (left - c.cost_of-left.result)) = omega (arith, paid, held, within) in (
+      omega (arith, held, paid, within),
       sym c.turns.invariant.same
-          ∙ run_stopped statements c.args.space.now c.turns.left c.turns.configuration c.step.new.configuration c.in-TopEnded.raise c.in-TopEnded.cost may
-          (turned ∙ ap (λ s. (s, c.step.new.configuration)) c.in-TopEnded.is) some
-          ∙ ap (λ n. TopRaised c.step.new.configuration n c.in-TopEnded.raise) spent,
+          ∙ run_stopped k space left here there raise spent may (turned ∙ ap (λ t. (t, there)) c.in-TopEnded.is) within
+          ∙ ap (λ n. TopRaised there n raise) rest,
     )
 
 pub returns : goal.returns
 returns c =
-    let statements = c.args.kernel.now.statements in
-    let done = subst (λ (s : List Statement). MayTurn s c.args.space.now c.turns.configuration false) c.as_slice-statements.ensures (sym c.may_turn.ensures ∙ c.turns-test.false) in
+    let k = c.args.kernel.now in
+    let space = c.args.space.now in
+    let here = c.turns.configuration in
+    let done : MayTurn k space here false
+    = ap (λ (st : List Statement). goes_on st here.layers space && not (is_empty here.queue)) (sym c.as_slice-statements.ensures) ∙ sym c.may_turn.ensures ∙ c.turns-test.false in
     let within = c.turns.invariant.within in
     let left : c.turns.left ≡ c.args.fuel - (c.args.fuel - c.turns.left) = omega arith in (
       omega arith,
-      sym c.turns.invariant.same ∙ run_done statements c.args.space.now c.turns.left c.turns.left c.turns.configuration done ∙ ap (Ended c.turns.configuration) left,
-      c.in_ok-state.ensures ∙ ap (λ (s : List Statement). state s c.turns.configuration.layers c.args.space.now) c.as_slice-statements.ensures,
+      sym c.turns.invariant.same ∙ run_done k space c.turns.left c.turns.left here done ∙ ap (Ended here) left,
+      c.in_ok-state.ensures ∙ ap (λ (st : List Statement). state st here.layers space) c.as_slice-statements.ensures,
     )

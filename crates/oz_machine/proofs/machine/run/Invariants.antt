@@ -7,7 +7,7 @@ abbrev pub invariant-turns : goal.invariant-turns
 invariant-turns l = record {
   viewed : l.views ≡ views_of l.configuration.layers;
   within : l.left ≤ l.fuel;
-  same : run_for l.kernel.statements l.space (suc l.left) l.configuration l.left ≡ run_for l.kernel.statements l.space (suc l.fuel) l.fn.configuration l.fuel;
+  same : run_for l.kernel l.space (suc l.left) l.configuration l.left ≡ run_for l.kernel l.space (suc l.fuel) l.fn.configuration l.fuel;
 }
 
 abbrev pub decreases-turns : goal.decreases-turns

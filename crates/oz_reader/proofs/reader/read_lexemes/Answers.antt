@@ -1,7 +1,7 @@
-use Rattle.std.proofs.Common.{◌≡◌, ◌<◌, ◌+◌, ℕ, List, [], take, length, slice_index_or, slice_get, Some, sym, ◌∙◌, subst, arith}
+use Rattle.std.proofs.Common.{◌≡◌, ◌≤◌, ◌<◌, ◌+◌, ℕ, nat_lt, true, false, ap, List, [], take, length, slice_index_or, slice_get, Some, sym, ◌∙◌, subst, arith}
 use Rattle.std.proofs.lemmas.Option.{slice_get-get_or}
 use Rattle.oz_semantics.specs.Grammar.{Phrase, Derives}
-use Rattle.oz_semantics.specs.Refusals.{IsRefused}
+use Rattle.oz_semantics.specs.Refusals.{Open, IsRefused, depth_limit, depth_of}
 use Rattle.oz_semantics.specs.Tokens.{Whole}
 use Rattle.oz_semantics.specs.Wording.{tokens_in}
 use Rattle.oz_semantics.specs.declared.token.Lexeme.{Lexeme}
@@ -10,7 +10,7 @@ use Rattle.oz_syntax.specs.View.{view}
 use Rattle.reader_law.specs.Machine.{Stack, step, finish}
 use Rattle.oz_reader.specs.Reading.{Faults}
 use Rattle.oz_reader.specs.View.{stack_of}
-use Rattle.oz_reader.proofs.Progress.{Goes, goes_start, lexemes_are, words_next, words_all, deep_refused, syntax_refused, went, end_refused, all_derived, all_shallow, step_refused, value_refused, err_is}
+use Rattle.oz_reader.proofs.Progress.{Goes, depth_after, is_within, goes_start, lexemes_are, words_next, words_all, deep_refused, syntax_refused, went, end_refused, all_derived, all_shallow, step_refused, value_refused, err_is}
 use Rattle.oz_reader.proofs.reader.read_lexemes.Goals as goal
 
 abbrev none : Lexeme
@@ -22,8 +22,8 @@ there ls n h = slice_get-get_or ls n none h
 pub loop-lexeme-init : goal.loop-lexeme-init
 loop-lexeme-init c = record {
   words = sym c.in_ok-words.ensures;
-  goes = subst (λ (k : Stack). Goes [] 0 k) (sym c.in_ok-stack.ensures) goes_start;
-  shallow = omega arith;
+  goes = subst (λ (os : List Open). Goes [] os (stack_of c.in_ok-stack.stack.items)) (sym c.new-depth.ensures) (subst (λ (k : Stack). Goes [] [] k) (sym c.in_ok-stack.ensures) goes_start);
+  shallow = subst (λ (os : List Open). depth_of os ≤ depth_limit) (sym c.new-depth.ensures) (omega arith);
 }
 
 pub token_of-requires : goal.token_of-requires
@@ -31,38 +31,44 @@ token_of-requires c =
     lexemes_are c.args.text.now 0 c.args.lexemes.now Whole c.loop-lexeme.lexeme-index (slice_index_or c.args.lexemes.now c.loop-lexeme.lexeme-index none) c.requires
     (there c.args.lexemes.now c.loop-lexeme.lexeme-index (omega arith))
 
-pub depth_with-depth-requires : goal.depth_with-depth-requires
-depth_with-depth-requires c = c.loop-lexeme.invariant.shallow
+pub take-requires : goal.take-requires
+take-requires c = c.loop-lexeme.invariant.shallow
 
-pub returns-then-depth-gt-DEPTH_LIMIT-clause-refused :
-    goal.returns-then-depth-gt-DEPTH_LIMIT-clause-refused
-returns-then-depth-gt-DEPTH_LIMIT-clause-refused c =
+pub returns-then-is_too_deep-clause-refused : goal.returns-then-is_too_deep-clause-refused
+returns-then-is_too_deep-clause-refused c =
+    let far : nat_lt depth_limit (depth_after c.loop-lexeme.depth c.in_ok-token.token) ≡ true =
+    ap (λ (os : List Open). nat_lt depth_limit (depth_of os)) (sym c.in_ok-take.ensures) ∙ (sym c.is_too_deep.ensures ∙ c.if-is_too_deep.true) in
     subst (Faults (IsRefused c.args.text.now)) (sym c.refusal.ensures)
     (deep_refused c.begins_law.ensures c.args.text.now c.args.lexemes.now c.requires c.loop-lexeme.lexeme-index (slice_index_or c.args.lexemes.now c.loop-lexeme.lexeme-index none)
     (there c.args.lexemes.now c.loop-lexeme.lexeme-index (omega arith)) c.loop-lexeme.words c.token_of.new.words c.in_ok-token.token c.loop-lexeme.invariant.words
-    c.in_ok-token.ensures.words c.in_ok-token.ensures.token c.loop-lexeme.depth (stack_of c.loop-lexeme.stack.items) c.loop-lexeme.invariant.goes (omega arith))
+    c.in_ok-token.ensures.words c.in_ok-token.ensures.token c.loop-lexeme.depth (stack_of c.loop-lexeme.stack.items) c.loop-lexeme.invariant.goes far)
 
 pub returns-in_err-take_at-clause-refused : goal.returns-in_err-take_at-clause-refused
 returns-in_err-take_at-clause-refused c =
+    let near : nat_lt depth_limit (depth_after c.loop-lexeme.depth c.in_ok-token.token) ≡ false =
+    ap (λ (os : List Open). nat_lt depth_limit (depth_of os)) (sym c.in_ok-take.ensures) ∙ (sym c.is_too_deep.ensures ∙ c.if-is_too_deep.false) in
     err_is c.from_residual-in_err-take_at.result c.in_err-take_at.field-0.0 (Faults (IsRefused c.args.text.now)) c.from_residual-in_err-take_at.ensures
     (step_refused c.args.text.now _ c.in_err-take_at.field-0.0 c.take_at.new.stack.items (step c.in_ok-token.token (stack_of c.loop-lexeme.stack.items)) c.in_err-take_at.ensures
     (syntax_refused c.begins_law.ensures c.args.text.now c.args.lexemes.now c.requires c.loop-lexeme.lexeme-index (slice_index_or c.args.lexemes.now c.loop-lexeme.lexeme-index none)
     (there c.args.lexemes.now c.loop-lexeme.lexeme-index (omega arith)) c.loop-lexeme.words c.token_of.new.words c.in_ok-token.token c.loop-lexeme.invariant.words
-    c.in_ok-token.ensures.words c.in_ok-token.ensures.token c.loop-lexeme.depth (stack_of c.loop-lexeme.stack.items) c.loop-lexeme.invariant.goes (omega arith)))
+    c.in_ok-token.ensures.words c.in_ok-token.ensures.token c.loop-lexeme.depth (stack_of c.loop-lexeme.stack.items) c.loop-lexeme.invariant.goes near))
 
 pub loop-lexeme-preserved : goal.loop-lexeme-preserved
-loop-lexeme-preserved c = record {
-  words =
-      words_next c.args.text.now c.args.lexemes.now c.loop-lexeme.lexeme-index (slice_index_or c.args.lexemes.now c.loop-lexeme.lexeme-index none) c.loop-lexeme.words c.token_of.new.words
-      (there c.args.lexemes.now c.loop-lexeme.lexeme-index (omega arith)) c.loop-lexeme.invariant.words c.in_ok-token.ensures.words;
-  goes =
-      subst (λ (d : ℕ). Goes (take (c.loop-lexeme.lexeme-index + 1) (tokens_in c.args.text.now c.args.lexemes.now)) d (stack_of c.take_at.new.stack.items)) (sym c.depth_with-depth.ensures)
-      (went c.begins_law.ensures c.args.text.now c.args.lexemes.now c.requires c.loop-lexeme.lexeme-index (slice_index_or c.args.lexemes.now c.loop-lexeme.lexeme-index none)
-      (there c.args.lexemes.now c.loop-lexeme.lexeme-index (omega arith)) c.loop-lexeme.words c.token_of.new.words c.in_ok-token.token c.loop-lexeme.invariant.words
-      c.in_ok-token.ensures.words c.in_ok-token.ensures.token c.loop-lexeme.depth (stack_of c.loop-lexeme.stack.items) c.loop-lexeme.invariant.goes
-      (stack_of c.take_at.new.stack.items) (omega arith) c.in_ok-take_at.ensures);
-  shallow = omega arith;
-}
+loop-lexeme-preserved c =
+    let near : nat_lt depth_limit (depth_after c.loop-lexeme.depth c.in_ok-token.token) ≡ false =
+    ap (λ (os : List Open). nat_lt depth_limit (depth_of os)) (sym c.in_ok-take.ensures) ∙ (sym c.is_too_deep.ensures ∙ c.if-is_too_deep.false) in
+    record {
+      words =
+          words_next c.args.text.now c.args.lexemes.now c.loop-lexeme.lexeme-index (slice_index_or c.args.lexemes.now c.loop-lexeme.lexeme-index none) c.loop-lexeme.words c.token_of.new.words
+          (there c.args.lexemes.now c.loop-lexeme.lexeme-index (omega arith)) c.loop-lexeme.invariant.words c.in_ok-token.ensures.words;
+      goes =
+          subst (λ (os : List Open). Goes (take (c.loop-lexeme.lexeme-index + 1) (tokens_in c.args.text.now c.args.lexemes.now)) os (stack_of c.take_at.new.stack.items)) (sym c.in_ok-take.ensures)
+          (went c.begins_law.ensures c.args.text.now c.args.lexemes.now c.requires c.loop-lexeme.lexeme-index (slice_index_or c.args.lexemes.now c.loop-lexeme.lexeme-index none)
+          (there c.args.lexemes.now c.loop-lexeme.lexeme-index (omega arith)) c.loop-lexeme.words c.token_of.new.words c.in_ok-token.token c.loop-lexeme.invariant.words
+          c.in_ok-token.ensures.words c.in_ok-token.ensures.token c.loop-lexeme.depth (stack_of c.loop-lexeme.stack.items) c.loop-lexeme.invariant.goes
+          (stack_of c.take_at.new.stack.items) near c.in_ok-take_at.ensures);
+      shallow = is_within depth_limit (depth_of c.take.new.self) (sym c.is_too_deep.ensures ∙ c.if-is_too_deep.false);
+    }
 
 pub returns-in_err-phrase-clause-refused : goal.returns-in_err-phrase-clause-refused
 returns-in_err-phrase-clause-refused c =

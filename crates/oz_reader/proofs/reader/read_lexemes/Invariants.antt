@@ -1,5 +1,5 @@
 use Rattle.std.proofs.Common.{◌≡◌, ◌≤◌, take, fold}
-use Rattle.oz_semantics.specs.Refusals.{depth_limit}
+use Rattle.oz_semantics.specs.Refusals.{depth_limit, depth_of}
 use Rattle.oz_semantics.specs.Wording.{first_words, joining, tokens_in}
 use Rattle.oz_reader.specs.View.{stack_of}
 use Rattle.oz_reader.proofs.Progress.{Goes}
@@ -9,5 +9,5 @@ abbrev pub invariant-loop-lexeme : goal.invariant-loop-lexeme
 invariant-loop-lexeme l = record {
   words : fold (joining l.text) first_words (take l.lexeme-index l.lexemes) ≡ l.words;
   goes : Goes (take l.lexeme-index (tokens_in l.text l.lexemes)) l.depth (stack_of l.stack.items);
-  shallow : l.depth ≤ depth_limit;
+  shallow : depth_of l.depth ≤ depth_limit;
 }

@@ -1,8 +1,12 @@
 -- The clauses of the call that follow from its plan and from how the writing ended.
-use Rattle.std.proofs.Common.{ℕ, List, Some, map, ◌≡◌, subst}
+use Rattle.std.proofs.Common.{ℕ, List, Some, None, map, ◌≡◌, ◌⊎◌, ◌++◌, ◌∙◌, ap, sym, subst, append_assoc}
 use Rattle.std.specs.String.{string_bytes}
-use Rattle.oz_top.specs.Call.{Reading, Writing, Plans, Ends}
-use Rattle.oz_top.proofs.Answering.{Replied, replied, read_by, usage_ended, asked_large, asked_refused, asked_accepted, asked_spent, leaves_written}
+use Rattle.oz_semantics.specs.Replies.{Answer, shown_lines, leaves_reply}
+use Rattle.oz_semantics.specs.Translation.{kernel_of}
+use Rattle.oz_semantics.specs.declared.command.Command.TheVariants as commands
+use Rattle.oz_semantics.specs.declared.outcome.Cause.TheVariants as causes
+use Rattle.oz_top.specs.Call.{Reading, Writing, Plans, Ends, IsExcused}
+use Rattle.oz_top.proofs.Answering.{Replied, replied, read_by, usage_ended, asked_large, asked_refused, asked_accepted, written, searched_all, ended_run}
 use Rattle.oz_top.proofs.call.oz_call.Given as given
 use Rattle.oz_top.proofs.call.oz_call.Goals as goal
 
@@ -37,25 +41,38 @@ returns-clause-reply g c bytes told f m = replies g c bytes told f m
 
 pub returns-clause-leaves : goal.returns-clause-leaves
 returns-clause-leaves g c budget bytes before p found left w told o l a s f n m =
-    leaves_written (words_of g c) budget bytes (before_of g c) (after_of g c) c.finish.result.cause w (replies g c bytes told) p l a before found left o s f n m
+    let d = written (words_of g c) (commands.All w.workers budget) bytes (before_of g c) (after_of g c) c.finish.result.cause w.spelled (replies g c bytes told) p l a before (causes.Done, shown_lines s.top ++ leaves_reply found)
+    (searched_all (kernel_of p) budget (Some (found, left)) s) o f n m in
+    (d.0, d.1 ∙ ap Some (sym (append_assoc before (shown_lines s.top) (leaves_reply found))))
 
 pub returns-clause-spent : goal.returns-clause-spent
 returns-clause-spent g c budget bytes p w told l a s =
-    asked_spent (words_of g c) budget bytes (before_of g c) (after_of g c) c.finish.result.cause w (replies g c bytes told) p l a s
+    subst (λ (x : Answer). (c.finish.result.cause ≡ x.0) ⊎ IsExcused c.finish.result.cause) (searched_all (kernel_of p) budget None s)
+    (asked_accepted (words_of g c) (commands.All w.workers budget) bytes (before_of g c) (after_of g c) c.finish.result.cause w.spelled (replies g c bytes told) p l a)
+
+pub returns-clause-shown : goal.returns-clause-shown
+returns-clause-shown g c budget bytes before p top left w told o l a e f n m =
+    written (words_of g c) (commands.Run budget) bytes (before_of g c) (after_of g c) c.finish.result.cause w (replies g c bytes told) p l a before (causes.Done, shown_lines top)
+    (ended_run (kernel_of p) budget left top e) o f n m
 
 pub returns-clause-read : goal.returns-clause-read
-returns-clause-read g c budget bytes w told =
+returns-clause-read g c asked bytes w told =
     read_by (words_of g c) (old_of g c) (new_of g c) (before_of g c) (after_of g c) c.plan_words-cause.result.cause c.finish.result.cause c.plan_words-cause.result.reply.items bytes (g.S.Source.left c.plan_words-cause.new.source)
-    (planned g c) (ended g c) (c.plan_words-cause.ensures.read budget bytes w told)
+    (planned g c) (ended g c) (c.plan_words-cause.ensures.read asked bytes w told)
 
 pub returns-clause-too_large : goal.returns-clause-too_large
-returns-clause-too_large g c budget bytes w told l = asked_large (words_of g c) budget bytes (before_of g c) (after_of g c) c.finish.result.cause w (replies g c bytes told) l
+returns-clause-too_large g c asked bytes w told l = asked_large (words_of g c) asked bytes (before_of g c) (after_of g c) c.finish.result.cause w (replies g c bytes told) l
 
 pub returns-clause-refused : goal.returns-clause-refused
-returns-clause-refused g c budget bytes fault w told l r = asked_refused (words_of g c) budget bytes (before_of g c) (after_of g c) c.finish.result.cause w (replies g c bytes told) fault l r
+returns-clause-refused g c asked bytes fault w told l r = asked_refused (words_of g c) asked bytes (before_of g c) (after_of g c) c.finish.result.cause w (replies g c bytes told) fault l r
 
 pub returns-clause-accepted : goal.returns-clause-accepted
-returns-clause-accepted g c budget bytes p w told l a = asked_accepted (words_of g c) budget bytes (before_of g c) (after_of g c) c.finish.result.cause w (replies g c bytes told) p l a
+returns-clause-accepted g c budget bytes p w told l a =
+    asked_accepted (words_of g c) (commands.All w.workers budget) bytes (before_of g c) (after_of g c) c.finish.result.cause w.spelled (replies g c bytes told) p l a
+
+pub returns-clause-accepted_run : goal.returns-clause-accepted_run
+returns-clause-accepted_run g c budget bytes p w told l a =
+    asked_accepted (words_of g c) (commands.Run budget) bytes (before_of g c) (after_of g c) c.finish.result.cause w (replies g c bytes told) p l a
 
 pub returns-clause-usage : goal.returns-clause-usage
 returns-clause-usage g c u =

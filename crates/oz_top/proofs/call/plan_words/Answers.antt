@@ -16,7 +16,7 @@ pub returns-in-Ok-Some-clause-due : goal.returns-in-Ok-Some-clause-due
 returns-in-Ok-Some-clause-due g c bytes told = c.plan_command.ensures.due (map string_bytes c.args.words.now) bytes (is_command g c) told
 
 pub returns-in-Ok-Some-clause-read : goal.returns-in-Ok-Some-clause-read
-returns-in-Ok-Some-clause-read g c budget bytes w told = c.plan_command.ensures.read bytes told
+returns-in-Ok-Some-clause-read g c asked bytes w told = c.plan_command.ensures.read bytes told
 
 pub returns-in-Ok-Some-clause-unread : goal.returns-in-Ok-Some-clause-unread
 returns-in-Ok-Some-clause-unread g c u = absurd (u c.in-Ok-Some.command (is_command g c).spelled)
@@ -26,8 +26,8 @@ returns-in-Ok-None-clause-due g c bytes told =
     usage_due (map string_bytes c.args.words.now) bytes c.plan_usage.result.cause c.plan_usage.result.reply.items (rw c.in-Ok-None.field-0-is at c.in-Ok-None.ensures.spelled) c.plan_usage.ensures
 
 pub returns-in-Ok-None-clause-read : goal.returns-in-Ok-None-clause-read
-returns-in-Ok-None-clause-read g c budget bytes w told =
-    absurd (no_usage (map string_bytes c.args.words.now) budget w (rw c.in-Ok-None.field-0-is at c.in-Ok-None.ensures.spelled))
+returns-in-Ok-None-clause-read g c asked bytes w told =
+    absurd (no_usage (map string_bytes c.args.words.now) asked w (rw c.in-Ok-None.field-0-is at c.in-Ok-None.ensures.spelled))
 
 pub returns-in-Err-clause-read : goal.returns-in-Err-clause-read
-returns-in-Err-clause-read g c budget bytes w told = λ read memory. absurd (memory c.silent.ensures.cause)
+returns-in-Err-clause-read g c asked bytes w told = λ read memory. absurd (memory c.silent.ensures.cause)

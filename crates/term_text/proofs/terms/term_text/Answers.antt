@@ -7,4 +7,4 @@ use Rattle.term_text.proofs.terms.term_text.Goals as goal
 pub returns : goal.returns
 returns c =
     let more = term_node c.args.words.now c.args.seen.now c.loop-nodes.term.bound (variables_of c.loop-nodes.printer.opened) c.loop-nodes.term.variable.now in
-    omega (arith, more, c.loop-nodes.invariant.1)
+    omega (arith, more, c.loop-nodes.invariant.made.1)

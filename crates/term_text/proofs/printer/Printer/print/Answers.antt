@@ -3,12 +3,12 @@ use Rattle.term_text.specs.Pending.{variables_of}
 use Rattle.term_text.proofs.Printing.{printed_suc, printed_zero}
 use Rattle.term_text.proofs.printer.Printer.print.Goals as goal
 
-pub returns-in_default : goal.returns-in_default
-returns-in_default c =
+pub returns-in_default-clause-written : goal.returns-in_default-clause-written
+returns-in_default-clause-written c =
     let e : c.args.term.now.bound ≡ 0 = omega arith in
     rw (printed_zero c.args.words.now c.args.seen.now c.args.term.now.bound (variables_of c.args.self.now.opened) c.args.term.now.variable.now e) (refl, refl)
 
-pub returns : goal.returns
-returns c =
+pub returns-clause-written : goal.returns-clause-written
+returns-clause-written c =
     let e : c.args.term.now.bound ≡ suc c.in-Some.bound = omega arith in
-    rw (printed_suc c.args.words.now c.args.seen.now c.args.term.now.bound c.in-Some.bound (variables_of c.args.self.now.opened) c.args.term.now.variable.now e) c.print_value.ensures
+    rw (printed_suc c.args.words.now c.args.seen.now c.args.term.now.bound c.in-Some.bound (variables_of c.args.self.now.opened) c.args.term.now.variable.now e) c.print_value.ensures.written

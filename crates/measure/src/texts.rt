@@ -1,0 +1,46 @@
+//! Texts of deep terms.
+use oz_base::{Ident, Sequence};
+use oz_semantics::{Constant, Literal, Record, Tell, Value};
+use oz_store::Seen;
+use std::alloc::{AllocError, Global};
+use term_text::term_text;
+
+fn variable(alloc: Global, number: u32) -> Ident {
+    Ident {
+        space: Sequence::new(alloc),
+        number,
+    }
+}
+
+/// A variable's value is a record of two fields: the first variable of all, and the next one.
+fn link(alloc: Global, number: u32, next: u32) -> Result<Tell, AllocError> {
+    let features = vec![in alloc; Constant::Int(1), Constant::Int(2)]?;
+    let fields = vec![in alloc; variable(alloc, 0), variable(alloc, next)]?;
+    Ok(Tell::Is {
+        variable: variable(alloc, number),
+        value: Value::Record(Record {
+            label: Literal::Unit,
+            features: Sequence::from_vec(features),
+            fields: Sequence::from_vec(fields),
+        }),
+    })
+}
+
+/// So many records, each but the first inside the one before.
+fn chain(alloc: Global, count: u32) -> Result<Seen, AllocError> {
+    let mut seen = Seen::new(alloc);
+    for number in 0..count {
+        let tell = link(alloc, number, number + 1)?;
+        seen.tell(alloc, &tell)?;
+    }
+    Ok(seen)
+}
+
+/// Prints the term of so many records inside one another, each with a way up to the first: `unit(^1 unit(^2 unit(^3 ..)))`.
+/// Whether it was printed within its nodes.
+pub fn print_chain(alloc: Global, count: u32) -> Result<bool, AllocError> {
+    let seen = chain(alloc, count)?;
+    let fuel = 2 * u64::from(count) + 1;
+    let text = term_text(alloc, &[], &seen, &variable(alloc, 0), fuel)?;
+    Ok(text.is_some())
+}

@@ -1,0 +1,5 @@
+use Rattle.oz_machine.proofs.RunLaws.{both_ok, turn_within}
+use Rattle.oz_machine.proofs.turn.step_within.Goals as goal
+
+pub returns-clause-cost : goal.returns-clause-cost
+returns-clause-cost c = both_ok c.step_of.result (turn_within c.args.kernel.now c.args.id.now c.args.configuration.now c.step_of.new.configuration c.args.fuel) c.step_of.ensures.turn c.step_of.ensures.cost

@@ -1,0 +1,198 @@
+//! What a command answers for a kernel.
+ghost use Rattle.std.specs.Prelude.{◌≡◌, ◌++◌, [], IfOk, OnOk, codes};
+ghost use Rattle.oz_semantics.specs.Runs.{run, opening};
+ghost use Rattle.oz_semantics.specs.Search.{with_root, search_space, depth_first};
+ghost use Rattle.oz_semantics.specs.Texts.{raise_text};
+ghost use Rattle.oz_semantics.specs.Replies.{shown_lines, spent, answer_of_tree, answer_of_raise, searched, all_answer, run_answer};
+ghost use Rattle.oz_machine.specs.Answers.{IsRun};
+ghost use Rattle.oz_top.specs.Call.{answer_of};
+
+use crate::reply::{add_decimal, add_leaves_reply, lines};
+use crate::search::depth_first;
+use oz_base::{Ident, Sequence};
+use oz_machine::{Machine, Ran, exception_text};
+use oz_outside::Gate;
+use oz_semantics::{Cause, Command, Kernel, Raise};
+use std::alloc::{AllocError, Global};
+
+/// A cause, and what is to be written for it.
+#[derive(Drop)]
+pub struct Plan {
+    pub cause: Cause,
+    pub reply: Vec<u8>,
+}
+
+/// The lines of what was shown, with which each answer begins.
+fn shown_lines(alloc: Global, machine: &Machine) -> Result<Vec<u8>, AllocError>
+    ensures { IfOk result (λ lines. lines.items ≡ shown_lines machine.now.config) }
+{
+    lines(alloc, machine.shown())
+}
+
+/// The budget is exceeded.
+fn spent(alloc: Global, mut reply: Vec<u8>, budget: u64) -> Result<Plan, AllocError>
+    ensures { IfOk result (λ plan. (plan.cause, plan.reply.items) ≡ spent reply.items budget) }
+{
+    reply.extend_from_slice(b"spent ")?;
+    add_decimal(alloc, budget, &mut reply)?;
+    reply.extend_from_slice(b"\n")?;
+    Ok(Plan {
+        cause: Cause::Spent { total: budget },
+        reply,
+    })
+}
+
+/// Adds the line of an exception of the top.
+fn add_raised(text: &[u8], out: &mut Vec<u8>) -> Result<(), AllocError>
+    ensures { OnOk result (out.new.items ≡ out.old.items ++ codes "raised " ++ text.now ++ codes "\n") }
+{
+    out.extend_from_slice(b"raised ")?;
+    out.extend_from_slice(text)?;
+    out.extend_from_slice(b"\n")
+}
+
+/// An exception of the top, with so many steps left for its text.
+fn raised(
+    alloc: Global,
+    mut reply: Vec<u8>,
+    raise: Raise,
+    budget: u64,
+    left: u64,
+) -> Result<Plan, AllocError>
+    ensures { IfOk result (λ plan. (plan.cause, plan.reply.items) ≡ answer_of_raise reply.items budget left (raise_text raise)) }
+{
+    match exception_text(alloc, raise, left)? {
+        None => spent(alloc, reply, budget),
+        Some(text) => {
+            add_raised(text.bytes.as_slice(), &mut reply)?;
+            let cause = Cause::Raised { text: text.bytes };
+            Ok(Plan { cause, reply })
+        }
+    }
+}
+
+/// Searches the tree of a script, with so many steps left.
+fn search<G: Gate>(
+    alloc: Global,
+    mut machine: Machine,
+    script: &Ident,
+    budget: u64,
+    left: u64,
+    gate: &G,
+) -> Result<Plan, AllocError>
+    ensures { IfOk result (λ plan. (plan.cause, plan.reply.items)
+        ≡ answer_of_tree (shown_lines machine.config) budget (depth_first machine.kernel (search_space machine.config) (with_root machine.kernel.statements script.now machine.config) left)) }
+{
+    let mut reply = shown_lines(alloc, &machine)?;
+    let space = machine.root(alloc, script)?;
+    match depth_first(alloc, machine, &space, left, gate)? {
+        None => spent(alloc, reply, budget),
+        Some(leaves) => {
+            add_leaves_reply(alloc, leaves.as_slice(), &mut reply)?;
+            Ok(Plan {
+                cause: Cause::Done,
+                reply,
+            })
+        }
+    }
+}
+
+fn no_script(alloc: Global, machine: &Machine) -> Result<Plan, AllocError>
+    ensures { IfOk result (λ plan. (plan.cause ≡ Cause.NoScript) × (plan.reply.items ≡ shown_lines machine.now.config ++ codes "no script\n")) }
+{
+    let mut reply = shown_lines(alloc, machine)?;
+    reply.extend_from_slice(b"no script\n")?;
+    Ok(Plan {
+        cause: Cause::NoScript,
+        reply,
+    })
+}
+
+/// What `all` answers where the top has come to rest.
+fn searched<G: Gate>(
+    alloc: Global,
+    machine: Machine,
+    budget: u64,
+    left: u64,
+    gate: &G,
+) -> Result<Plan, AllocError>
+    ensures { IfOk result (λ plan. (plan.cause, plan.reply.items) ≡ searched machine.kernel budget machine.config left) }
+{
+    match machine.script(alloc)? {
+        None => no_script(alloc, &machine),
+        Some(script) => search(alloc, machine, &script, budget, left, gate),
+    }
+}
+
+/// What `run` answers where the top has come to rest.
+fn done(alloc: Global, machine: &Machine) -> Result<Plan, AllocError>
+    ensures { IfOk result (λ plan. (plan.cause ≡ Cause.Done) × (plan.reply.items ≡ shown_lines machine.now.config)) }
+{
+    Ok(Plan {
+        cause: Cause::Done,
+        reply: shown_lines(alloc, machine)?,
+    })
+}
+
+/// Runs the top of a kernel.
+fn run_top(alloc: Global, kernel: Kernel, budget: u64) -> Result<(Machine, Ran), AllocError>
+    ensures kernel { IfOk result (λ ended. ended.0.kernel ≡ kernel) }
+    ensures run { IfOk result (λ ended. IsRun ended.0 [] budget (run kernel [] (opening kernel) budget) ended.1) }
+{
+    let mut machine = Machine::load(alloc, kernel)?;
+    let top = Sequence::new(alloc);
+    let ran = machine.run(alloc, &top, budget)?;
+    Ok((machine, ran))
+}
+
+/// What `all` answers for a kernel.
+#[tactic(auto, unfolding(oz_semantics::specs::Replies::all_answer))]
+fn all_answer<G: Gate>(
+    alloc: Global,
+    kernel: Kernel,
+    budget: u64,
+    gate: &G,
+) -> Result<Plan, AllocError>
+    ensures { IfOk result (λ plan. (plan.cause, plan.reply.items) ≡ all_answer kernel budget) }
+{
+    let (machine, ran) = run_top(alloc, kernel, budget)?;
+    match ran {
+        Ran::OutOfFuel => spent(alloc, shown_lines(alloc, &machine)?, budget),
+        Ran::TopEnded { raise, steps } => {
+            let shown = shown_lines(alloc, &machine)?;
+            raised(alloc, shown, raise, budget, budget - steps)
+        }
+        Ran::Ended { steps, .. } => searched(alloc, machine, budget, budget - steps, gate),
+    }
+}
+
+/// What `run` answers for a kernel.
+#[tactic(auto, unfolding(oz_semantics::specs::Replies::run_answer))]
+fn run_answer(alloc: Global, kernel: Kernel, budget: u64) -> Result<Plan, AllocError>
+    ensures { IfOk result (λ plan. (plan.cause, plan.reply.items) ≡ run_answer kernel budget) }
+{
+    let (machine, ran) = run_top(alloc, kernel, budget)?;
+    match ran {
+        Ran::OutOfFuel => spent(alloc, shown_lines(alloc, &machine)?, budget),
+        Ran::TopEnded { raise, steps } => {
+            let shown = shown_lines(alloc, &machine)?;
+            raised(alloc, shown, raise, budget, budget - steps)
+        }
+        Ran::Ended { .. } => done(alloc, &machine),
+    }
+}
+
+/// What a command answers for a kernel.
+pub fn answer_of<G: Gate>(
+    alloc: Global,
+    command: Command,
+    kernel: Kernel,
+    gate: &G,
+) -> Result<Plan, AllocError>
+    ensures { IfOk result (λ plan. (plan.cause, plan.reply.items) ≡ answer_of command kernel) }
+{
+    match command {
+        Command::All { budget, .. } => all_answer(alloc, kernel, budget, gate),
+        Command::Run { budget } => run_answer(alloc, kernel, budget),
+    }
+}
