@@ -4,7 +4,7 @@ ghost use Rattle.std.specs.Prelude.{◌≡◌, IfOk, false};
 ghost use Rattle.clap.specs.Words.{app_of, rule_of};
 ghost use Rattle.clap.specs.declared.builder.Command.TheViews.{out-Command as fields_of};
 ghost use Rattle.oz_semantics.specs.Commands.{workers, budget};
-ghost use Rattle.command_line.specs.Table.{all_app, option_rule, oz_app, oz_start, run_app};
+ghost use Rattle.command_line.specs.Table.{all_app, kernel_app, option_rule, oz_app, oz_start, run_app};
 
 use clap::{Arg, Command, value_parser};
 use std::alloc::{AllocError, Global};
@@ -45,6 +45,14 @@ fn run<'a>(alloc: Global) -> Result<Command<'a>, AllocError>
     Command::new(alloc, "run").arg(budget(alloc))
 }
 
+/// The command `kernel`, which takes no options.
+fn kernel<'a>(alloc: Global) -> Command<'a>
+    ensures app { app_of result ≡ kernel_app }
+    ensures local { (fields_of result).has_globals ≡ false }
+{
+    Command::new(alloc, "kernel")
+}
+
 /// The program without its commands. There is no help, and no version.
 fn start<'a>(alloc: Global) -> Command<'a>
     ensures { app_of result ≡ oz_start }
@@ -62,5 +70,6 @@ pub(crate) fn program<'a>(alloc: Global) -> Result<Command<'a>, AllocError>
 {
     start(alloc)
         .subcommand(all(alloc)?)?
-        .subcommand(run(alloc)?)
+        .subcommand(run(alloc)?)?
+        .subcommand(kernel(alloc))
 }

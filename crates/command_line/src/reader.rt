@@ -50,6 +50,7 @@ fn found_command(matches: &ArgMatches) -> Option<Command>
             Some(Command::All { workers, budget })
         }
         "run" => Some(Command::Run { budget }),
+        "kernel" => Some(Command::Kernel),
         _ => None,
     }
 }

@@ -75,6 +75,28 @@ fn words_that_spell_none(rt: HostRuntime) -> Result<(), Fail> {
 }
 
 #[test]
+fn words_that_spell_a_kernel(rt: HostRuntime) -> Result<(), Fail> {
+    assert_eq!(rt; command(rt.alloc(), &["kernel"])?, Some(Command::Kernel));
+    Ok(())
+}
+
+#[test]
+fn words_that_spell_no_kernel(rt: HostRuntime) -> Result<(), Fail> {
+    let cases: [&[&str]; 6] = [
+        &["Kernel"],
+        &["kernel", "--budget", "5"],
+        &["kernel", "--workers=1"],
+        &["kernel", "--help"],
+        &["kernel", "--"],
+        &["kernel", "x"],
+    ];
+    for words in cases {
+        assert_eq!(rt; command(rt.alloc(), words)?, None);
+    }
+    Ok(())
+}
+
+#[test]
 fn words_that_spell_no_run(rt: HostRuntime) -> Result<(), Fail> {
     let cases: [&[&str]; 5] = [
         &["Run"],

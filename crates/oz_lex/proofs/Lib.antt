@@ -2,6 +2,9 @@ pub mod Closings
 pub mod Digits
 pub mod Fronts
 pub mod Longest
+pub mod MeaningLaws
+pub mod Openings
+pub mod QuoteLaws
 pub mod Readings
 pub mod Sorts
 pub mod TokenLaws

@@ -9,7 +9,7 @@ use Rattle.oz_semantics.specs.declared.token.Sort.{Sort}
 use Rattle.oz_semantics.specs.declared.token.Sort.TheVariants as sort
 use Rattle.oz_lex.specs.Scanning.{begins, begins_paren, is_tilde, is_mark}
 use Rattle.oz_lex.proofs.Fronts.{all_front, past_front, some_front, begins_drop, begins_within}
-use Rattle.oz_lex.proofs.Sorts.{upper_passes, upper_fails, lower_passes, lower_labels, lower_fails, small_passes, label_front, digit_passes, digit_fails, tilde_passes, tilde_fails, mark_passes, mark_fails, long_no_symbol}
+use Rattle.oz_lex.proofs.Sorts.{upper_passes, upper_fails, lower_passes, lower_labels, lower_fails, small_passes, label_small, digit_passes, digit_fails, tilde_passes, tilde_fails, mark_passes, mark_fails, long_no_symbol}
 
 -- ---- tokens of one class of bytes
 
@@ -45,7 +45,7 @@ int_longest (b ∷ bs) h n e = longest_by is_digit b bs sort.Int h (λ ws. digit
 
 -- ---- words and labels
 
-both_no : (x y z : Bool) → y ≡ false → (x && y && z) ≡ false
+both_no : (x y z : Bool) → y ≡ false → (x && (y && z)) ≡ false
 both_no true y z e = rw e refl
 both_no false y z e = refl
 
@@ -54,19 +54,19 @@ label_past : (b : ℕ) (bs : List ℕ) (k : ℕ) → is_lower b ≡ true → pre
 label_past b bs zero h l i = absurd (omega arith)
 label_past b bs (suc k) h l i =
     let s : is_small_word (take (suc k) (b ∷ bs)) ≡ false = small_passes b (take k bs) h ∙ past_front goes_on_word (b ∷ bs) (suc k) l (omega arith) in
-    label_front (b ∷ bs) (suc k) i ∙ both_no _ _ _ s
+    label_small b bs (suc k) h i ∙ both_no _ _ _ s
 
 -- what ends a word that is no label
 abbrev pub EndsWord : List ℕ → ℕ → Type 0
 EndsWord text n = (begins_paren (drop n text) ≡ false) ⊎ (is_reserved (take n text) ≡ true)
 
-label_no : (text : List ℕ) (n : ℕ) → n < length text → EndsWord text n → is_label (take (n + 1) text) ≡ false
-label_no text n l (inl p) =
-    let q : (get_or text n 0 == 40) ≡ false = sym (begins_drop (λ b. b == 40) text n l) ∙ p in
-    label_front text n l ∙ (rw q refl)
-label_no text n l (inr r) = label_front text n l ∙ (rw r (last_no (get_or text n 0 == 40) (is_small_word (take n text))))
+label_no : (b : ℕ) (bs : List ℕ) (n : ℕ) → is_lower b ≡ true → n < length (b ∷ bs) → EndsWord (b ∷ bs) n → is_label (take (n + 1) (b ∷ bs)) ≡ false
+label_no b bs n h l (inl p) =
+    let q : (get_or (b ∷ bs) n 0 == 40) ≡ false = sym (begins_drop (λ a. a == 40) (b ∷ bs) n l) ∙ p in
+    label_small b bs n h l ∙ (rw q refl)
+label_no b bs n h l (inr r) = label_small b bs n h l ∙ (rw r (last_no (get_or (b ∷ bs) n 0 == 40) (is_small_word (take n (b ∷ bs)))))
   where
-    last_no : (x y : Bool) → (x && y && false) ≡ false
+    last_no : (x y : Bool) → (x && (y && false)) ≡ false
     last_no true true = refl
     last_no true false = refl
     last_no false y = refl
@@ -85,7 +85,7 @@ word_longest (b ∷ bs) h (suc n) e w = record {
 }
   where
     at : (k : ℕ) → suc n < suc k → suc k ≤ length (b ∷ bs) → (k ≡ suc n) ⊎ (suc n < k) → is_label (take (k + 1) (b ∷ bs)) ≡ false
-    at k l i (inl q) = subst (λ j. is_label (take (j + 1) (b ∷ bs)) ≡ false) (sym q) (label_no (b ∷ bs) (suc n) (omega arith) w)
+    at k l i (inl q) = subst (λ j. is_label (take (j + 1) (b ∷ bs)) ≡ false) (sym q) (label_no b bs (suc n) h (omega arith) w)
     at k l i (inr q) = label_past b bs k h (omega (arith, e)) (omega arith)
 
     more : (m : ℕ) → suc n < m → m ≤ length (b ∷ bs) → sort_of (take m (b ∷ bs)) ≡ None
@@ -99,7 +99,7 @@ label_longest (b ∷ bs) h (suc n) e p r =
     let i : suc n < length (b ∷ bs) = begins_within (λ a. a == 40) (b ∷ bs) (suc n) p in
     let q : (get_or (b ∷ bs) (suc n) 0 == 40) ≡ true = sym (begins_drop (λ a. a == 40) (b ∷ bs) (suc n) i) ∙ p in
     let s : is_small_word (take (suc n) (b ∷ bs)) ≡ true = small_passes b (take n bs) h ∙ subst (λ k. list_all goes_on_word (take k (b ∷ bs)) ≡ true) (sym e) (all_front goes_on_word (b ∷ bs)) in
-    let l : is_label (take (suc n + 1) (b ∷ bs)) ≡ true = label_front (b ∷ bs) (suc n) i ∙ (rw q (rw s (rw r refl))) in
+    let l : is_label (take (suc n + 1) (b ∷ bs)) ≡ true = label_small b bs (suc n) h i ∙ (rw q (rw s (rw r refl))) in
     let l' : is_label (take (suc (suc n)) (b ∷ bs)) ≡ true = ap (λ j. is_label (take j (b ∷ bs))) (sym (add-one (suc n))) ∙ l in
     rw (add-one (suc n)) (record {
       within = omega (arith, i);

@@ -4,7 +4,7 @@ use Rattle.std.specs.List.{All}
 use Rattle.std.proofs.lemmas.List.Elements.{All-nil, All-cons}
 use Rattle.oz_semantics.specs.declared.token.Sort.{Sort}
 use Rattle.oz_semantics.specs.declared.token.Lexeme.{Lexeme}
-use Rattle.oz_semantics.specs.Tokens.{sort_of, IsLongest, NoToken, gap_length, is_broken_number, Lexes, Ending, Whole, Bad, at_end, at_bad, at_fraction, gap, token}
+use Rattle.oz_semantics.specs.Tokens.{sort_of, IsLongest, NoToken, gap_length, bad_offset, is_broken_number, Lexes, Ending, Whole, Bad, at_end, at_bad, at_fraction, gap, token}
 use Rattle.oz_lex.specs.Lexing.{OneReading, IsLexeme}
 
 -- what is read so far goes before what is read from here
@@ -30,8 +30,8 @@ module _ (text : List ℕ) (at : ℕ) (ls : List Lexeme) (h : Front text at ls) 
         → (ks : List Lexeme) × Lexes text 0 ks (Bad (at + n))
     bad_fraction n s r f = (ls ++ [], h [] (Bad (at + n)) (at_fraction lt none r f))
 
-    pub bad_byte : NoToken (drop at text) → (ks : List Lexeme) × Lexes text 0 ks (Bad at)
-    bad_byte r = (ls ++ [], h [] (Bad at) (at_bad lt none r))
+    pub bad_byte : (n : ℕ) → NoToken (drop at text) → n ≡ bad_offset (drop at text) → (ks : List Lexeme) × Lexes text 0 ks (Bad (at + n))
+    bad_byte n r e = (ls ++ [], h [] (Bad (at + n)) (subst (λ k. Lexes text at [] (Bad (at + k))) (sym e) (at_bad lt none r)))
 
 pub finished : (text : List ℕ) (at : ℕ) (ls : List Lexeme) → Front text at ls → length text ≤ at → Lexes text 0 ls Whole
 finished text at ls h i = subst (λ ks. Lexes text 0 ks Whole) (append-nil ls) (h [] Whole (at_end i))

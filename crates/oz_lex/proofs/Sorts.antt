@@ -1,5 +1,5 @@
 -- What bytes are as a token, by the first of them.
-use Rattle.std.proofs.Common.{◌≡◌, ◌<◌, ◌+◌, ◌-◌, ◌==◌, ◌&&◌, ◌||◌, ℕ, zero, suc, List, [], ◌∷◌, ◌++◌, length, take, get_or, Bool, true, false, not, Some, None, refl, ap, sym, ◌∙◌, arith, length-append}
+use Rattle.std.proofs.Common.{◌≡◌, ◌<◌, ◌+◌, ◌-◌, ◌==◌, ◌&&◌, ◌||◌, ℕ, zero, suc, List, [], ◌∷◌, ◌++◌, length, take, get_or, Bool, true, false, not, Some, None, refl, ap, sym, ◌∙◌, arith, add-one, length-append}
 use Rattle.std.specs.Prelude.{nat_le}
 use Rattle.std.specs.List.{list_all, list_any}
 use Rattle.std.specs.Ffi.{without_last}
@@ -8,11 +8,17 @@ use Rattle.std.proofs.lemmas.List.{take_more}
 use Rattle.oz_base.specs.Lists.{list_eq}
 use Rattle.oz_base.specs.ListLaws.{list_eq-decides}
 use Rattle.oz_base.specs.Paths.{last_of}
-use Rattle.oz_semantics.specs.Tokens.{is_upper, is_lower, is_digit, goes_on_word, is_var, is_small_word, is_label, is_reserved, is_digits, is_int, symbols, is_symbol, sort_of}
+use Rattle.oz_semantics.specs.Tokens.{is_upper, is_lower, is_digit, goes_on_word, is_var, is_small_word, is_closed, is_quoted, is_char, is_literal, is_label, is_reserved, is_digits, is_int, symbols, is_symbol, sort_of}
 use Rattle.oz_semantics.specs.declared.token.Sort.TheVariants as sort
-use Rattle.oz_lex.specs.Scanning.{begins, is_tilde, is_mark}
+use Rattle.oz_lex.specs.Scanning.{begins, is_tilde, is_opening, is_mark}
 
--- ---- the five tests in turn
+-- ---- the eight tests in turn
+
+-- no quote and no `&` comes first
+pub record NotOpened (bytes : List ℕ) : Type 0 where
+  pub atom : is_quoted 39 bytes ≡ false
+  pub string : is_quoted 34 bytes ≡ false
+  pub char : is_char bytes ≡ false
 
 module _ (bytes : List ℕ) where
   pub var_sort : is_var bytes ≡ true → sort_of bytes ≡ Some sort.Var
@@ -27,11 +33,33 @@ module _ (bytes : List ℕ) where
   pub int_sort : is_var bytes ≡ false → is_small_word bytes ≡ false → is_label bytes ≡ false → is_int bytes ≡ true → sort_of bytes ≡ Some sort.Int
   int_sort v w l i = rw v (rw w (rw l (rw i refl)))
 
-  pub symbol_sort : is_var bytes ≡ false → is_small_word bytes ≡ false → is_label bytes ≡ false → is_int bytes ≡ false → is_symbol bytes ≡ true → sort_of bytes ≡ Some sort.Symbol
-  symbol_sort v w l i s = rw v (rw w (rw l (rw i (rw s refl))))
+  pub symbol_sort : is_var bytes ≡ false → is_small_word bytes ≡ false → is_label bytes ≡ false → is_int bytes ≡ false → NotOpened bytes → is_symbol bytes ≡ true → sort_of bytes ≡ Some sort.Symbol
+  symbol_sort v w l i o s = rw v (rw w (rw l (rw i (rw o.atom (rw o.string (rw o.char (rw s refl)))))))
 
-  pub no_sort : is_var bytes ≡ false → is_small_word bytes ≡ false → is_label bytes ≡ false → is_int bytes ≡ false → is_symbol bytes ≡ false → sort_of bytes ≡ None
-  no_sort v w l i s = rw v (rw w (rw l (rw i (rw s refl))))
+  pub no_sort : is_var bytes ≡ false → is_small_word bytes ≡ false → is_label bytes ≡ false → is_int bytes ≡ false → NotOpened bytes → is_symbol bytes ≡ false → sort_of bytes ≡ None
+  no_sort v w l i o s = rw v (rw w (rw l (rw i (rw o.atom (rw o.string (rw o.char (rw s refl)))))))
+
+-- ---- quotes and `&`
+
+pub not_quoted : (quote b : ℕ) (ws : List ℕ) → (b == quote) ≡ false → is_quoted quote (b ∷ ws) ≡ false
+not_quoted quote b ws e = rw e refl
+
+pub not_char : (b : ℕ) (ws : List ℕ) → (b == 38) ≡ false → is_char (b ∷ ws) ≡ false
+not_char b [] e = refl
+not_char b (c ∷ []) e = rw e refl
+not_char b (c ∷ d ∷ []) e = rw e refl
+not_char b (c ∷ d ∷ f ∷ ws) e = refl
+
+three_no : (x y z : Bool) → (x || y || z) ≡ false → (x ≡ false) × (y ≡ false) × (z ≡ false)
+three_no false false false h = (refl, refl, refl)
+three_no false false true h = absurd (cc)
+three_no false true z h = absurd (cc)
+three_no true y z h = absurd (cc)
+
+not_opened : (b : ℕ) (ws : List ℕ) → is_opening b ≡ false → NotOpened (b ∷ ws)
+not_opened b ws o =
+    let n = three_no (b == 39) (b == 34) (b == 38) o in
+    record { atom = not_quoted 39 b ws n.0; string = not_quoted 34 b ws n.1; char = not_char b ws n.2 }
 
 -- ---- symbols by their first byte
 
@@ -74,17 +102,17 @@ long_no_symbol xs l = short_symbol xs symbols l refl
 
 -- ---- labels
 
-middle : (x y z : Bool) → y ≡ false → (x && y && z) ≡ false
-middle true y z e = rw e refl
-middle false y z e = refl
+pub second_no : (x y : Bool) → y ≡ false → (x && y) ≡ false
+second_no true y e = e
+second_no false y e = refl
 
-small_front : (b : ℕ) (ws : List ℕ) (k : ℕ) → is_lower b ≡ false → is_small_word (take k (b ∷ ws)) ≡ false
-small_front b ws zero e = refl
-small_front b ws (suc k) e = rw e refl
+literal_front : (b : ℕ) (ws : List ℕ) (k : ℕ) → is_lower b ≡ false → (b == 39) ≡ false → is_literal (take k (b ∷ ws)) ≡ false
+literal_front b ws zero e d = refl
+literal_front b ws (suc k) e d = rw d (rw e refl)
 
--- a label begins with a small letter
-pub not_label : (b : ℕ) (ws : List ℕ) → is_lower b ≡ false → is_label (b ∷ ws) ≡ false
-not_label b ws e = middle (last_of (b ∷ ws) == 40) (is_small_word (without_last (b ∷ ws))) _ (small_front b ws (length (b ∷ ws) - 1) e)
+-- a label begins with a small letter or a quote
+pub not_label : (b : ℕ) (ws : List ℕ) → is_lower b ≡ false → (b == 39) ≡ false → is_label (b ∷ ws) ≡ false
+not_label b ws e d = second_no (last_of (b ∷ ws) == 40) _ (literal_front b ws (length (b ∷ ws) - 1) e d)
 
 pub last_push : (xs : List ℕ) (c : ℕ) → last_of (xs ++ c ∷ []) ≡ c
 last_push [] c = refl
@@ -101,7 +129,7 @@ without_push xs c =
     ap (λ k. take k (xs ++ c ∷ [])) n ∙ take_push xs c
 
 -- a front of the text as a label
-pub label_front : (text : List ℕ) (k : ℕ) → k < length text → is_label (take (k + 1) text) ≡ ((get_or text k 0 == 40) && is_small_word (take k text) && not (is_reserved (take k text)))
+pub label_front : (text : List ℕ) (k : ℕ) → k < length text → is_label (take (k + 1) text) ≡ ((get_or text k 0 == 40) && is_literal (take k text))
 label_front text k l =
     let c = get_or text k 0 in
     let e : take (k + 1) text ≡ take k text ++ c ∷ [] = take_more text k 0 l in
@@ -111,13 +139,16 @@ label_front text k l =
 
 -- ---- by the first byte
 
-upper_is : (b : ℕ) → is_upper b ≡ true → (is_lower b ≡ false) × (is_digit b ≡ false) × ((b == 126) ≡ false) × (goes_on_word b ≡ true)
+apart : (b : ℕ) → is_opening b ≡ false → (b == 39) ≡ false
+apart b o = (three_no (b == 39) (b == 34) (b == 38) o).0
+
+upper_is : (b : ℕ) → is_upper b ≡ true → (is_lower b ≡ false) × (is_digit b ≡ false) × ((b == 126) ≡ false) × (goes_on_word b ≡ true) × (is_opening b ≡ false)
 upper_is b u = grind (arith, nat_tests)
 
-lower_is : (b : ℕ) → is_lower b ≡ true → (is_upper b ≡ false) × (is_digit b ≡ false) × ((b == 126) ≡ false) × (goes_on_word b ≡ true)
+lower_is : (b : ℕ) → is_lower b ≡ true → (is_upper b ≡ false) × (is_digit b ≡ false) × ((b == 126) ≡ false) × (goes_on_word b ≡ true) × (is_opening b ≡ false)
 lower_is b u = grind (arith, nat_tests)
 
-digit_is : (b : ℕ) → is_digit b ≡ true → (is_upper b ≡ false) × (is_lower b ≡ false) × ((b == 126) ≡ false)
+digit_is : (b : ℕ) → is_digit b ≡ true → (is_upper b ≡ false) × (is_lower b ≡ false) × ((b == 126) ≡ false) × (is_opening b ≡ false)
 digit_is b u = grind (arith, nat_tests)
 
 not_var : (b : ℕ) (ws : List ℕ) → is_upper b ≡ false → is_var (b ∷ ws) ≡ false
@@ -139,7 +170,7 @@ pub upper_fails : (b : ℕ) (ws : List ℕ) → is_upper b ≡ true → list_all
 upper_fails b ws u h =
     let i = upper_is b u in
     let r : list_all goes_on_word ws ≡ false = rw i.3 at h in
-    no_sort (b ∷ ws) (rw u r) (not_small b ws i.0) (not_label b ws i.0) (not_int b ws i.2 i.1) (no_symbol is_upper b ws u symbols refl)
+    no_sort (b ∷ ws) (rw u r) (not_small b ws i.0) (not_label b ws i.0 (apart b i.4)) (not_int b ws i.2 i.1) (not_opened b ws i.4) (no_symbol is_upper b ws u symbols refl)
 
 -- a word that begins with a small letter
 pub lower_passes : (b : ℕ) (ws : List ℕ) → is_lower b ≡ true → list_all goes_on_word (b ∷ ws) ≡ true → sort_of (b ∷ ws) ≡ Some sort.Word
@@ -162,7 +193,7 @@ lower_labels b ws u h l =
 pub lower_fails : (b : ℕ) (ws : List ℕ) → is_lower b ≡ true → list_all goes_on_word (b ∷ ws) ≡ false → is_label (b ∷ ws) ≡ false → sort_of (b ∷ ws) ≡ None
 lower_fails b ws u h l =
     let i = lower_is b u in
-    no_sort (b ∷ ws) (not_var b ws i.0) (lower_stops b ws u h) l (not_int b ws i.2 i.1) (no_symbol is_lower b ws u symbols refl)
+    no_sort (b ∷ ws) (not_var b ws i.0) (lower_stops b ws u h) l (not_int b ws i.2 i.1) (not_opened b ws i.4) (no_symbol is_lower b ws u symbols refl)
 
 -- a small word passes as a word does
 pub small_passes : (b : ℕ) (ws : List ℕ) → is_lower b ≡ true → is_small_word (b ∷ ws) ≡ list_all goes_on_word (b ∷ ws)
@@ -172,44 +203,92 @@ small_passes b ws u = let i = lower_is b u in ap (λ q. q && list_all goes_on_wo
 pub digit_passes : (b : ℕ) (ws : List ℕ) → is_digit b ≡ true → list_all is_digit (b ∷ ws) ≡ true → sort_of (b ∷ ws) ≡ Some sort.Int
 digit_passes b ws u h =
     let i = digit_is b u in
-    int_sort (b ∷ ws) (not_var b ws i.0) (not_small b ws i.1) (not_label b ws i.1) (rw i.2 h)
+    int_sort (b ∷ ws) (not_var b ws i.0) (not_small b ws i.1) (not_label b ws i.1 (apart b i.3)) (rw i.2 h)
 
 pub digit_fails : (b : ℕ) (ws : List ℕ) → is_digit b ≡ true → list_all is_digit (b ∷ ws) ≡ false → sort_of (b ∷ ws) ≡ None
 digit_fails b ws u h =
     let i = digit_is b u in
-    no_sort (b ∷ ws) (not_var b ws i.0) (not_small b ws i.1) (not_label b ws i.1) (rw i.2 h) (no_symbol is_digit b ws u symbols refl)
+    no_sort (b ∷ ws) (not_var b ws i.0) (not_small b ws i.1) (not_label b ws i.1 (apart b i.3)) (rw i.2 h) (not_opened b ws i.3) (no_symbol is_digit b ws u symbols refl)
 
 -- digits behind a `~`
-tilde_is : (b : ℕ) → is_tilde b ≡ true → (is_upper b ≡ false) × (is_lower b ≡ false)
+tilde_is : (b : ℕ) → is_tilde b ≡ true → (is_upper b ≡ false) × (is_lower b ≡ false) × (is_opening b ≡ false)
 tilde_is b u = grind (arith, nat_tests)
 
 pub tilde_passes : (b : ℕ) (ws : List ℕ) → is_tilde b ≡ true → is_digits ws ≡ true → sort_of (b ∷ ws) ≡ Some sort.Int
 tilde_passes b ws u h =
     let i = tilde_is b u in
-    int_sort (b ∷ ws) (not_var b ws i.0) (not_small b ws i.1) (not_label b ws i.1) (rw u h)
+    int_sort (b ∷ ws) (not_var b ws i.0) (not_small b ws i.1) (not_label b ws i.1 (apart b i.2)) (rw u h)
 
 pub tilde_fails : (b : ℕ) (ws : List ℕ) → is_tilde b ≡ true → is_digits ws ≡ false → sort_of (b ∷ ws) ≡ None
 tilde_fails b ws u h =
     let i = tilde_is b u in
-    no_sort (b ∷ ws) (not_var b ws i.0) (not_small b ws i.1) (not_label b ws i.1) (rw u h) (no_symbol is_tilde b ws u symbols refl)
+    no_sort (b ∷ ws) (not_var b ws i.0) (not_small b ws i.1) (not_label b ws i.1 (apart b i.2)) (rw u h) (not_opened b ws i.2) (no_symbol is_tilde b ws u symbols refl)
 
 -- symbols
-mark_is : (b : ℕ) → is_mark b ≡ true → (is_upper b ≡ false) × (is_lower b ≡ false) × (is_digit b ≡ false) × ((b == 126) ≡ false)
-mark_is b m = by (is_upper b) (is_lower b) (is_digit b) (b == 126) m
+mark_is : (b : ℕ) → is_mark b ≡ true → (is_upper b ≡ false) × (is_lower b ≡ false) × (is_digit b ≡ false) × ((b == 126) ≡ false) × (is_opening b ≡ false)
+mark_is b m = by (is_upper b) (is_lower b) (is_digit b) (b == 126) (is_opening b) m
   where
-    by : (u l d t : Bool) → not (u || l || d || t) ≡ true → (u ≡ false) × (l ≡ false) × (d ≡ false) × (t ≡ false)
-    by false false false false h = (refl, refl, refl, refl)
-    by false false false true h = absurd (cc)
-    by false false true t h = absurd (cc)
-    by false true d t h = absurd (cc)
-    by true l d t h = absurd (cc)
+    by : (u l d t o : Bool) → not (u || l || d || t || o) ≡ true → (u ≡ false) × (l ≡ false) × (d ≡ false) × (t ≡ false) × (o ≡ false)
+    by false false false false false h = (refl, refl, refl, refl, refl)
+    by false false false false true h = absurd (cc)
+    by false false false true o h = absurd (cc)
+    by false false true t o h = absurd (cc)
+    by false true d t o h = absurd (cc)
+    by true l d t o h = absurd (cc)
 
 pub mark_passes : (b : ℕ) (ws : List ℕ) → is_mark b ≡ true → is_symbol (b ∷ ws) ≡ true → sort_of (b ∷ ws) ≡ Some sort.Symbol
 mark_passes b ws m h =
     let i = mark_is b m in
-    symbol_sort (b ∷ ws) (not_var b ws i.0) (not_small b ws i.1) (not_label b ws i.1) (not_int b ws i.3 i.2) h
+    symbol_sort (b ∷ ws) (not_var b ws i.0) (not_small b ws i.1) (not_label b ws i.1 (apart b i.4)) (not_int b ws i.3 i.2) (not_opened b ws i.4) h
 
 pub mark_fails : (b : ℕ) (ws : List ℕ) → is_mark b ≡ true → is_symbol (b ∷ ws) ≡ false → sort_of (b ∷ ws) ≡ None
 mark_fails b ws m h =
     let i = mark_is b m in
-    no_sort (b ∷ ws) (not_var b ws i.0) (not_small b ws i.1) (not_label b ws i.1) (not_int b ws i.3 i.2) h
+    no_sort (b ∷ ws) (not_var b ws i.0) (not_small b ws i.1) (not_label b ws i.1 (apart b i.4)) (not_int b ws i.3 i.2) (not_opened b ws i.4) h
+
+-- what begins with a small letter and is no word is no literal
+lower_literal : (b : ℕ) (ws : List ℕ) (k : ℕ) → is_lower b ≡ true
+    → is_literal (take k (b ∷ ws)) ≡ (is_small_word (take k (b ∷ ws)) && not (is_reserved (take k (b ∷ ws))))
+lower_literal b ws zero u = refl
+lower_literal b ws (suc k) u = let d : (b == 39) ≡ false = apart b (lower_is b u).4 in rw d refl
+
+pub label_small : (b : ℕ) (bs : List ℕ) (k : ℕ) → is_lower b ≡ true → k < length (b ∷ bs)
+    → is_label (take (k + 1) (b ∷ bs)) ≡ ((get_or (b ∷ bs) k 0 == 40) && (is_small_word (take k (b ∷ bs)) && not (is_reserved (take k (b ∷ bs)))))
+label_small b bs k u l = label_front (b ∷ bs) k l ∙ ap (λ q. (get_or (b ∷ bs) k 0 == 40) && q) (lower_literal b bs k u)
+
+-- ---- quotes
+
+or_false : (x : Bool) → (x || false) ≡ x
+or_false true = refl
+or_false false = refl
+
+quoted_literal : (ws : List ℕ) (k : ℕ) → is_literal (take k (39 ∷ ws)) ≡ is_quoted 39 (take k (39 ∷ ws))
+quoted_literal ws zero = refl
+quoted_literal ws (suc k) = or_false (is_closed 39 (take k ws))
+
+-- a label in quotes is an atom in quotes and a `(`
+pub label_quoted : (ws : List ℕ) (k : ℕ) → k < length (39 ∷ ws) → is_label (take (suc k) (39 ∷ ws)) ≡ ((get_or (39 ∷ ws) k 0 == 40) && is_quoted 39 (take k (39 ∷ ws)))
+label_quoted ws k l =
+    ap (λ j. is_label (take j (39 ∷ ws))) (sym (add-one k)) ∙ label_front (39 ∷ ws) k l ∙ ap (λ q. (get_or (39 ∷ ws) k 0 == 40) && q) (quoted_literal ws k)
+
+pub atom_sort : (ws : List ℕ) → is_label (39 ∷ ws) ≡ false → is_closed 39 ws ≡ true → sort_of (39 ∷ ws) ≡ Some sort.Quoted
+atom_sort ws l e = rw l (rw e refl)
+
+pub atom_label : (ws : List ℕ) → is_label (39 ∷ ws) ≡ true → sort_of (39 ∷ ws) ≡ Some sort.Label
+atom_label ws l = rw l refl
+
+pub atom_fails : (ws : List ℕ) → is_label (39 ∷ ws) ≡ false → is_closed 39 ws ≡ false → sort_of (39 ∷ ws) ≡ None
+atom_fails ws l e = rw l (rw e (rw (not_char 39 ws refl) refl))
+
+pub string_passes : (ws : List ℕ) → is_closed 34 ws ≡ true → sort_of (34 ∷ ws) ≡ Some sort.String
+string_passes ws e = rw (not_label 34 ws refl refl) (rw e refl)
+
+pub string_fails : (ws : List ℕ) → is_closed 34 ws ≡ false → sort_of (34 ∷ ws) ≡ None
+string_fails ws e = rw (not_label 34 ws refl refl) (rw e (rw (not_char 34 ws refl) refl))
+
+-- characters
+pub char_passes : (ws : List ℕ) → is_char (38 ∷ ws) ≡ true → sort_of (38 ∷ ws) ≡ Some sort.Char
+char_passes ws e = rw (not_label 38 ws refl refl) (rw e refl)
+
+pub char_fails : (ws : List ℕ) → is_char (38 ∷ ws) ≡ false → sort_of (38 ∷ ws) ≡ None
+char_fails ws e = rw (not_label 38 ws refl refl) (rw e refl)

@@ -1,8 +1,8 @@
-//! Classes of bytes, and lists of texts.
-ghost use Rattle.std.specs.Prelude.{◌≡◌};
+//! Classes of bytes, and texts.
+ghost use Rattle.std.specs.Prelude.{◌≡◌, ◌≤◌, length, drop};
 ghost use Rattle.std.specs.List.{list_any};
 ghost use Rattle.oz_base.specs.Lists.{list_eq};
-ghost use Rattle.oz_semantics.specs.Tokens.{is_blank, is_upper, is_lower, is_digit, goes_on_word, is_reserved, is_symbol};
+ghost use Rattle.oz_semantics.specs.Tokens.{is_blank, is_upper, is_lower, is_digit, goes_on_word, is_printable, is_escape, is_reserved, is_symbol};
 
 /// The reserved words that are no literals.
 static RESERVED: [&[u8]; 45] = [
@@ -89,6 +89,28 @@ pub fn goes_on_word(byte: u8) -> bool
     ensures { result ≡ goes_on_word byte }
 {
     is_upper(byte) || is_lower(byte) || is_digit(byte) || byte == b'_'
+}
+
+/// A byte that may stand in quotes, or behind a `&`.
+pub fn is_printable(byte: u8) -> bool
+    ensures { result ≡ is_printable byte }
+{
+    b' ' <= byte && byte <= b'~'
+}
+
+/// What may stand behind a `\`.
+pub fn is_escape(byte: u8) -> bool
+    ensures { result ≡ is_escape byte }
+{
+    byte == b'n' || byte == b't' || byte == b'\\' || byte == b'\'' || byte == b'"'
+}
+
+/// What follows the first bytes.
+pub fn rest_of(text: &[u8], place: usize) -> &[u8]
+    requires { place ≤ length text.now }
+    ensures { result.now ≡ drop place text.now }
+{
+    &text[place..]
 }
 
 /// Whether two texts have the same bytes.

@@ -26,10 +26,10 @@ fn positive_token(at: usize, digits: &[u8]) -> Token
     ensures { result ≡ positive_token at (digits_value 10 digits.now) }
 {
     let Some(number) = number_of(digits) else {
-        return Token::Other { deepens: false };
+        return Token::Other;
     };
     if number >= LIMIT {
-        return Token::Other { deepens: false };
+        return Token::Other;
     }
     let value = number as i128;
     Token::Int { value, at }
@@ -40,10 +40,10 @@ fn negative_token(at: usize, digits: &[u8]) -> Token
     ensures { result ≡ negative_token at (digits_value 10 digits.now) }
 {
     let Some(number) = number_of(digits) else {
-        return Token::Other { deepens: false };
+        return Token::Other;
     };
     if number > LIMIT {
-        return Token::Other { deepens: false };
+        return Token::Other;
     }
     let value = minus(number);
     Token::Int { value, at }

@@ -1,9 +1,9 @@
 //! The tokens of a whole text.
-ghost use Rattle.std.specs.Prelude.{◌≡◌, ◌≤◌, IfOk, IfErr, length, drop};
+ghost use Rattle.std.specs.Prelude.{◌≡◌, IfOk, IfErr};
 ghost use Rattle.oz_semantics.specs.Tokens.{Lexes, Whole, is_broken_number, begins_fraction};
 ghost use Rattle.oz_lex.specs.Lexing.{IsBad, OneReading};
 
-use crate::bytes::is_digit;
+use crate::bytes::{is_digit, rest_of};
 use crate::gaps::gap_len;
 use crate::scan::token_at;
 use oz_semantics::{Lexeme, Sort};
@@ -12,7 +12,7 @@ use std::alloc::{AllocError, AllocFailed, Global};
 /// Why a text has no tokens.
 #[derive(Clone, Copy, Debug, PartialEq, Eq)]
 pub enum LexError {
-    /// At this place, counted from 0, no token begins.
+    /// The byte at this place, counted from 0, belongs to no token.
     BadByte { at: usize },
     /// Memory ran out.
     Memory,
@@ -38,8 +38,9 @@ impl<T: Drop> From<AllocFailed<T>> for LexError {
     }
 }
 
-/// The tokens of a text, each the longest that fits, with blanks and comments between them. Or the first byte at which no
-/// token begins: one that fits none, the `/` of a comment that does not end, or the point of a fraction behind an integer.
+/// The tokens of a text, each the longest that fits, with blanks and comments between them. Or the first byte that belongs to
+/// no token: one with which none begins, the `/` of a comment that does not end, the point of a fraction behind an integer, a
+/// byte that may not stand in quotes, or a quote that nothing closes.
 ///
 /// It takes the time of reading the text once.
 pub fn lexemes(alloc: Global, text: &[u8]) -> Result<Vec<Lexeme>, LexError>
@@ -54,14 +55,16 @@ pub fn lexemes(alloc: Global, text: &[u8]) -> Result<Vec<Lexeme>, LexError>
         if gap > 0 {
             at += gap;
         } else {
-            let Some((sort, len)) = token_at(rest) else {
-                return Err(LexError::BadByte { at });
-            };
-            if is_broken_number(sort, rest_of(rest, len)) {
-                return Err(LexError::BadByte { at: at + len });
+            match token_at(rest) {
+                Err(away) => return Err(LexError::BadByte { at: at + away }),
+                Ok((sort, len)) => {
+                    if is_broken_number(sort, rest_of(rest, len)) {
+                        return Err(LexError::BadByte { at: at + len });
+                    }
+                    lexemes.push(Lexeme { sort, at, len })?;
+                    at += len;
+                }
             }
-            lexemes.push(Lexeme { sort, at, len })?;
-            at += len;
         }
     }
     Ok(lexemes)
@@ -90,12 +93,4 @@ fn begins_fraction(text: &[u8]) -> bool
         [point, digit, ..] => *point == b'.' && is_digit(*digit),
         _ => false,
     }
-}
-
-/// What follows the first bytes.
-fn rest_of(text: &[u8], place: usize) -> &[u8]
-    requires { place ≤ length text.now }
-    ensures { result.now ≡ drop place text.now }
-{
-    &text[place..]
 }

@@ -1,14 +1,54 @@
 //! The longest token at the front of a text.
-ghost use Rattle.std.specs.Prelude.{◌≡◌, ◌≤◌, ◌&&◌, true, length, take, nat_le};
+ghost use Rattle.std.specs.Prelude.{◌≡◌, ◌≤◌, ◌&&◌, true, false, length, take, nat_le};
 ghost use Rattle.std.specs.List.{prefix_len};
 ghost use Rattle.oz_semantics.specs.Tokens.{is_lower, is_digit, goes_on_word, is_symbol, IsLongest};
-ghost use Rattle.oz_lex.specs.Scanning.{begins, begins_paren, is_tilde, is_mark, IsTokenAt};
+ghost use Rattle.oz_lex.specs.Scanning.{begins, begins_with, begins_paren, is_tilde, is_mark, IsTokenAt, IsFront};
 
 use crate::bytes;
+use crate::quotes::{begins_with, char_len, quoted_len};
 use oz_semantics::Sort;
 
-/// The longest token at the front, and how many bytes it has.
-pub fn token_at(text: &[u8]) -> Option<(Sort, usize)>
+/// The longest token at the front, and how many bytes it has. Or how far the byte is away for which there is none.
+pub fn token_at(text: &[u8]) -> Result<(Sort, usize), usize>
+    ensures { IsFront text.now result }
+{
+    if begins_with(b'\'', text) {
+        return quoted_at(text);
+    }
+    if begins_with(b'"', text) {
+        return string_at(text);
+    }
+    match bare_at(text) {
+        Some(token) => Ok(token),
+        None => Err(0),
+    }
+}
+
+/// The atom in quotes at the front, or the label where `(` stands behind it.
+fn quoted_at(text: &[u8]) -> Result<(Sort, usize), usize>
+    requires { begins_with 39 text.now ≡ true }
+    ensures { IsFront text.now result }
+{
+    let len = quoted_len(b'\'', text)?;
+    if begins_paren(&text[len..]) {
+        return Ok((Sort::Label, len + 1));
+    }
+    Ok((Sort::Quoted, len))
+}
+
+/// The string at the front.
+fn string_at(text: &[u8]) -> Result<(Sort, usize), usize>
+    requires { begins_with 34 text.now ≡ true }
+    ensures { IsFront text.now result }
+{
+    let len = quoted_len(b'"', text)?;
+    Ok((Sort::String, len))
+}
+
+/// The longest token at the front of a text that does not begin with a quote.
+fn bare_at(text: &[u8]) -> Option<(Sort, usize)>
+    requires atom { begins_with 39 text.now ≡ false }
+    requires string { begins_with 34 text.now ≡ false }
     ensures { IsTokenAt text.now result }
 {
     let first = *text.first()?;
@@ -23,6 +63,9 @@ pub fn token_at(text: &[u8]) -> Option<(Sort, usize)>
     }
     if first == b'~' {
         return negative_at(text);
+    }
+    if first == b'&' {
+        return char_at(text);
     }
     symbol_at(text)
 }
@@ -68,10 +111,7 @@ fn word_at(text: &[u8]) -> (Sort, usize)
 fn begins_paren(text: &[u8]) -> bool
     ensures { result ≡ begins_paren text.now }
 {
-    match text.first() {
-        None => false,
-        Some(byte) => *byte == b'(',
-    }
+    begins_with(b'(', text)
 }
 
 /// The integer at the front of a text that begins with `~`.
@@ -84,6 +124,18 @@ fn negative_at(text: &[u8]) -> Option<(Sort, usize)>
         return None;
     }
     Some((Sort::Int, 1 + digits))
+}
+
+/// The character at the front of a text that begins with `&`.
+fn char_at(text: &[u8]) -> Option<(Sort, usize)>
+    requires { begins_with 38 text.now ≡ true }
+    ensures { IsTokenAt text.now result }
+{
+    let len = char_len(&text[1..]);
+    if len == 0 {
+        return None;
+    }
+    Some((Sort::Char, 1 + len))
 }
 
 /// The symbol at the front.

@@ -1,5 +1,5 @@
 use super::*;
-use oz_semantics::{Lexeme, Literal, Sort, Token};
+use oz_semantics::{Comparison, Lexeme, Literal, Operator, Sort, Token};
 use std::alloc::Global;
 use std::test::*;
 
@@ -26,6 +26,20 @@ fn whole(value: i128) -> Option<Token> {
     Some(Token::Int { value, at: 0 })
 }
 
+fn atom(number: u32, at: usize) -> Token {
+    Token::Literal {
+        literal: Literal::Atom(number),
+        at,
+    }
+}
+
+fn label(number: u32, at: usize) -> Token {
+    Token::Label {
+        literal: Literal::Atom(number),
+        at,
+    }
+}
+
 fn bad_byte(alloc: Global, text: &[u8]) -> Option<usize> {
     match lexemes(alloc, text) {
         Err(LexError::BadByte { at }) => Some(at),
@@ -44,21 +58,21 @@ fn splits_a_program(rt: HostRuntime) -> Result<(), Fail> {
     assert_eq!(rt;
         found.as_slice(),
         [
-            Token::Local,
-            Token::Var { name: 2, at: 6 },
+            Token::Local { at: 0 },
+            Token::Var { name: 26, at: 6 },
             Token::In,
-            Token::OpenBrace,
-            Token::Var { name: 3, at: 19 },
-            Token::Var { name: 2, at: 21 },
+            Token::OpenBrace { at: 18 },
+            Token::Var { name: 27, at: 19 },
+            Token::Var { name: 26, at: 21 },
             Token::CloseBrace,
-            Token::Var { name: 2, at: 32 },
+            Token::Var { name: 26, at: 32 },
             Token::Equals,
             Token::Label {
-                literal: Literal::Atom(4),
+                literal: Literal::Atom(28),
                 at: 34
             },
             Token::Literal {
-                literal: Literal::Atom(5),
+                literal: Literal::Atom(29),
                 at: 36
             },
             Token::Var { name: 0, at: 38 },
@@ -78,8 +92,8 @@ fn knows_the_words_of_tests(rt: HostRuntime) -> Result<(), Fail> {
     assert_eq!(rt;
         found.as_slice(),
         [
-            Token::Case,
-            Token::If,
+            Token::Case { at: 0 },
+            Token::If { at: 5 },
             Token::Of,
             Token::Then,
             Token::Else,
@@ -87,7 +101,7 @@ fn knows_the_words_of_tests(rt: HostRuntime) -> Result<(), Fail> {
             Token::Any { at: 23 },
             Token::Any { at: 25 },
             Token::Literal {
-                literal: Literal::Atom(2),
+                literal: Literal::Atom(26),
                 at: 26
             },
         ]
@@ -162,17 +176,82 @@ fn names_the_bad_byte(rt: HostRuntime) -> Result<(), Fail> {
     assert_eq!(rt; bad_byte(rt.alloc(), b"1.5"), Some(1));
     assert_eq!(rt; bad_byte(rt.alloc(), b"X ~ 1"), Some(2));
     assert_eq!(rt; bad_byte(rt.alloc(), b" /* x"), Some(1));
-    assert_eq!(rt; bad_byte(rt.alloc(), b"'a'"), Some(0));
-    assert_eq!(rt; bad_byte(rt.alloc(), b"\"s\""), Some(0));
-    assert_eq!(rt; bad_byte(rt.alloc(), b"X=&a"), Some(2));
+    assert_eq!(rt; bad_byte(rt.alloc(), b"X=&"), Some(2));
+    assert_eq!(rt; bad_byte(rt.alloc(), b"&\\x"), Some(0));
     assert_eq!(rt; bad_byte(rt.alloc(), b"\\"), Some(0));
     assert_eq!(rt; bad_byte(rt.alloc(), b"1 . 5"), None);
     Ok(())
 }
 
 #[test]
+fn names_the_bad_byte_in_quotes(rt: HostRuntime) -> Result<(), Fail> {
+    assert_eq!(rt; bad_byte(rt.alloc(), b"X='a\n'"), Some(4));
+    assert_eq!(rt; bad_byte(rt.alloc(), b"'a\\x'"), Some(2));
+    assert_eq!(rt; bad_byte(rt.alloc(), b" \"s\x7f\""), Some(3));
+    assert_eq!(rt; bad_byte(rt.alloc(), b"X='a"), Some(2));
+    assert_eq!(rt; bad_byte(rt.alloc(), b"X='a\\"), Some(2));
+    assert_eq!(rt; bad_byte(rt.alloc(), b"'a'\"\""), None);
+    Ok(())
+}
+
+#[test]
+fn reads_quotes(rt: HostRuntime) -> Result<(), Fail> {
+    let found = tokens(
+        rt.alloc(),
+        b"abc 'abc' 'true' '' 'a\\n\\''( \"x'y\" &a &\\n 'abc'(",
+    )
+    .ok()
+    .ok_or("tokens")?;
+    assert_eq!(rt;
+        found.as_slice(),
+        [
+            atom(26, 0),
+            atom(26, 4),
+            atom(27, 10),
+            atom(28, 17),
+            label(29, 20),
+            Token::String { text: 30, at: 29 },
+            Token::Int { value: 97, at: 35 },
+            Token::Int { value: 10, at: 38 },
+            label(26, 42),
+        ]
+        .as_slice()
+    );
+    Ok(())
+}
+
+#[test]
+fn knows_symbols_and_given_words(rt: HostRuntime) -> Result<(), Fail> {
+    let found = tokens(rt.alloc(), b"X\\=:nil|lazy FD [@ elseif fail div")
+        .ok()
+        .ok_or("tokens")?;
+    assert_eq!(rt;
+        found.as_slice(),
+        [
+            Token::Var { name: 26, at: 0 },
+            Token::Relates {
+                comparison: Comparison::Unequal
+            },
+            atom(22, 4),
+            Token::Bar,
+            atom(25, 8),
+            Token::Var { name: 2, at: 13 },
+            Token::OpenBracket { at: 16 },
+            Token::At { at: 17 },
+            Token::ElseIf,
+            Token::Fail { at: 26 },
+            Token::Infix {
+                operator: Operator::Div
+            },
+        ]
+        .as_slice()
+    );
+    Ok(())
+}
+
+#[test]
 fn keeps_to_the_limits_of_integers(rt: HostRuntime) -> Result<(), Fail> {
-    let past = Some(Token::Other { deepens: false });
+    let past = Some(Token::Other);
     assert_eq!(rt;
         only_token(rt.alloc(), b"170141183460469231731687303715884105727"),
         whole(i128::MAX)

@@ -10,13 +10,13 @@ use Rattle.oz_semantics.specs.Configurations.{view}
 use Rattle.oz_semantics.specs.Statements.{Steps, Waits, awaits, match_ready, statement_ready, code_ready, top_ready, thread_ready, steps, waits_of, offer_of}
 use Rattle.oz_semantics.specs.Spaces.{is_held, chosen, offers, committing, offer_in}
 use Rattle.oz_semantics.specs.declared.kernel.Statement.{Statement}
-use Rattle.oz_semantics.specs.declared.kernel.Statement.TheVariants.{Skip, Fail, Local, Equate, Bind, BindRecord, BindProcedure, Call, Choice, If, Case, NoMatch}
+use Rattle.oz_semantics.specs.declared.kernel.Statement.TheVariants.{Skip, Fail, Local, Equate, Bind, BindRecord, BindProcedure, Call, Choice, If, Case, NoMatch, Apply, Thread, Try, Raise, Post, PostTimes}
 use Rattle.oz_semantics.specs.declared.configuration.Binding.{Binding}
 use Rattle.oz_semantics.specs.declared.configuration.Code.{Code}
 use Rattle.oz_semantics.specs.declared.configuration.Code.TheVariants as code
 use Rattle.oz_semantics.specs.declared.configuration.Frame.{Frame}
 use Rattle.oz_semantics.specs.declared.configuration.Tell.{Tell}
-use Rattle.oz_semantics.specs.declared.configuration.Thread.{Thread}
+use Rattle.oz_semantics.specs.declared.configuration.Thread.{Thread as Running}
 use Rattle.oz_semantics.specs.declared.configuration.Layer.{Layer}
 
 steps_if : (b : Bool) (xs : List Ident) → b ≡ steps (if b then Steps else Waits xs)
@@ -58,6 +58,12 @@ offer_of_statement view environment (Some (Choice alternatives)) = refl
 offer_of_statement view environment (Some (If condition accepted otherwise)) = no_offer (is_determined view _) _
 offer_of_statement view environment (Some (Case subject pattern accepted otherwise)) = match_offers _ ∙ sym (match_offers _)
 offer_of_statement view environment (Some NoMatch) = refl
+offer_of_statement view environment (Some (Apply operation arguments)) = refl
+offer_of_statement view environment (Some (Thread body)) = refl
+offer_of_statement view environment (Some (Try body exception handler)) = refl
+offer_of_statement view environment (Some (Raise name)) = refl
+offer_of_statement view environment (Some (Post sign constant terms)) = refl
+offer_of_statement view environment (Some (PostTimes left right product)) = refl
 offer_of_statement view environment None = refl
 
 offer_of_code : (statements : List Statement) (view : List Tell) (environment : List Binding) (k : Code) → offer_of (code_ready statements view environment k) ≡ offer_of (code_ready statements [] environment k)
@@ -69,7 +75,7 @@ offer_of_top statements view (Some frame) = offer_of_code statements view frame.
 offer_of_top statements view None = refl
 
 -- what a thread offers, whatever is seen
-pub offer_anywhere : (statements : List Statement) (view : List Tell) (t : Thread) → offer_of (thread_ready statements view t) ≡ offer_of (thread_ready statements [] t)
+pub offer_anywhere : (statements : List Statement) (view : List Tell) (t : Running) → offer_of (thread_ready statements view t) ≡ offer_of (thread_ready statements [] t)
 offer_anywhere statements view t = offer_of_top statements view (first t.frames)
 
 pub offers_anywhere : (statements : List Statement) (view : List Tell) → offers statements view ≡ offers statements []
@@ -78,10 +84,10 @@ offers_anywhere statements view = λ i t. ap is_some (offer_anywhere statements 
 -- so what is chosen
 pub commits_anywhere : (statements : List Statement) (view : List Tell) (i : ℕ) (l : Layer) → committing statements [] i l ≡ committing statements view i l
 commits_anywhere statements view i l =
-    ap (λ (test : Thread → Bool). record l { threads = edit_first test (λ t. record t { frames = chosen statements i t.frames }) l.threads }) (sym (offers_anywhere statements view))
+    ap (λ (test : Running → Bool). record l { threads = edit_first test (λ t. record t { frames = chosen statements i t.frames }) l.threads }) (sym (offers_anywhere statements view))
 
 -- and the first offer
 pub first_offer_anywhere : (statements : List Statement) (layers : List Layer) (l : Layer)
     → first (filter_map (λ t. offer_of (thread_ready statements [] t)) l.threads) ≡ offer_in statements layers l
 first_offer_anywhere statements layers l =
-    ap (λ (offer : Thread → Option ℕ). first (filter_map offer l.threads)) (λ i t. sym (offer_anywhere statements (view layers l.space) t) i)
+    ap (λ (offer : Running → Option ℕ). first (filter_map offer l.threads)) (λ i t. sym (offer_anywhere statements (view layers l.space) t) i)

@@ -179,7 +179,14 @@ fn plan_statement(
     ensures { IfOk result (λ plan. (p : Place) → IsPlaceIn seen.now layer.now p → statement_effect p environment.now (Some statement.now) ≡ planned p plan) }
 {
     match statement {
-        Statement::Skip | Statement::Choice { .. } => Ok(Plan::Moves(Move::Stays)),
+        Statement::Skip
+        | Statement::Choice { .. }
+        | Statement::Apply { .. }
+        | Statement::Thread { .. }
+        | Statement::Try { .. }
+        | Statement::Raise { .. }
+        | Statement::Post { .. }
+        | Statement::PostTimes { .. } => Ok(Plan::Moves(Move::Stays)),
         Statement::Fail => Ok(Plan::Moves(Move::Fails(Raise::FailureFail))),
         Statement::NoMatch => Ok(Plan::Moves(Move::Fails(Raise::NoElse))),
         Statement::Local { names, body } => { plan_local(alloc, layer, environment, names, body) }

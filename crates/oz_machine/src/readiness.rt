@@ -50,7 +50,14 @@ fn statement_steps(
     ensures { result ≡ steps (statement_ready seen.now environment.now (option_copied statement.entry)) }
 {
     match statement {
-        None | Some(Statement::Choice { .. }) => false,
+        None
+        | Some(Statement::Choice { .. })
+        | Some(Statement::Apply { .. })
+        | Some(Statement::Thread { .. })
+        | Some(Statement::Try { .. })
+        | Some(Statement::Raise { .. })
+        | Some(Statement::Post { .. })
+        | Some(Statement::PostTimes { .. }) => false,
         Some(Statement::Call { procedure, .. }) => {
             is_bound_determined(alloc, seen, environment, *procedure)
         }

@@ -1,3 +1,9 @@
-pub mod Views
+pub mod AcceptLaws
+pub mod Counts
+pub mod DepthLaws
+pub mod HeadLaws
+pub mod ItemLaws
 pub mod Progress
+pub mod TermLaws
 pub mod Uniqueness
+pub mod Views

@@ -8,7 +8,7 @@ use Rattle.std.proofs.lemmas.Option.{slice_get_within, get_or_from_slice_get}
 use Rattle.oz_semantics.specs.Tokens.{Lexes, Ending, Whole, at_end, at_bad, at_fraction, gap, token, IsLongest, gap_length}
 use Rattle.oz_semantics.specs.Wording.{first_words, joining, words_of, token_in, tokens_in}
 use Rattle.oz_semantics.specs.Grammar.{Phrase, Derives}
-use Rattle.oz_semantics.specs.Refusals.{Open, depth_limit, open_with, depth_of, too_deep, first_of, sooner, comes_before, Program, Accepts, IsFineBefore, DeepAt, SyntaxAt, EndsEarly, IsRefused, faults, first_scope, bad_byte, deep, syntax, ends_early, faulty}
+use Rattle.oz_semantics.specs.Refusals.{Open, depth_limit, open_with, depth_of, too_deep, text_open, first_of, sooner, comes_before, Program, Accepts, IsFineBefore, DeepAt, SyntaxAt, EndsEarly, IsRefused, faults, first_scope, bad_byte, deep, syntax, ends_early, faulty}
 use Rattle.oz_semantics.specs.declared.token.Lexeme.{Lexeme}
 use Rattle.oz_semantics.specs.declared.token.Sort.{Sort}
 use Rattle.oz_semantics.specs.declared.token.Token.{Token}
@@ -56,19 +56,19 @@ deep_more os (s ∷ ts) t h = by (nat_lt depth_limit (depth_after os s)) (deep_m
 -- the machine went through these tokens to this stack, with these constructs open
 pub record Goes (ts : List Token) (os : List Open) (k : Stack) : Type 0 where
   pub ran : run (Some start) ts ≡ Some k
-  pub depth : fold open_with [] ts ≡ os
-  pub shallow : too_deep [] ts ≡ false
+  pub depth : fold open_with text_open ts ≡ os
+  pub shallow : too_deep text_open ts ≡ false
 
-pub goes_start : Goes [] [] start
+pub goes_start : Goes [] text_open start
 goes_start = record { ran = refl; depth = refl; shallow = refl }
 
-with_depth : (ts : List Token) (os : List Open) (k : Stack) (t : Token) → Goes ts os k → too_deep [] (ts ++ t ∷ []) ≡ nat_lt depth_limit (depth_after os t)
-with_depth ts os k t g = deep_more [] ts t g.shallow ∙ ap (λ (is : List Open). nat_lt depth_limit (depth_after is t)) g.depth
+with_depth : (ts : List Token) (os : List Open) (k : Stack) (t : Token) → Goes ts os k → too_deep text_open (ts ++ t ∷ []) ≡ nat_lt depth_limit (depth_after os t)
+with_depth ts os k t g = deep_more text_open ts t g.shallow ∙ ap (λ (is : List Open). nat_lt depth_limit (depth_after is t)) g.depth
 
 pub goes_more : (ts : List Token) (os : List Open) (k j : Stack) (t : Token) → Goes ts os k → nat_lt depth_limit (depth_after os t) ≡ false → step t k ≡ Some j → Goes (ts ++ t ∷ []) (open_with os t) j
 goes_more ts os k j t g h s = record {
   ran = run_more (Some start) ts t ∙ (ap (λ (o : Option Stack). bind o (step t)) g.ran ∙ s);
-  depth = fold-append open_with [] ts (t ∷ []) ∙ ap (λ (is : List Open). open_with is t) g.depth;
+  depth = fold-append open_with text_open ts (t ∷ []) ∙ ap (λ (is : List Open). open_with is t) g.depth;
   shallow = with_depth ts os k t g ∙ h;
 }
 
@@ -140,7 +140,7 @@ module _ (begins : BeginsLaw) (ts : List Token) (n : ℕ) (os : List Open) (k : 
 
   module _ (t : Token) (more : take (n + 1) ts ≡ take n ts ++ t ∷ []) where
     pub deep_at : nat_lt depth_limit (depth_after os t) ≡ true → DeepAt ts n
-    deep_at h = record { before = fine; deep = ap (too_deep []) more ∙ (with_depth (take n ts) os k t g ∙ h) }
+    deep_at h = record { before = fine; deep = ap (too_deep text_open) more ∙ (with_depth (take n ts) os k t g ∙ h) }
 
     run_none : step t k ≡ None → run (Some start) (take (n + 1) ts) ≡ None
     run_none s = ap (run (Some start)) more ∙ (run_more (Some start) (take n ts) t ∙ (ap (λ (o : Option Stack). bind o (step t)) g.ran ∙ s))
@@ -149,7 +149,7 @@ module _ (begins : BeginsLaw) (ts : List Token) (n : ℕ) (os : List Open) (k : 
     syntax_at there h s = record {
       before = fine;
       there = there;
-      shallow = ap (too_deep []) more ∙ (with_depth (take n ts) os k t g ∙ h);
+      shallow = ap (too_deep text_open) more ∙ (with_depth (take n ts) os k t g ∙ h);
       begun_by_none = λ b. let went = (begins (take (n + 1) ts)).0 b in let e : None ≡ Some went.0 = sym (run_none s) ∙ went.1 in absurd (cc);
     }
 
@@ -160,8 +160,8 @@ module _ (parses : ParsesLaw) (ts : List Token) (n : ℕ) (os : List Open) (k : 
   pub derived_at : (p : Phrase) → finish k ≡ Some p → Derives ts p
   derived_at p h = (parses ts p).1 (parsed ∙ h)
 
-  pub shallow_at : too_deep [] ts ≡ false
-  shallow_at = ap (too_deep []) (sym (take_all n ts all)) ∙ g.shallow
+  pub shallow_at : too_deep text_open ts ≡ false
+  shallow_at = ap (too_deep text_open) (sym (take_all n ts all)) ∙ g.shallow
 
   pub ends_at : BeginsLaw → finish k ≡ None → EndsEarly ts
   ends_at begins h = record {
@@ -201,7 +201,7 @@ module _ (begins : BeginsLaw) (parses : ParsesLaw) (text : List ℕ) (ls : List 
   pub all_derived : (p : Phrase) → finish k ≡ Some p → Derives (tokens_in text ls) p
   all_derived p h = derived_at parses (tokens_in text ls) n os k g all_tokens p h
 
-  pub all_shallow : too_deep [] (tokens_in text ls) ≡ false
+  pub all_shallow : too_deep text_open (tokens_in text ls) ≡ false
   all_shallow = shallow_at parses (tokens_in text ls) n os k g all_tokens
 
 -- ---- refusals of steps

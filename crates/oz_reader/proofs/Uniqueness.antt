@@ -5,7 +5,7 @@ use Rattle.std.proofs.lemmas.Option.{slice_get_within}
 use Rattle.oz_semantics.specs.Tokens.{Lexes, Whole, Bad}
 use Rattle.oz_semantics.specs.Wording.{words_of, token_in, tokens_in}
 use Rattle.oz_semantics.specs.Grammar.{Phrase, Derives, Begins}
-use Rattle.oz_semantics.specs.Refusals.{Open, depth_limit, open_with, depth_of, too_deep, faults, first_scope, first_of, Program, Accepts, IsFineBefore, DeepAt, SyntaxAt, EndsEarly, FaultyAt, IsRefused, bad_byte, deep, syntax, ends_early, faulty}
+use Rattle.oz_semantics.specs.Refusals.{Open, depth_limit, open_with, depth_of, too_deep, text_open, faults, first_scope, first_of, Program, Accepts, IsFineBefore, DeepAt, SyntaxAt, EndsEarly, FaultyAt, IsRefused, bad_byte, deep, syntax, ends_early, faulty}
 use Rattle.oz_semantics.specs.declared.token.Lexeme.{Lexeme}
 use Rattle.oz_semantics.specs.declared.token.Token.{Token}
 use Rattle.oz_semantics.specs.declared.outcome.RefusalKind.{RefusalKind}
@@ -41,14 +41,14 @@ front_is ts m n h = sym (take-append-drop m (take n ts)) ∙ ap (λ us. us ++ dr
 fine_front : (ts : List Token) (m n : ℕ) → m ≤ n → IsFineBefore ts n → IsFineBefore ts m
 fine_front ts m n h f = record {
   begun = begins_front (take m ts) (drop m (take n ts)) (subst Begins (front_is ts m n h) f.begun);
-  shallow = shallow_front [] (take m ts) (drop m (take n ts)) (ap (too_deep []) (sym (front_is ts m n h)) ∙ f.shallow);
+  shallow = shallow_front text_open (take m ts) (drop m (take n ts)) (ap (too_deep text_open) (sym (front_is ts m n h)) ∙ f.shallow);
 }
 
 -- what is derived is fine
-pub derived_fine : (ts : List Token) (p : Phrase) → Derives ts p → too_deep [] ts ≡ false → IsFineBefore ts (length ts)
+pub derived_fine : (ts : List Token) (p : Phrase) → Derives ts p → too_deep text_open ts ≡ false → IsFineBefore ts (length ts)
 derived_fine ts p d h = record {
   begun = record { program = p; rest = []; derived = subst (λ us. Derives us p) (sym (append-nil (take (length ts) ts) ∙ take_all (length ts) ts (omega arith))) d };
-  shallow = ap (too_deep []) (take_all (length ts) ts (omega arith)) ∙ h;
+  shallow = ap (too_deep text_open) (take_all (length ts) ts (omega arith)) ∙ h;
 }
 
 -- ---- what the tokens of a text come to, where it is no program
@@ -73,7 +73,7 @@ stops_whole : (ts : List Token) (n : ℕ) → n < length ts → Stops ts n → I
 stops_whole ts n h s f = s.no_more (fine_front ts (n + 1) (length ts) (omega (arith, h)) f)
 
 data Verdict (ls : List Lexeme) (ts : List Token) (len : ℕ) : Fault → Type 0 where
-  stopped : {n : ℕ} {l : Lexeme} → slice_get ls n ≡ Some l → Stops ts n → Verdict ls ts len (record { kind = kind_if (too_deep [] (take (n + 1) ts)); at = l.at })
+  stopped : {n : ℕ} {l : Lexeme} → slice_get ls n ≡ Some l → Stops ts n → Verdict ls ts len (record { kind = kind_if (too_deep text_open (take (n + 1) ts)); at = l.at })
   ended : EndsEarly ts → Verdict ls ts len (record { kind = kind.Syntax; at = len })
   misnamed : {fault : Fault} → FaultyAt ts fault → Verdict ls ts len fault
 
@@ -91,7 +91,7 @@ module _ (law : ParsesLaw) (ls : List Lexeme) (ts : List Token) (len : ℕ) (sam
   within n l h = let w = slice_get_within ls n l h in omega (arith, w, same_length)
 
   one_stopped : (m n : ℕ) (k l : Lexeme) → slice_get ls m ≡ Some k → slice_get ls n ≡ Some l → m ≡ n
-      → ◌≡◌ {A = Fault} (record { kind = kind_if (too_deep [] (take (n + 1) ts)); at = l.at }) (record { kind = kind_if (too_deep [] (take (m + 1) ts)); at = k.at })
+      → ◌≡◌ {A = Fault} (record { kind = kind_if (too_deep text_open (take (n + 1) ts)); at = l.at }) (record { kind = kind_if (too_deep text_open (take (m + 1) ts)); at = k.at })
   one_stopped m n k l g h e =
       let there : Some k ≡ Some l = sym g ∙ (ap (slice_get ls) e ∙ h) in
       let same : k ≡ l = cc in
@@ -114,7 +114,7 @@ module _ (law : ParsesLaw) (ls : List Lexeme) (ts : List Token) (len : ℕ) (sam
   one_verdict f g (misnamed {fault = x} d) (misnamed {fault = y} e) = first_same x y d.program e.program (one_phrase law ts d.program e.program d.derived e.derived) d.first e.first
 
   -- a program is not refused
-  no_verdict : (f : Fault) (p : Phrase) → Derives ts p → too_deep [] ts ≡ false → faults first_scope p ≡ [] → Verdict ls ts len f → ⊥
+  no_verdict : (f : Fault) (p : Phrase) → Derives ts p → too_deep text_open ts ≡ false → faults first_scope p ≡ [] → Verdict ls ts len f → ⊥
   no_verdict f p d h none (stopped {n = m} {l = k} a s) = stops_whole ts m (within m k a) s (derived_fine ts p d h)
   no_verdict f p d h none (ended e) = e.derived_by_none p d
   no_verdict f p d h none (misnamed {fault = x} e) =
@@ -138,7 +138,7 @@ data Reading (text : List ℕ) : Fault → Type 0 where
   whole : {ls : List Lexeme} {fault : Fault} → Lexes text 0 ls Whole → Verdict ls (tokens_in text ls) (length text) fault → Reading text fault
 
 stopped_as : (text : List ℕ) (ls : List Lexeme) (n : ℕ) (l : Lexeme) (b : Bool) → Lexes text 0 ls Whole → slice_get ls n ≡ Some l → Stops (tokens_in text ls) n
-    → too_deep [] (take (n + 1) (tokens_in text ls)) ≡ b → Reading text (record { kind = kind_if b; at = l.at })
+    → too_deep text_open (take (n + 1) (tokens_in text ls)) ≡ b → Reading text (record { kind = kind_if b; at = l.at })
 stopped_as text ls n l b lexed there s e = subst (λ (b : Bool). Reading text (record { kind = kind_if b; at = l.at })) e (whole lexed (stopped there s))
 
 reading_of : (text : List ℕ) (f : Fault) → IsRefused text f → Reading text f

@@ -11,7 +11,7 @@ program_code =
     code_by (List (List ℕ) × Phrase) (coded× (coded_list (coded_list coded_ℕ)) phrase_code) (λ p. (p.words, p.phrase)) (λ p. record { words = p.0; phrase = p.1 }) (λ _. refl)
 
 abbrev pub open_code : Coded Open
-open_code = code_by (Bool × ℕ) (coded× coded_bool coded_ℕ) (λ o. (o.is_case, o.weight)) (λ p. record { is_case = p.0; weight = p.1 }) (λ _. refl)
+open_code = code_by (ℕ × (Bool × (ℕ × Bool))) (coded× coded_ℕ (coded× coded_bool (coded× coded_ℕ coded_bool))) (λ o. (o.weight, (o.counts_boxes, (o.operators, o.may_end)))) (λ p. record { weight = p.0; counts_boxes = p.1.0; operators = p.1.1.0; may_end = p.1.1.1 }) (λ _. refl)
 
 abbrev pub opens_code : Coded (List Open)
 opens_code = coded_list open_code

@@ -1,4 +1,6 @@
 pub mod Codes
 pub mod Depths
-pub mod View
+pub mod Heads
+pub mod Items
 pub mod Reading
+pub mod View

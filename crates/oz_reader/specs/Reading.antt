@@ -1,7 +1,7 @@
 -- What reading a text comes to.
-use Rattle.std.specs.Prelude.{◌≡◌, ℕ, false, List, [], Option, Some, None, Result, Ok, Err}
+use Rattle.std.specs.Prelude.{◌≡◌, ℕ, false, List, Option, Some, None, Result, Ok, Err}
 use Rattle.oz_semantics.specs.Grammar.{Derives}
-use Rattle.oz_semantics.specs.Refusals.{Program, Accepts, IsRefused, too_deep}
+use Rattle.oz_semantics.specs.Refusals.{Program, Accepts, IsRefused, too_deep, text_open}
 use Rattle.oz_semantics.specs.Wording.{words_of, tokens_in}
 use Rattle.oz_semantics.specs.declared.outcome.Fault.{Fault}
 use Rattle.oz_semantics.specs.declared.outcome.RefusalKind.{RefusalKind}
@@ -36,7 +36,7 @@ Refuses text e = Faults (IsOnlyRefused text) e
 pub record IsRead (text : List ℕ) (ls : List Lexeme) (p : Program) : Type 0 where
   pub words : p.words ≡ words_of text ls
   pub derived : Derives (tokens_in text ls) p.phrase
-  pub shallow : too_deep [] (tokens_in text ls) ≡ false
+  pub shallow : too_deep text_open (tokens_in text ls) ≡ false
 
 -- where no token begins, the text is refused
 abbrev pub error_of : LexError → ReadError

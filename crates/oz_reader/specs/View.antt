@@ -1,40 +1,71 @@
 -- The open constructs that the reader's values stand for, and what a step answers.
-use Rattle.std.specs.Prelude.{◌≡◌, ℕ, Bool, true, false, List, [], ◌∷◌, Option, Some, None, Result, Ok, Err}
-use Rattle.oz_semantics.specs.Grammar.{Phrase, int, literal}
+use Rattle.std.specs.Prelude.{◌≡◌, ◌+◌, nat_lt, ℕ, Bool, true, false, List, [], ◌∷◌, Option, Some, None, Result, Ok, Err}
+use Rattle.oz_semantics.specs.Grammar.{Phrase, var, any, int, string, literal, terms_in, terms_limit}
 use Rattle.oz_semantics.specs.declared.kernel.Constant.{Constant}
 use Rattle.oz_semantics.specs.declared.kernel.Constant.TheVariants as constant
+use Rattle.oz_semantics.specs.declared.token.Token.{Token}
+use Rattle.oz_semantics.specs.declared.token.Token.TheVariants.{Var, Any, Int, String, Literal as Lit, Label, OpenParen, OpenBracket}
 use Rattle.oz_syntax.specs.View.{view, views}
 use Rattle.oz_reader.specs.declared.frame.Opener.{Opener as OpenerKept}
 use Rattle.oz_reader.specs.declared.frame.Opener.TheVariants as o
+use Rattle.oz_reader.specs.declared.frame.Maker.{Maker as MakerKept}
+use Rattle.oz_reader.specs.declared.frame.Maker.TheVariants as m
+use Rattle.oz_reader.specs.declared.frame.Kind.{Kind as KindKept}
+use Rattle.oz_reader.specs.declared.frame.Kind.TheVariants as read
 use Rattle.oz_reader.specs.declared.frame.Frame.{Frame as FrameKept}
 use Rattle.oz_reader.specs.declared.frame.Frame.TheVariants as f
+use Rattle.oz_reader.specs.declared.operators.Reduced.{Reduced as ReducedKept}
 use Rattle.oz_reader.specs.declared.error.StepError.{StepError}
 use Rattle.oz_reader.specs.declared.error.StepError.TheVariants as e
-use Rattle.reader_law.specs.Machine.{Opener, program, declaring, of_local, of_proc, of_choice, of_then, of_else, of_clause, of_case_else, Frame, block, have, right, fields, key, parts, heading, head, testing, matching, patterns, accepted, Stack}
+use Rattle.reader_law.specs.Machine.{Opener, program, declaring, of_local, of_proc, of_fun, of_thread, of_choice, of_then, of_else, of_clause, of_case_else, of_try, of_catch, of_paren, Kind, expression, pattern, side, Maker, making_proc, making_fun, Frame, block, whole, left_of, barred, hashed, dotted, accessing, connecting, relating, fields, key, listing, enclosing, parts, heading, heads, raising, testing, matching, patterns, catching, accepted, Stack, Reduced, value, guard, shift_in, kind_of}
 
 abbrev pub opener_of : OpenerKept → Opener
 opener_of o.Program = program
-opener_of o.Declaring = declaring
-opener_of (o.Local ds) = of_local (views ds.items)
-opener_of (o.Proc hs) = of_proc (views hs.items)
-opener_of (o.Choice bs) = of_choice (views bs.items)
-opener_of (o.Then e) = of_then (view e.value)
-opener_of (o.Else e b) = of_else (view e.value) (view b.value)
-opener_of (o.Clause e cs p) = of_clause (view e.value) (views cs.items) (view p.value)
-opener_of (o.CaseElse e cs) = of_case_else (view e.value) (views cs.items)
+opener_of (o.Declaring at) = declaring at
+opener_of (o.Local at ds) = of_local at (views ds.items)
+opener_of (o.Proc at h) = of_proc at (view h.value)
+opener_of (o.Fun at lazy h) = of_fun at lazy (view h.value)
+opener_of (o.Thread at) = of_thread at
+opener_of (o.Choice at w bs) = of_choice at w.states w.values (views bs.items)
+opener_of (o.Then at w xs c) = of_then at w.states w.values (views xs.items) (view c.value)
+opener_of (o.Else at w xs) = of_else at w.states w.values (views xs.items)
+opener_of (o.Clause at c w cs p) = of_clause at (view c.value) w.states w.values (views cs.items) (view p.value)
+opener_of (o.CaseElse at c w cs) = of_case_else at (view c.value) w.states w.values (views cs.items)
+opener_of o.Try = of_try
+opener_of (o.Catch b cs p) = of_catch (view b.value) (views cs.items) (view p.value)
+opener_of (o.Paren at) = of_paren at
+
+abbrev pub maker_of : MakerKept → Maker
+maker_of (m.Proc at) = making_proc at
+maker_of (m.Fun at lazy) = making_fun at lazy
+
+abbrev pub kind_seen : KindKept → Kind
+kind_seen read.Expression = expression
+kind_seen read.Pattern = pattern
+kind_seen read.Side = side
 
 abbrev pub frame_of : FrameKept → Frame
 frame_of (f.Block b) = block (opener_of b.opener) b.declares b.states (views b.declarations.items) (views b.phrases.items)
-frame_of (f.Have p) = have (view p)
-frame_of (f.Right p) = right (view p.value)
+frame_of (f.Whole p w) = whole (view p) w.states w.values
+frame_of (f.Left op a) = left_of op (view a.value)
+frame_of (f.Barred es) = barred (views es.items)
+frame_of (f.Hashed es) = hashed (views es.items)
+frame_of (f.Dotted a) = dotted (view a.value)
+frame_of (f.Accessing at) = accessing at
+frame_of (f.Connecting c a) = connecting c (view a.value)
+frame_of (f.Relating r a) = relating r (view a.value)
 frame_of (f.Fields r) = fields r.in_pattern r.label r.at (views r.phrases.items)
 frame_of (f.Key in_pattern k at) = key in_pattern k at
-frame_of (f.Parts es) = parts (views es.items)
-frame_of f.Heading = heading
-frame_of (f.Head hs) = head (views hs.items)
-frame_of f.Testing = testing
-frame_of f.Matching = matching
-frame_of (f.Patterns e cs) = patterns (view e.value) (views cs.items)
+frame_of (f.Listing l) = listing l.in_pattern l.at (views l.elements.items)
+frame_of (f.Enclosing in_pattern at) = enclosing in_pattern at
+frame_of (f.Parts at es) = parts at (views es.items)
+frame_of (f.Heading k) = heading (maker_of k)
+frame_of (f.Heads k at hs) = heads (maker_of k) at (views hs.items)
+frame_of (f.Raising at) = raising at
+frame_of (f.Testing at w xs) = testing at w.states w.values (views xs.items)
+frame_of (f.Matching at) = matching at
+frame_of (f.Patterns at c w cs) = patterns at (view c.value) w.states w.values (views cs.items)
+frame_of (f.Catching b cs) = catching (view b.value) (views cs.items)
 frame_of (f.Accepted p) = accepted (view p)
 
 -- the newest on top
@@ -71,3 +102,35 @@ abbrev pub key_of : Phrase → Option (Constant × ℕ)
 key_of (int i at) = Some (constant.Int i, at)
 key_of (literal l at) = Some (constant.Literal l, at)
 key_of e = None
+
+-- what begins an expression and a pattern alike
+abbrev pub term_begins : Bool → Token → Stack → Option Stack
+term_begins w (Var name at) k = value (var name at) k
+term_begins w (Any at) k = value (any at) k
+term_begins w (Int i at) k = value (int i at) k
+term_begins w (String s at) k = value (string s at) k
+term_begins w (Lit l at) k = value (literal l at) k
+term_begins w (Label l at) k = Some (fields w l at [] ∷ k)
+term_begins w (OpenParen at) k = Some (enclosing w at ∷ k)
+term_begins w (OpenBracket at) k = Some (listing w at [] ∷ k)
+term_begins w t k = None
+
+-- what is reduced, unless memory runs out
+abbrev pub Reduces : Result ReducedKept StepError → List FrameKept → Reduced → Type 0
+Reduces (Ok r) new next = next ≡ record { phrase = view r.phrase; states = r.states; rest = stack_of new }
+Reduces (Err e.Memory) new next = Unit {0}
+Reduces (Err e.Refused) new next = ⊥
+
+-- the right side of a relation has room for another term
+abbrev pub takes_term : Phrase → Stack → Bool
+takes_term p (relating r a ∷ k) = nat_lt (terms_in a + terms_in p) terms_limit
+takes_term p k = false
+
+-- an operator behind a phrase
+abbrev pub shift : Token → Phrase → Bool → Bool → Stack → Option Stack
+shift t p s e k = guard e (shift_in (kind_of k) t p s k)
+
+-- the program, where one is accepted
+abbrev pub program_of : Frame → Option Phrase
+program_of (accepted p) = Some p
+program_of f = None

@@ -1,7 +1,7 @@
 //! How many constructs are open.
-ghost use Rattle.std.specs.Prelude.{◌≡◌, ◌≤◌, ◌+◌, ◌∷◌, [], nat_lt, OnOk, OnErr, MatchOption};
-ghost use Rattle.oz_semantics.specs.Refusals.{depth_limit, open_with, depth_of, opening, closing, boxing};
-ghost use Rattle.oz_reader.specs.Depths.{open_of, opens_of};
+ghost use Rattle.std.specs.Prelude.{◌≡◌, ◌≤◌, ◌+◌, ◌∷◌, [], suc, nat_lt, OnOk, IfOk, IfSome, IfNone};
+ghost use Rattle.oz_semantics.specs.Refusals.{depth_limit, text_open, open_with, depth_of, opened, innermost, opening, closing, at_operand, at_end, operating, accessing, weighing, boxing, catching};
+ghost use Rattle.oz_reader.specs.Depths.{open_of, opens_of, change_by};
 
 use oz_base::Stack;
 use oz_semantics::Token;
@@ -11,11 +11,137 @@ use std::marker::Model;
 /// A token lies too deep in more open constructs than these.
 const DEPTH_LIMIT: u32 = 200;
 
-/// A construct that is open: whether it is a `case`, and for how many it counts.
-#[derive(Drop)]
+/// A construct that is open.
+#[derive(Clone, Copy, Debug, PartialEq, Eq)]
 struct Open {
-    is_case: bool,
+    /// For how many it counts.
     weight: u32,
+    /// Whether a `[]` in it counts.
+    counts_boxes: bool,
+    /// The operators of the expression that goes on in it.
+    operators: u32,
+    /// An operand stands at the end of that expression.
+    may_end: bool,
+}
+
+/// What a token does in the innermost construct.
+#[derive(Clone, Copy, Debug, PartialEq, Eq)]
+enum Change {
+    /// It is an operand, or begins one that is whole where the construct in it ends.
+    Operand,
+    /// It ends an expression.
+    End,
+    Operate,
+    Access,
+    /// It counts itself.
+    Weigh,
+    Box,
+    Catch,
+}
+
+/// A construct in which nothing is read.
+fn opened(weight: u32, counts_boxes: bool) -> Open
+    ensures { open_of result ≡ opened weight counts_boxes }
+{
+    Open {
+        weight,
+        counts_boxes,
+        operators: 0,
+        may_end: false,
+    }
+}
+
+fn at_operand(construct: Open) -> Open
+    ensures { open_of result ≡ at_operand (open_of construct) }
+{
+    let operators = if construct.may_end {
+        0
+    } else {
+        construct.operators
+    };
+    Open {
+        operators,
+        may_end: true,
+        ..construct
+    }
+}
+
+fn at_end(construct: Open) -> Open
+    ensures { open_of result ≡ at_end (open_of construct) }
+{
+    Open {
+        operators: 0,
+        may_end: false,
+        ..construct
+    }
+}
+
+fn operating(construct: Open) -> Open
+    requires { construct.operators ≤ depth_limit }
+    ensures { open_of result ≡ operating (open_of construct) }
+{
+    Open {
+        operators: construct.operators + 1,
+        may_end: false,
+        ..construct
+    }
+}
+
+fn accessing(construct: Open) -> Open
+    ensures { open_of result ≡ accessing (open_of construct) }
+{
+    if construct.may_end {
+        at_end(construct)
+    } else {
+        construct
+    }
+}
+
+fn weighing(construct: Open) -> Open
+    requires { construct.weight ≤ depth_limit }
+    ensures { open_of result ≡ weighing (open_of construct) }
+{
+    let ended = at_end(construct);
+    Open {
+        weight: construct.weight + 1,
+        ..ended
+    }
+}
+
+fn boxing(construct: Open) -> Open
+    requires { construct.weight ≤ depth_limit }
+    ensures { open_of result ≡ boxing (open_of construct) }
+{
+    if construct.counts_boxes {
+        weighing(construct)
+    } else {
+        at_end(construct)
+    }
+}
+
+fn catching(construct: Open) -> Open
+    ensures { open_of result ≡ catching (open_of construct) }
+{
+    let ended = at_end(construct);
+    Open {
+        counts_boxes: true,
+        ..ended
+    }
+}
+
+fn changed(construct: Open, change: Change) -> Open
+    requires { construct.weight + construct.operators ≤ depth_limit }
+    ensures { open_of result ≡ change_by change (open_of construct) }
+{
+    match change {
+        Change::Operand => at_operand(construct),
+        Change::End => at_end(construct),
+        Change::Operate => operating(construct),
+        Change::Access => accessing(construct),
+        Change::Weigh => weighing(construct),
+        Change::Box => boxing(construct),
+        Change::Catch => catching(construct),
+    }
 }
 
 /// The constructs that are open, with the sum of what they count for.
@@ -39,14 +165,13 @@ impl Model for Depth {
 }
 
 impl Depth {
-    /// Nothing is open.
-    pub fn new(alloc: Global) -> Depth
-        ensures { result ≡ [] }
+    /// Only the text is open.
+    pub fn new(alloc: Global) -> Result<Depth, AllocError>
+        ensures { IfOk result (λ d. d ≡ text_open) }
     {
-        Depth {
-            opens: Stack::new(alloc),
-            sum: 0,
-        }
+        let mut opens = Stack::new(alloc);
+        opens.push(opened(0, false))?;
+        Ok(Depth { opens, sum: 0 })
     }
 
     /// Whether a token at this depth lies too deep.
@@ -63,56 +188,89 @@ impl Depth {
     {
         match token {
             Token::Label { .. }
-            | Token::OpenBrace
-            | Token::Local
-            | Token::Proc
-            | Token::Choice
-            | Token::If
-            | Token::Other { deepens: true } => self.begin(false),
-            Token::Case => self.begin(true),
-            Token::Box => self.go_on(),
-            Token::CloseParen | Token::CloseBrace | Token::End => {
-                self.end();
-                Ok(())
+            | Token::OpenParen { .. }
+            | Token::OpenBracket { .. }
+            | Token::OpenBrace { .. }
+            | Token::Local { .. }
+            | Token::If { .. }
+            | Token::Thread { .. }
+            | Token::Try
+            | Token::Proc { .. }
+            | Token::Fun { .. }
+            | Token::Choice { .. }
+            | Token::Raise { .. } => self.begin(false),
+            Token::Case { .. } => self.begin(true),
+            Token::CloseParen | Token::CloseBracket | Token::CloseBrace | Token::End => self.end(),
+            Token::Infix { .. } | Token::Bar | Token::Hash | Token::Dot => {
+                self.change(Change::Operate)
             }
-            _ => Ok(()),
+            Token::Var { .. }
+            | Token::Any { .. }
+            | Token::Int { .. }
+            | Token::String { .. }
+            | Token::Literal { .. }
+            | Token::Fail { .. }
+            | Token::Dollar => self.change(Change::Operand),
+            Token::At { .. } => self.change(Change::Access),
+            Token::Box => self.change(Change::Box),
+            Token::ElseIf => self.change(Change::Weigh),
+            Token::Catch => self.change(Change::Catch),
+            _ => self.change(Change::End),
         }
+    }
+
+    /// Takes out the innermost construct.
+    fn take_innermost(&mut self) -> Option<Open>
+        ensures some { IfSome result (λ o. self.old ≡ open_of o ∷ self.new) }
+        ensures none { IfNone result (self.old ≡ []) }
+        ensures empty { IfNone result (self.new ≡ []) }
+    {
+        let innermost = self.opens.pop()?;
+        self.sum -= innermost.weight + innermost.operators;
+        Some(innermost)
+    }
+
+    fn put(&mut self, construct: Open) -> Result<(), AllocError>
+        requires { depth_of self.old + (construct.weight + construct.operators) ≤ suc depth_limit }
+        ensures { OnOk result (self.new ≡ open_of construct ∷ self.old) }
+    {
+        self.opens.push(construct)?;
+        self.sum += construct.weight + construct.operators;
+        Ok(())
+    }
+
+    /// The innermost construct goes on.
+    fn change(&mut self, change: Change) -> Result<(), AllocError>
+        requires { depth_of self.old ≤ depth_limit }
+        ensures { OnOk result (self.new ≡ innermost (change_by change) self.old) }
+    {
+        let Some(innermost) = self.take_innermost() else {
+            return Ok(());
+        };
+        self.put(changed(innermost, change))
     }
 
     /// A construct begins.
-    fn begin(&mut self, is_case: bool) -> Result<(), AllocError>
+    #[tactic(auto, using(crate::proofs::DepthLaws::operand_no_deeper))]
+    fn begin(&mut self, counts_boxes: bool) -> Result<(), AllocError>
         requires { depth_of self.old ≤ depth_limit }
-        ensures { OnOk result (self.new ≡ opening is_case self.old) }
+        ensures { OnOk result (self.new ≡ opening counts_boxes self.old) }
     {
-        self.opens.push(Open { is_case, weight: 1 })?;
-        self.sum += 1;
-        Ok(())
+        self.change(Change::Operand)?;
+        self.put(opened(1, counts_boxes))
     }
 
     /// The innermost construct ends.
-    fn end(&mut self)
-        ensures { self.new ≡ closing self.old }
-    {
-        if let Some(innermost) = self.opens.pop() {
-            self.sum -= innermost.weight;
-        }
-    }
-
-    /// A `[]` stands in the innermost construct.
-    fn go_on(&mut self) -> Result<(), AllocError>
+    fn end(&mut self) -> Result<(), AllocError>
         requires { depth_of self.old ≤ depth_limit }
-        ensures { OnOk result (self.new ≡ boxing self.old) }
+        ensures { OnOk result (self.new ≡ closing self.old) }
     {
-        let Some(mut innermost) = self.opens.pop() else {
+        let Some(innermost) = self.take_innermost() else {
             return Ok(());
         };
-        self.sum -= innermost.weight;
-        if innermost.is_case {
-            innermost.weight += 1;
+        match self.opens.top() {
+            Some(_) => Ok(()),
+            None => self.put(at_end(innermost)),
         }
-        let weight = innermost.weight;
-        self.opens.push(innermost)?;
-        self.sum += weight;
-        Ok(())
     }
 }

@@ -59,7 +59,7 @@ fn read_lexemes(alloc: Global, text: &[u8], lexemes: &[Lexeme]) -> Result<Progra
     parses_law();
     let mut words = first_words(alloc)?;
     let mut stack = steps::start(alloc)?;
-    let mut depth = Depth::new(alloc);
+    let mut depth = Depth::new(alloc)?;
     for lexeme in lexemes {
         let token = token_of(&mut words, text, *lexeme)?;
         depth.take(token)?;

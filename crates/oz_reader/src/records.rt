@@ -6,7 +6,8 @@ ghost use Rattle.oz_reader.specs.View.{Steps, stack_of, frame_of, key_of};
 
 use crate::error::StepError;
 use crate::frame::{Fields, Frame};
-use crate::stack::{have, operand_in, pop_fields, push};
+use crate::operands::operand_in;
+use crate::stack::{pop_fields, push, value};
 use oz_semantics::{Constant, Token};
 use oz_syntax::Phrase;
 use std::alloc::Global;
@@ -27,12 +28,9 @@ pub fn next_field(
                 at: inner.at,
                 fields: inner.phrases,
             };
-            have(stack, whole)
+            value(alloc, stack, whole)
         }
-        _ => {
-            let in_pattern = inner.in_pattern;
-            operand_in(alloc, stack, Frame::Fields(inner), in_pattern, next)
-        }
+        _ => operand_in(alloc, stack, Frame::Fields(inner), next),
     }
 }
 
@@ -66,7 +64,7 @@ fn key_of(e: &Phrase) -> Option<(Constant, usize)>
 }
 
 /// An integer or a literal turns out to be a key.
-#[tactic(auto, using(crate::proofs::Views::turn_as))]
+#[tactic(auto, using(crate::proofs::TermLaws::turn_as))]
 fn turn_key(stack: &mut Vec<Frame>, e: Phrase, inner: Fields) -> Result<(), StepError>
     ensures { Steps result stack.new.items (turn_key (view e) inner.in_pattern (frame_of (Frame.Fields inner) ∷ stack_of stack.old.items)) }
 {
@@ -97,7 +95,7 @@ pub fn behind_field(
 }
 
 /// A field with a key ends.
-#[tactic(auto, using(crate::proofs::Views::views_push, crate::proofs::Views::behind_value_none))]
+#[tactic(auto, using(crate::proofs::Views::views_push, crate::proofs::TermLaws::behind_value_none))]
 pub fn behind_value(
     alloc: Global,
     stack: &mut Vec<Frame>,

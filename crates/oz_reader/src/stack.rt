@@ -1,13 +1,12 @@
 //! What is open, the newest last, and what goes onto it.
-ghost use Rattle.std.specs.Prelude.{◌≡◌, ◌∷◌, [], Some, true, false, IfSome, IfNone};
+ghost use Rattle.std.specs.Prelude.{◌≡◌, ◌+◌, ◌∷◌, [], length, Some, true, false, IfSome, IfNone};
 ghost use Rattle.oz_semantics.specs.Grammar.{is_var};
 ghost use Rattle.oz_syntax.specs.View.{view, views};
-ghost use Rattle.reader_law.specs.Machine.{operand, add, add_statement, is_some_item, opened, block, fields, have};
-ghost use Rattle.oz_reader.specs.View.{Steps, is_in_block, is_in_fields, stack_of, opener_of, frame_of};
+ghost use Rattle.reader_law.specs.Machine.{is_some_item, opened, block, whole, may_state, may_value, in_block, kind_by, kind_of, is_alive, had, ends, value};
+ghost use Rattle.oz_reader.specs.View.{Steps, is_in_block, is_in_fields, stack_of, opener_of, frame_of, kind_seen};
 
 use crate::error::StepError;
-use crate::frame::{Block, Fields, Frame, Opener};
-use oz_semantics::{Literal, Token};
+use crate::frame::{Block, Fields, Frame, Kind, Opener, Ways};
 use oz_syntax::Phrase;
 use std::alloc::Global;
 
@@ -23,6 +22,7 @@ pub fn push(stack: &mut Vec<Frame>, frame: Frame) -> Result<(), StepError>
 pub fn pop(stack: &mut Vec<Frame>) -> Option<Frame>
     ensures some { IfSome result (λ f. stack_of stack.old.items ≡ frame_of f ∷ stack_of stack.new.items) }
     ensures none { IfNone result (stack_of stack.old.items ≡ []) }
+    ensures fewer { IfSome result (λ f. length stack.new.items + 1 ≡ length stack.old.items) }
     ensures empty { IfNone result (stack_of stack.new.items ≡ []) }
 {
     stack.pop()
@@ -39,12 +39,6 @@ pub fn is_var(e: &Phrase) -> bool
     ensures { result ≡ is_var (view e.now) }
 {
     matches!(e, Phrase::Var { .. })
-}
-
-pub fn have(stack: &mut Vec<Frame>, phrase: Phrase) -> Result<(), StepError>
-    ensures { Steps result stack.new.items (Some (have (view phrase) ∷ stack_of stack.old.items)) }
-{
-    push(stack, Frame::Have(phrase))
 }
 
 /// A block of which nothing is read.
@@ -65,58 +59,6 @@ pub fn open_block(alloc: Global, stack: &mut Vec<Frame>, opener: Opener) -> Resu
     ensures { Steps result stack.new.items (Some (opened (opener_of opener) (stack_of stack.old.items))) }
 {
     push(stack, Frame::Block(begun(alloc, opener)))
-}
-
-/// A record begins, in a pattern or not.
-pub fn open_fields(alloc: Global, in_pattern: bool, label: Literal, at: usize) -> Frame
-    ensures { frame_of result ≡ fields in_pattern label at [] }
-{
-    Frame::Fields(Fields {
-        in_pattern,
-        label,
-        at,
-        phrases: Vec::new(alloc),
-    })
-}
-
-/// An expression begins, or a pattern.
-pub fn operand(
-    alloc: Global,
-    stack: &mut Vec<Frame>,
-    in_pattern: bool,
-    next: Option<Token>,
-) -> Result<(), StepError>
-    ensures { Steps result stack.new.items (operand in_pattern next (stack_of stack.old.items)) }
-{
-    match next {
-        Some(Token::Var { name, at }) => have(stack, Phrase::Var { name, at }),
-        Some(Token::Any { at }) => {
-            if !in_pattern {
-                return Err(StepError::Refused);
-            }
-            have(stack, Phrase::Any { at })
-        }
-        Some(Token::Int { value, at }) => have(stack, Phrase::Int { value, at }),
-        Some(Token::Literal { literal, at }) => have(stack, Phrase::Literal { literal, at }),
-        Some(Token::Label { literal, at }) => {
-            push(stack, open_fields(alloc, in_pattern, literal, at))
-        }
-        _ => Err(StepError::Refused),
-    }
-}
-
-/// An expression or a pattern begins in a construct, which stays open.
-pub fn operand_in(
-    alloc: Global,
-    stack: &mut Vec<Frame>,
-    frame: Frame,
-    in_pattern: bool,
-    next: Option<Token>,
-) -> Result<(), StepError>
-    ensures { Steps result stack.new.items (operand in_pattern next (frame_of frame ∷ stack_of stack.old.items)) }
-{
-    push(stack, frame)?;
-    operand(alloc, stack, in_pattern, next)
 }
 
 /// Takes the block that is innermost.
@@ -141,30 +83,141 @@ pub fn pop_fields(stack: &mut Vec<Frame>) -> Option<Fields>
     }
 }
 
-/// A phrase ends that may be a declaration, may be a statement.
-#[tactic(auto, using(crate::proofs::Views::views_push, crate::proofs::Views::add_in_none))]
-pub fn add(
-    stack: &mut Vec<Frame>,
-    p: Phrase,
-    declaration: bool,
-    statement: bool,
-) -> Result<(), StepError>
-    ensures { Steps result stack.new.items (add (view p) declaration statement (stack_of stack.old.items)) }
+/// What is innermost, and what is open round it.
+pub fn innermost(stack: &[Frame]) -> Option<(&Frame, &[Frame])>
+    ensures some { IfSome result (λ s. stack_of stack.now ≡ frame_of s.0.now ∷ stack_of s.1.now) }
+    ensures fewer { IfSome result (λ s. length s.1.now + 1 ≡ length stack.now) }
+    ensures none { IfNone result (stack_of stack.now ≡ []) }
 {
-    let Some(mut inner) = pop_block(stack) else {
-        return Err(StepError::Refused);
-    };
-    inner.declares = inner.declares && declaration;
-    inner.states = inner.states && statement;
-    if !inner.declares && !inner.states {
-        return Err(StepError::Refused);
+    let count = stack.len();
+    if count == 0 {
+        return None;
     }
-    inner.phrases.push(p)?;
-    push(stack, Frame::Block(inner))
+    let last = count - 1;
+    Some((&stack[last], &stack[..last]))
 }
 
-pub fn add_statement(stack: &mut Vec<Frame>, p: Phrase) -> Result<(), StepError>
-    ensures { Steps result stack.new.items (add_statement (view p) (stack_of stack.old.items)) }
+/// A statement may begin here.
+pub fn may_state(stack: &[Frame]) -> bool
+    ensures { result ≡ may_state (stack_of stack.now) }
 {
-    add(stack, p, false, true)
+    match innermost(stack) {
+        Some((Frame::Block(inner), _)) => inner.states,
+        _ => false,
+    }
+}
+
+/// A procedure with a name may begin here.
+pub fn in_block(stack: &[Frame]) -> bool
+    ensures { result ≡ in_block (stack_of stack.now) }
+{
+    matches!(innermost(stack), Some((Frame::Block(_), _)))
+}
+
+/// A procedure that is a value may begin here.
+pub fn may_value(stack: &[Frame]) -> bool
+    ensures { result ≡ may_value (stack_of stack.now) }
+{
+    match innermost(stack) {
+        Some((Frame::Block(inner), _)) => inner.states,
+        _ => true,
+    }
+}
+
+fn kind_by(in_pattern: bool) -> Kind
+    ensures { kind_seen result ≡ kind_by in_pattern }
+{
+    if in_pattern {
+        Kind::Pattern
+    } else {
+        Kind::Expression
+    }
+}
+
+/// What may begin here, behind the operators that wait. There are at most as many of those as there are levels.
+pub fn kind_of(stack: &[Frame]) -> Kind
+    ensures { kind_seen result ≡ kind_of (stack_of stack.now) }
+{
+    let Some((frame, outer)) = innermost(stack) else {
+        return Kind::Expression;
+    };
+    match frame {
+        Frame::Left { .. } | Frame::Barred(_) | Frame::Hashed(_) => kind_of(outer),
+        Frame::Fields(inner) => kind_by(inner.in_pattern),
+        Frame::Listing(inner) => kind_by(inner.in_pattern),
+        Frame::Key { in_pattern, .. } => kind_by(*in_pattern),
+        Frame::Enclosing { in_pattern, .. } => kind_by(*in_pattern),
+        Frame::Patterns { .. } | Frame::Catching { .. } => Kind::Pattern,
+        Frame::Relating { .. } => Kind::Side,
+        _ => Kind::Expression,
+    }
+}
+
+/// It is a statement where one may stand, or an expression.
+pub fn is_alive(ways: Ways, stack: &[Frame]) -> bool
+    ensures { result ≡ is_alive ways.states ways.values (stack_of stack.now) }
+{
+    (may_state(stack) && ways.states) || ways.values
+}
+
+/// A phrase is whole, and with it what `.` and `@` wait for.
+pub fn had(
+    alloc: Global,
+    stack: &mut Vec<Frame>,
+    phrase: Phrase,
+    ways: Ways,
+) -> Result<(), StepError>
+    ensures { Steps result stack.new.items (Some (had (view phrase) ways.states ways.values (stack_of stack.old.items))) }
+{
+    match pop(stack) {
+        Some(Frame::Dotted(record)) => {
+            let feature = Box::new(alloc, phrase)?;
+            push_value(stack, Phrase::Select { record, feature })
+        }
+        Some(Frame::Accessing { at }) => {
+            let cell = Box::new(alloc, phrase)?;
+            push_value(stack, Phrase::Access { at, cell })
+        }
+        None => push(stack, Frame::Whole { phrase, ways }),
+        Some(outer) => {
+            push(stack, outer)?;
+            push(stack, Frame::Whole { phrase, ways })
+        }
+    }
+}
+
+fn push_value(stack: &mut Vec<Frame>, phrase: Phrase) -> Result<(), StepError>
+    ensures { Steps result stack.new.items (Some (whole (view phrase) false true ∷ stack_of stack.old.items)) }
+{
+    let ways = Ways {
+        states: false,
+        values: true,
+    };
+    push(stack, Frame::Whole { phrase, ways })
+}
+
+/// A phrase ends, if it may stand here.
+pub fn ends(
+    alloc: Global,
+    stack: &mut Vec<Frame>,
+    phrase: Phrase,
+    ways: Ways,
+) -> Result<(), StepError>
+    ensures { Steps result stack.new.items (ends (view phrase) ways.states ways.values (stack_of stack.old.items)) }
+{
+    if !is_alive(ways, stack.as_slice()) {
+        return Err(StepError::Refused);
+    }
+    had(alloc, stack, phrase, ways)
+}
+
+/// A value ends.
+pub fn value(alloc: Global, stack: &mut Vec<Frame>, phrase: Phrase) -> Result<(), StepError>
+    ensures { Steps result stack.new.items (value (view phrase) (stack_of stack.old.items)) }
+{
+    let ways = Ways {
+        states: false,
+        values: true,
+    };
+    had(alloc, stack, phrase, ways)
 }

@@ -1,5 +1,5 @@
 use super::*;
-use oz_semantics::{Constant, Literal, RefusalKind};
+use oz_semantics::{Constant, Literal, Operator, RefusalKind};
 use oz_syntax::Phrase;
 use std::alloc::{AllocError, Global};
 use std::test::*;
@@ -26,41 +26,19 @@ fn repeat(bytes: &mut Vec<u8>, text: &[u8], count: u32) -> Result<(), AllocError
 }
 
 #[test]
-fn refuses_at_the_first_fault(rt: HostRuntime) {
-    let cases: [(&[u8], RefusalKind, usize); 26] = [
+fn refuses_bytes_and_names(rt: HostRuntime) {
+    let cases: [(&[u8], RefusalKind, usize); 8] = [
         (b"Script=1.5", RefusalKind::Byte, 8),
-        (b"X X ! end", RefusalKind::Byte, 4),
+        (b"X X ? end", RefusalKind::Byte, 4),
         (b"end end /* ", RefusalKind::Byte, 8),
-        (b"proc {Script R} skip", RefusalKind::Syntax, 20),
-        (b"proc {Script R} skip ", RefusalKind::Syntax, 21),
-        (b"Script", RefusalKind::Syntax, 6),
-        (b"Script=", RefusalKind::Syntax, 7),
-        (b"Script=1 1", RefusalKind::Syntax, 10),
-        (b"in skip", RefusalKind::Syntax, 0),
-        (b"skip in skip", RefusalKind::Syntax, 5),
-        (b"{}", RefusalKind::Syntax, 1),
-        (b"{1 Script}", RefusalKind::Syntax, 1),
-        (b"X=1 in skip", RefusalKind::Syntax, 4),
-        (b"X skip", RefusalKind::Syntax, 2),
-        (b"proc {} skip end", RefusalKind::Syntax, 6),
-        (b"local in skip end", RefusalKind::Syntax, 6),
-        (b"skip [] skip", RefusalKind::Syntax, 5),
-        (b"skip end", RefusalKind::Syntax, 5),
-        (b"Script=f(Script=1)", RefusalKind::Syntax, 15),
-        (
-            b"Script=170141183460469231731687303715884105728",
-            RefusalKind::Syntax,
-            7,
-        ),
-        (b"thread Script end", RefusalKind::Syntax, 0),
         (b"X=1", RefusalKind::Unbound, 0),
         (b"X in X=Y", RefusalKind::Unbound, 7),
-        (b"local X in skip end X=1", RefusalKind::Unbound, 20),
         (b"proc {Script X X} skip end", RefusalKind::Linear, 15),
+        (b"Script=f(a:1 a:2)", RefusalKind::Linear, 13),
         (
-            b"proc {Script X} Y=X end proc {Script Y Y} skip end",
-            RefusalKind::Unbound,
-            16,
+            b"case Script of f(X X) then skip end",
+            RefusalKind::Linear,
+            19,
         ),
     ];
     for (text, kind, at) in cases {
@@ -73,34 +51,127 @@ fn refuses_at_the_first_fault(rt: HostRuntime) {
 }
 
 #[test]
+fn refuses_the_first_token_out_of_place(rt: HostRuntime) {
+    let cases: [(&[u8], usize); 35] = [
+        (b"proc {Script R} skip", 20),
+        (b"Script", 6),
+        (b"Script=", 7),
+        (b"Script=1 1", 10),
+        (b"in skip", 0),
+        (b"skip in skip", 5),
+        (b"{}", 1),
+        (b"X skip", 2),
+        (b"proc {} skip end", 6),
+        (b"local in skip end", 6),
+        (b"skip [] skip", 5),
+        (b"Script=170141183460469231731687303715884105728", 7),
+        (b"thread Script end", 17),
+        (b"Script=1==2==3", 11),
+        (b"Script==1|2", 11),
+        (b"Script|1::2", 8),
+        (b"Script=:2*3", 10),
+        (b"Script=:Script*2*3", 16),
+        (b"Script=:(1)", 8),
+        (b"Script=2147483649 Script=:2147483649", 26),
+        (b"Script=[]", 7),
+        (b"case Script of X+1 then skip end", 16),
+        (b"(Script)", 8),
+        (b"try skip end", 9),
+        (b"proc {$ X} skip end", 19),
+        (b"fun {Script} skip end", 18),
+        (b"proc {Script} 1 end", 16),
+        (b"if Script then skip elseif 1 then 2 end", 36),
+        (b"Script=if Script then 1 end", 24),
+        (b"choice 1 [] skip end", 17),
+        (b"Script=f(f():1)", 12),
+        (b"Script=f(a:1:2)", 12),
+        (b"Script=a.b.(1).2=3", 16),
+        (b"Script@Script=1", 6),
+        (b"case Script of end", 15),
+    ];
+    for (text, at) in cases {
+        assert_eq!(rt;
+            fault_of(rt.alloc(), text),
+            Some((RefusalKind::Syntax, at)),
+            "at {at}"
+        );
+    }
+}
+
+#[test]
 fn accepts_programs(rt: HostRuntime) {
-    let cases: [&[u8]; 13] = [
+    let cases: [&[u8]; 32] = [
         b"",
         b" % nothing\n",
         b"skip fail",
         b"local X in X=f(a 1 ~2 g()) end",
         b"proc {P X} X=1 end in {P 1}",
-        b"X Y in X=Y",
-        b"X proc {P} skip end in {P X 1 a f(X)}",
         b"proc {Script R} choice R=a [] R=true [] X in X=R end end",
-        b"choice end",
-        b"local X in Y in X=Y end",
-        b"Script=~170141183460469231731687303715884105728",
-        b"1=1 a=a f()=f()",
-        b"proc {Script Script} Script=1 end",
+        b"{1 Script}",
+        b"X=1 in skip",
+        b"Script=1|2==3",
+        b"1+2*3|4=Script",
+        b"Script::1#2",
+        b"Script=:2*Script+1",
+        b"Script.a=:1",
+        b"Script+1=:Script.b-2",
+        b"Script=f(a#b|c [1 2] \"x\" @Script Script.a.1 {Script 1})",
+        b"Script=f(_)",
+        b"case Script of [X _]|Y#f(a:Z) then {Script X Y Z} end",
+        b"(skip) (Script)=1",
+        b"(Script=1 skip)",
+        b"raise Script end",
+        b"try skip catch X then {Script X} [] _ then skip end",
+        b"fun {Script X} X+1 end",
+        b"fun lazy {Script X} X end",
+        b"Script=fun {$ X} X end",
+        b"Script=proc {$ X} skip end",
+        b"if Script then skip elseif 1 then skip else skip end",
+        b"Script=if Script then 1 else 2 end",
+        b"Script:=@Script",
+        b"Script=thread 1 end",
+        b"Script=choice 1 [] skip 2 end",
+        b"Script=local X in X end",
+        b"@Script=1",
     ];
     for (at, text) in cases.iter().enumerate() {
         assert!(rt; is_accepted(rt.alloc(), text), "text {at}");
     }
 }
 
-// The parts of `X=l(..)`: the variable, where it stands, the label and the number of fields.
-fn record_equation(phrase: &Phrase) -> Option<(u32, usize, Literal, usize)> {
+// The right side of the equation that a program is.
+fn right_side(program: &Phrase) -> Option<&Phrase> {
+    match program {
+        Phrase::Body { phrases, .. } => match phrases.first() {
+            Some(Phrase::Connected { right, .. }) => Some(&**right),
+            _ => None,
+        },
+        _ => None,
+    }
+}
+
+// The operators of `a op (b op c)` and of `(a op b) op c`, the outer one first.
+fn operators_of(phrase: &Phrase) -> Option<(Operator, Operator)> {
     match phrase {
-        Phrase::Equal { left, right } => match (&**left, &**right) {
-            (Phrase::Var { name, at }, Phrase::Record { label, fields, .. }) => {
-                Some((*name, *at, *label, fields.len()))
-            }
+        Phrase::Binary {
+            operator,
+            left,
+            right,
+        } => match (&**left, &**right) {
+            (
+                _,
+                Phrase::Binary {
+                    operator: inner,
+                    ..
+                },
+            ) => Some((*operator, *inner)),
+            (
+                Phrase::Binary {
+                    operator: inner,
+                    ..
+                },
+                _,
+            ) => Some((*operator, *inner)),
             _ => None,
         },
         _ => None,
@@ -108,29 +179,47 @@ fn record_equation(phrase: &Phrase) -> Option<(u32, usize, Literal, usize)> {
 }
 
 #[test]
-fn a_phrase_says_what_the_text_says(rt: HostRuntime) -> Result<(), Fail> {
-    let program = read_program(rt.alloc(), b"X in X=f(a f ~2)")
-        .ok()
-        .ok_or("a program")?;
-    let (words, phrase) = program.into_parts();
-    let expected: [&[u8]; 5] = [b"Script", b"Show", b"X", b"f", b"a"];
-    for (number, word) in expected.iter().enumerate() {
-        assert_eq!(rt; words.text(number as u32), Some(*word));
+fn operators_group(rt: HostRuntime) {
+    let cases: [(&[u8], Operator, Operator); 4] = [
+        (b"Script=1+2*3", Operator::Plus, Operator::Times),
+        (b"Script=1*2-3", Operator::Minus, Operator::Times),
+        (b"Script=1-2+3", Operator::Plus, Operator::Minus),
+        (
+            b"Script=1 orelse 2 andthen 3",
+            Operator::OrElse,
+            Operator::AndThen,
+        ),
+    ];
+    for (text, outer, inner) in cases {
+        let found = match read_program(rt.alloc(), text) {
+            Ok(program) => right_side(program.phrase()).and_then(operators_of),
+            Err(_) => None,
+        };
+        assert_eq!(rt; found, Some((outer, inner)));
     }
-    assert_eq!(rt; words.len(), 5);
-    match &phrase {
-        Phrase::Body {
-            declarations,
-            statements,
-        } => {
-            assert_eq!(rt; declarations.len(), 1);
-            assert_eq!(rt; statements.len(), 1);
-            let found = statements.iter().next().and_then(record_equation);
-            assert_eq!(rt; found, Some((2, 5, Literal::Atom(3), 3)));
-        }
-        _ => assert!(rt; false),
+}
+
+// The key of a record's first field, where it stands, and where its value stands.
+fn first_key(phrase: &Phrase) -> Option<(Literal, Constant, usize, usize)> {
+    match phrase {
+        Phrase::Record { label, fields, .. } => match fields.first() {
+            Some(Phrase::Keyed { key, at, value }) => match &**value {
+                Phrase::Var { at: place, .. } => Some((*label, *key, *at, *place)),
+                _ => None,
+            },
+            _ => None,
+        },
+        _ => None,
     }
-    Ok(())
+}
+
+#[test]
+fn keys_have_places(rt: HostRuntime) {
+    let found = match read_program(rt.alloc(), b"1=true(7:Script)") {
+        Ok(program) => right_side(program.phrase()).and_then(first_key),
+        Err(_) => None,
+    };
+    assert_eq!(rt; found, Some((Literal::True, Constant::Int(7), 7, 9)));
 }
 
 #[test]
@@ -142,185 +231,15 @@ fn constructs_may_be_200_deep(rt: HostRuntime) -> Result<(), Fail> {
         fault_of(rt.alloc(), &text),
         Some((RefusalKind::Syntax, 407))
     );
-    repeat(&mut text, b")", 200)?;
-    assert!(rt; is_accepted(rt.alloc(), &text));
-
-    let mut text = Vec::new(rt.alloc());
-    repeat(&mut text, b"Script=", 1)?;
-    repeat(&mut text, b"f(", 201)?;
+    repeat(&mut text, b"(", 1)?;
     assert_eq!(rt; fault_of(rt.alloc(), &text), Some((RefusalKind::Deep, 407)));
 
-    // a token that is too deep and out of place is too deep
     let mut text = Vec::new(rt.alloc());
-    repeat(&mut text, b"Script=", 1)?;
-    repeat(&mut text, b"f(", 200)?;
-    repeat(&mut text, b"{", 1)?;
-    assert_eq!(rt; fault_of(rt.alloc(), &text), Some((RefusalKind::Deep, 407)));
-    Ok(())
-}
-
-#[test]
-fn refuses_unfinished_tests_and_matches(rt: HostRuntime) {
-    let cases: [(&[u8], RefusalKind, usize); 12] = [
-        (b"if Script then", RefusalKind::Syntax, 14),
-        (b"case Script of", RefusalKind::Syntax, 14),
-        (b"case Script of _ then", RefusalKind::Syntax, 21),
-        (b"case Script of end", RefusalKind::Syntax, 15),
-        (b"if Script skip end", RefusalKind::Syntax, 10),
-        (b"if then skip end", RefusalKind::Syntax, 3),
-        (b"case Script of _ skip end", RefusalKind::Syntax, 17),
-        (
-            b"case Script of _ then skip [] end",
-            RefusalKind::Syntax,
-            30,
-        ),
-        (
-            b"if Script then skip else skip else skip end",
-            RefusalKind::Syntax,
-            30,
-        ),
-        (b"if Script then skip [] skip end", RefusalKind::Syntax, 20),
-        (
-            b"case Script of _ then skip else skip [] _ then skip end",
-            RefusalKind::Syntax,
-            37,
-        ),
-        (b"choice skip else skip end", RefusalKind::Syntax, 12),
-    ];
-    for (text, kind, at) in cases {
-        assert_eq!(rt;
-            fault_of(rt.alloc(), text),
-            Some((kind, at)),
-            "of {kind:?} at {at}"
-        );
-    }
-}
-
-#[test]
-fn refuses_keys_and_underscores_out_of_place(rt: HostRuntime) {
-    let cases: [(&[u8], RefusalKind, usize); 9] = [
-        (b"Script=_", RefusalKind::Syntax, 7),
-        (b"Script=f(_)", RefusalKind::Syntax, 9),
-        (b"case _ of X then skip end", RefusalKind::Syntax, 5),
-        (b"Script=f(Script:1)", RefusalKind::Syntax, 15),
-        (b"Script=f(a:1:2)", RefusalKind::Syntax, 12),
-        (b"Script=f(a:)", RefusalKind::Syntax, 11),
-        (b"Script=f(g():1)", RefusalKind::Syntax, 12),
-        (b"Script=a:1", RefusalKind::Syntax, 8),
-        (b"{Script a:1}", RefusalKind::Syntax, 9),
-    ];
-    for (text, kind, at) in cases {
-        assert_eq!(rt;
-            fault_of(rt.alloc(), text),
-            Some((kind, at)),
-            "of {kind:?} at {at}"
-        );
-    }
-}
-
-#[test]
-fn refuses_names_of_tests_and_matches(rt: HostRuntime) {
-    let cases: [(&[u8], RefusalKind, usize); 7] = [
-        (b"if X then skip end", RefusalKind::Unbound, 3),
-        (b"case Script of X then Y=X end", RefusalKind::Unbound, 22),
-        (
-            b"case Script of X then skip [] Y then X=1 end",
-            RefusalKind::Unbound,
-            37,
-        ),
-        (
-            b"case Script of f(X X) then skip end",
-            RefusalKind::Linear,
-            19,
-        ),
-        (b"Script=f(a:1 a:2)", RefusalKind::Linear, 13),
-        (b"Script=f(Script 1:2)", RefusalKind::Linear, 16),
-        (b"Script=f(2 1 a:X true:X 1:2)", RefusalKind::Unbound, 15),
-    ];
-    for (text, kind, at) in cases {
-        assert_eq!(rt;
-            fault_of(rt.alloc(), text),
-            Some((kind, at)),
-            "of {kind:?} at {at}"
-        );
-    }
-}
-
-#[test]
-fn accepts_tests_and_matches(rt: HostRuntime) {
-    let cases: [&[u8]; 8] = [
-        b"if Script then skip end",
-        b"if 1 then skip else fail end",
-        b"case Script of _ then skip end",
-        b"case Script of X then X=1 [] f(a:X 2:_ g(Y)) then Y=X else skip end",
-        b"Script=f(a:1 true:2 3:g(1:1) unit)",
-        b"case f(Script) of 1 then X in X=1 end",
-        b"{Show Script}",
-        b"case Script of f(X) then if X then skip else case X of _ then fail end end end",
-    ];
-    for (at, text) in cases.iter().enumerate() {
-        assert!(rt; is_accepted(rt.alloc(), text), "text {at}");
-    }
-}
-
-// The key of a field, where it stands, and where its value stands.
-fn key_of(field: &Phrase) -> Option<(Constant, usize, usize)> {
-    match field {
-        Phrase::Keyed { key, at, value } => match &**value {
-            Phrase::Var { at: place, .. } => Some((*key, *at, *place)),
-            _ => None,
-        },
-        _ => None,
-    }
-}
-
-// The first field of `e=l(..)`.
-fn first_field(phrase: &Phrase) -> Option<&Phrase> {
-    match phrase {
-        Phrase::Equal { right, .. } => match &**right {
-            Phrase::Record { fields, .. } => fields.first(),
-            _ => None,
-        },
-        _ => None,
-    }
-}
-
-#[test]
-fn keys_have_places(rt: HostRuntime) -> Result<(), Fail> {
-    let program = read_program(rt.alloc(), b"1=f(7:Script)")
-        .ok()
-        .ok_or("a program")?;
-    match program.phrase() {
-        Phrase::Body { statements, .. } => {
-            let found = statements.first().and_then(first_field).and_then(key_of);
-            assert_eq!(rt; found, Some((Constant::Int(7), 4, 6)));
-        }
-        _ => assert!(rt; false),
-    }
-    Ok(())
-}
-
-#[test]
-fn clauses_deepen_and_alternatives_do_not(rt: HostRuntime) -> Result<(), Fail> {
-    let mut text = Vec::new(rt.alloc());
-    repeat(&mut text, b"case Script of _ then skip", 1)?;
-    repeat(&mut text, b" [] _ then skip", 199)?;
-    repeat(&mut text, b" end", 1)?;
+    repeat(&mut text, b"Script=1", 1)?;
+    repeat(&mut text, b"+1", 200)?;
     assert!(rt; is_accepted(rt.alloc(), &text));
-
-    let mut text = Vec::new(rt.alloc());
-    repeat(&mut text, b"case Script of _ then skip", 1)?;
-    repeat(&mut text, b" [] _ then skip", 200)?;
-    assert_eq!(rt;
-        fault_of(rt.alloc(), &text),
-        Some((RefusalKind::Deep, 3012))
-    );
-
-    let mut text = Vec::new(rt.alloc());
-    repeat(&mut text, b"choice skip", 1)?;
-    repeat(&mut text, b" [] skip", 300)?;
-    repeat(&mut text, b" end", 1)?;
-    assert!(rt; is_accepted(rt.alloc(), &text));
+    repeat(&mut text, b"+", 1)?;
+    assert_eq!(rt; fault_of(rt.alloc(), &text), Some((RefusalKind::Deep, 408)));
     Ok(())
 }
 
@@ -328,11 +247,11 @@ fn clauses_deepen_and_alternatives_do_not(rt: HostRuntime) -> Result<(), Fail> {
 fn long_texts_take_little_time(rt: HostRuntime) -> Result<(), Fail> {
     let mut text = Vec::new(rt.alloc());
     repeat(&mut text, b"X in ", 1)?;
-    repeat(&mut text, b"X=1 ", 250_000)?;
+    repeat(&mut text, b"X=1 ", 50_000)?;
     assert!(rt; is_accepted(rt.alloc(), &text));
 
     let mut text = Vec::new(rt.alloc());
-    for _ in 0..700 {
+    for _ in 0..140 {
         repeat(&mut text, b"local X in ", 100)?;
         repeat(&mut text, b"end ", 100)?;
     }
@@ -340,7 +259,7 @@ fn long_texts_take_little_time(rt: HostRuntime) -> Result<(), Fail> {
 
     let mut text = Vec::new(rt.alloc());
     repeat(&mut text, b"Script=f(", 1)?;
-    repeat(&mut text, b"a ", 500_000)?;
+    repeat(&mut text, b"a ", 100_000)?;
     repeat(&mut text, b")", 1)?;
     assert!(rt; is_accepted(rt.alloc(), &text));
     Ok(())

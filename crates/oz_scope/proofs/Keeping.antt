@@ -1,13 +1,12 @@
 -- The fault that is kept decides.
-use Rattle.std.proofs.Common.{◌≡◌, ℕ, ◌<◌, ◌+◌, ◌&&◌, ◌||◌, ◌==◌, nat_lt, nat_eq, Bool, true, false, cond, if◌then◌else◌, List, [], ◌∷◌, ◌++◌, Option, Some, None, refl, ap, sym, ◌∙◌, arith, length, drop, get_or, drop-cons, add-one}
+use Rattle.std.proofs.Common.{◌≡◌, ℕ, ◌<◌, ◌+◌, ◌&&◌, ◌||◌, ◌==◌, nat_lt, Bool, true, false, if◌then◌else◌, List, [], ◌∷◌, ◌++◌, Option, Some, None, refl, ap, sym, ◌∙◌, arith, length, drop, get_or, drop-cons, add-one}
 use Rattle.std.proofs.Common.{Result, Ok, Err}
 use Rattle.std.specs.Result.{OnOk}
 use Rattle.std.proofs.lemmas.Bool.Decides.{nat_tests}
 use Rattle.oz_semantics.specs.Grammar.{of_list}
 use Rattle.oz_syntax.specs.declared.phrase.Phrase.{Phrase as Tree}
 use Rattle.oz_syntax.specs.View.{view, views}
-use Rattle.oz_semantics.specs.Refusals.{faults, faults_each, comes_before, is_unbound, unbound_kind, sooner, first_of}
-use Rattle.oz_semantics.specs.declared.outcome.RefusalKind.{RefusalKind}
+use Rattle.oz_semantics.specs.Refusals.{faults, faults_each, comes_before, is_unbound, sooner, first_of}
 use Rattle.oz_semantics.specs.declared.outcome.Fault.{Fault}
 use Rattle.oz_scope.specs.Keeps.{keep, kept}
 

@@ -1,7 +1,7 @@
 -- Whether two features are one is an equivalence, and equal features are fed to a hasher alike.
-use Rattle.std.specs.Prelude.{ℕ, ℤ, pos, ◌≡◌, Bool, true, false}
+use Rattle.std.specs.Prelude.{ℕ, ℤ, pos, ◌≡◌, true}
 use Rattle.std.specs.Cmp.{IsEquivalence, both_ways}
-use Rattle.std.proofs.Common.{refl, ap, sym, ◌∙◌, subst, true≢false}
+use Rattle.std.proofs.Common.{refl, ap, sym, subst, true≢false}
 use Rattle.std.proofs.lemmas.Bool.Decides.{Decides-int_eq, Decides-eqb}
 use Rattle.std.proofs.lemmas.Cmp.{int_eq_equiv, nat_eq_equiv}
 use Rattle.std.specs.Hash as fed

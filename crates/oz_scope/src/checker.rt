@@ -1,24 +1,34 @@
 //! The scope of each name of a phrase.
 ghost use Rattle.std.specs.Prelude.{◌≡◌, ◌++◌, [], None, IfOk, OnOk};
 ghost use Rattle.oz_semantics.specs.Grammar.{of_list};
-ghost use Rattle.oz_semantics.specs.Refusals.{use_faults, faults, faults_each, head_faults, name_faults, feature_faults, variables_in, variables_in_each, with_names, declaring, parameters, first_scope, first_of};
+ghost use Rattle.oz_semantics.specs.Refusals.{use_faults, faults, faults_each, name_faults, feature_faults, variables_in, variables_in_each, parameters_in, with_names, declaring, first_scope, first_of};
 ghost use Rattle.oz_syntax.specs.View.{view, views};
-ghost use Rattle.oz_scope.specs.Declares.{scope_in};
+ghost use Rattle.oz_scope.specs.Declares.{head_faults, scope_in};
 ghost use Rattle.oz_scope.specs.Keeps.{kept};
 
 use crate::features::meet_repeated_features;
 use crate::found::Found;
-use crate::names::{add_variables, add_variables_of_each, declare, enter, meet_repeated_names};
+use crate::names::{
+    add_parameters, add_variables, add_variables_of_each, declare, enter, meet_repeated_names,
+};
 use oz_base::Tally;
 use oz_semantics::{Fault, RefusalKind};
 use oz_syntax::Phrase;
 use std::alloc::{AllocError, Global};
 
-/// The name `Script`, which is always in scope.
-const SCRIPT: u32 = 0;
+/// So many names are always in scope: those with the least numbers.
+const FIRST_NAMES: u32 = 22;
 
-/// The name `Show`, which is always in scope.
-const SHOW: u32 = 1;
+/// The names that every text has.
+fn first_names(alloc: Global) -> Result<Tally, AllocError>
+    ensures { IfOk result (λ scope. scope ≡ first_scope) }
+{
+    let mut scope = Tally::new(alloc);
+    'names: for count in 0..FIRST_NAMES {
+        scope.push(FIRST_NAMES - 1 - count)?;
+    }
+    Ok(scope)
+}
 
 /// Goes through a phrase with the names in scope, and keeps the fault that decides. Once memory is wanting, its scope means
 /// nothing.
@@ -37,12 +47,9 @@ impl Checker {
         ensures scope { IfOk result (λ c. c.scope ≡ first_scope) }
         ensures found { IfOk result (λ c. c.found ≡ None) }
     {
-        let mut scope = Tally::new(alloc);
-        scope.push(SHOW)?;
-        scope.push(SCRIPT)?;
         Ok(Checker {
             alloc,
-            scope,
+            scope: first_names(alloc)?,
             seen: Tally::new(alloc),
             found: Found::new(),
         })
@@ -60,6 +67,45 @@ impl Checker {
             kind: RefusalKind::Unbound,
             at,
         });
+    }
+
+    /// The features of a record's fields, of which each stands once.
+    fn features(&mut self, fields: &[Phrase]) -> Result<(), AllocError>
+        ensures found { OnOk result (self.new.found ≡ kept (feature_faults (of_list (views fields.now))) self.old.found) }
+        ensures scope { self.new.scope ≡ self.old.scope }
+    {
+        meet_repeated_features(self.alloc, &mut self.found, fields)
+    }
+
+    /// The parameters of a head, of which each stands once.
+    fn parameters(&mut self, parameters: &[Phrase]) -> Result<(), AllocError>
+        ensures found { OnOk result (self.new.found ≡ kept (name_faults (variables_in_each (of_list (views parameters.now)))) self.old.found) }
+        ensures scope { OnOk result (self.new.scope ≡ self.old.scope) }
+    {
+        let mut variables = Vec::new(self.alloc);
+        add_variables_of_each(&mut variables, parameters)?;
+        meet_repeated_names(&mut self.found, &mut self.seen, &variables)
+    }
+
+    /// The parameters of a head, which are in scope behind it.
+    fn enter_parameters(&mut self, head: &Phrase) -> Result<(), AllocError>
+        ensures found { OnOk result (self.new.found ≡ self.old.found) }
+        ensures scope { OnOk result (self.new.scope ≡ with_names (parameters_in (view head.now)) self.old.scope) }
+    {
+        let mut parameters = Vec::new(self.alloc);
+        add_parameters(&mut parameters, head)?;
+        enter(&mut self.scope, &parameters)
+    }
+
+    /// The variables of a pattern, of which each stands once, and which are in scope behind it.
+    fn pattern(&mut self, pattern: &Phrase) -> Result<(), AllocError>
+        ensures found { OnOk result (self.new.found ≡ kept (name_faults (variables_in (view pattern.now))) self.old.found) }
+        ensures scope { OnOk result (self.new.scope ≡ with_names (variables_in (view pattern.now)) self.old.scope) }
+    {
+        let mut variables = Vec::new(self.alloc);
+        add_variables(&mut variables, pattern)?;
+        meet_repeated_names(&mut self.found, &mut self.seen, &variables)?;
+        enter(&mut self.scope, &variables)
     }
 
     /// A phrase, behind which the scope is as before.
@@ -87,44 +133,73 @@ impl Checker {
                 self.variable(*name, *at);
                 Ok(())
             }
-            Phrase::Any { .. } => Ok(()),
-            Phrase::Int { .. } => Ok(()),
-            Phrase::Literal { .. } => Ok(()),
             Phrase::Record { fields, .. } => {
                 self.features(fields)?;
                 self.each(fields)
             }
             Phrase::Keyed { value, .. } => self.phrase(value),
-            Phrase::Skip => Ok(()),
-            Phrase::Fail => Ok(()),
-            Phrase::Equal { left, right } => {
+            Phrase::List { elements, .. } => self.each(elements),
+            Phrase::Paren { inner, .. } => self.each(inner),
+            Phrase::Binary { left, right, .. } => {
                 self.phrase(left)?;
                 self.phrase(right)
             }
-            Phrase::Call { parts } => self.each(parts),
-            Phrase::Proc { head, body } => {
-                self.head(head)?;
+            Phrase::Bars { elements } => self.each(elements),
+            Phrase::Hashes { elements } => self.each(elements),
+            Phrase::Select { record, feature } => {
+                self.phrase(record)?;
+                self.phrase(feature)
+            }
+            Phrase::Access { cell, .. } => self.phrase(cell),
+            Phrase::Raise { value, .. } => self.phrase(value),
+            Phrase::Connected { left, right, .. } => {
+                self.phrase(left)?;
+                self.phrase(right)
+            }
+            Phrase::Relate { left, right, .. } => {
+                self.phrase(left)?;
+                self.phrase(right)
+            }
+            Phrase::Call { parts, .. } => self.each(parts),
+            Phrase::Head { names, .. } => self.head(names),
+            Phrase::Proc { head, body, .. } => {
+                self.phrase(head)?;
+                self.enter_parameters(head)?;
                 self.phrase(body)
             }
-            Phrase::Local { declarations, body } => {
+            Phrase::Fun { head, body, .. } => {
+                self.phrase(head)?;
+                self.enter_parameters(head)?;
+                self.phrase(body)
+            }
+            Phrase::Local {
+                declarations,
+                body,
+                ..
+            } => {
                 self.declarations(declarations)?;
                 self.phrase(body)
             }
-            Phrase::Choice { alternatives } => self.each(alternatives),
-            Phrase::When { condition, body } => {
+            Phrase::Thread { body, .. } => self.phrase(body),
+            Phrase::Choice { alternatives, .. } => self.each(alternatives),
+            Phrase::When { arms, .. } => self.each(arms),
+            Phrase::Choose {
+                arms,
+                otherwise,
+                ..
+            } => {
+                self.each(arms)?;
+                self.phrase(otherwise)
+            }
+            Phrase::Arm { condition, body } => {
                 self.phrase(condition)?;
                 self.phrase(body)
             }
-            Phrase::Choose {
-                condition,
-                body,
-                otherwise,
+            Phrase::Cases {
+                subject,
+                clauses,
+                ..
             } => {
-                self.phrase(condition)?;
-                self.phrase(body)?;
-                self.phrase(otherwise)
-            }
-            Phrase::Cases { subject, clauses } => {
                 self.phrase(subject)?;
                 self.each(clauses)
             }
@@ -132,6 +207,7 @@ impl Checker {
                 subject,
                 clauses,
                 otherwise,
+                ..
             } => {
                 self.phrase(subject)?;
                 self.each(clauses)?;
@@ -142,13 +218,24 @@ impl Checker {
                 self.phrase(pattern)?;
                 self.phrase(body)
             }
+            Phrase::Try { body, clauses } => {
+                self.phrase(body)?;
+                self.each(clauses)
+            }
             Phrase::Body {
                 declarations,
-                statements,
+                phrases,
             } => {
                 self.declarations(declarations)?;
-                self.each(statements)
+                self.each(phrases)
             }
+            Phrase::Any { .. }
+            | Phrase::Int { .. }
+            | Phrase::String { .. }
+            | Phrase::Literal { .. }
+            | Phrase::Skip
+            | Phrase::Fail { .. }
+            | Phrase::Dollar => Ok(()),
         }
     }
 
@@ -165,44 +252,14 @@ impl Checker {
         Ok(())
     }
 
-    /// The features of a record's fields, of which each stands once.
-    fn features(&mut self, fields: &[Phrase]) -> Result<(), AllocError>
-        ensures found { OnOk result (self.new.found ≡ kept (feature_faults (of_list (views fields.now))) self.old.found) }
-        ensures scope { self.new.scope ≡ self.old.scope }
-    {
-        meet_repeated_features(self.alloc, &mut self.found, fields)
-    }
-
-    /// Parameters, which are in scope behind it.
-    fn parameters(&mut self, parameters: &[Phrase]) -> Result<(), AllocError>
-        ensures found { OnOk result (self.new.found ≡ kept (name_faults (variables_in_each (of_list (views parameters.now)))) self.old.found) }
-        ensures scope { OnOk result (self.new.scope ≡ declaring (of_list (views parameters.now)) self.old.scope) }
-    {
-        let mut variables = Vec::new(self.alloc);
-        add_variables_of_each(&mut variables, parameters)?;
-        meet_repeated_names(&mut self.found, &mut self.seen, &variables)?;
-        declare(&mut self.scope, parameters)
-    }
-
-    /// The variables of a pattern, which are in scope behind it.
-    fn pattern(&mut self, pattern: &Phrase) -> Result<(), AllocError>
-        ensures found { OnOk result (self.new.found ≡ kept (name_faults (variables_in (view pattern.now))) self.old.found) }
-        ensures scope { OnOk result (self.new.scope ≡ with_names (variables_in (view pattern.now)) self.old.scope) }
-    {
-        let mut variables = Vec::new(self.alloc);
-        add_variables(&mut variables, pattern)?;
-        meet_repeated_names(&mut self.found, &mut self.seen, &variables)?;
-        enter(&mut self.scope, &variables)
-    }
-
-    /// The head of a procedure; behind it its parameters are in scope.
+    /// The head of a procedure: its name, which is used, and its parameters.
     #[cycle(phrases)]
     #[tactic(auto, using(crate::proofs::Keeping::kept_append))]
-    fn head(&mut self, head: &[Phrase]) -> Result<(), AllocError>
-        ensures found { OnOk result (self.new.found ≡ kept (head_faults self.old.scope (of_list (views head.now))) self.old.found) }
-        ensures scope { OnOk result (self.new.scope ≡ parameters (of_list (views head.now)) self.old.scope) }
+    fn head(&mut self, names: &[Phrase]) -> Result<(), AllocError>
+        ensures found { OnOk result (self.new.found ≡ kept (head_faults self.old.scope (of_list (views names.now))) self.old.found) }
+        ensures scope { OnOk result (self.new.scope ≡ self.old.scope) }
     {
-        match head.split_first() {
+        match names.split_first() {
             None => Ok(()),
             Some((name, parameters)) => {
                 self.phrase(name)?;

@@ -5,7 +5,7 @@ ghost use Rattle.std.specs.Cmp.{partial_equiv_from_equiv};
 ghost use Rattle.std.specs.Hash as fed;
 ghost use Rattle.indexmap.specs.IndexSet.{insert_key};
 ghost use Rattle.oz_semantics.specs.Grammar.{Phrases, more, of_list};
-ghost use Rattle.oz_semantics.specs.Refusals.{features, feature_faults, repeat_faults, place_of, not_linear};
+ghost use Rattle.oz_semantics.specs.Refusals.{features, feature_faults, repeat_faults, place_of, place_of_first, not_linear};
 ghost use Rattle.oz_semantics.specs.Values.{literal_eq, constant_eq};
 ghost use Rattle.oz_semantics.specs.declared.kernel.Constant.{Constant};
 ghost use Rattle.oz_syntax.specs.View.{view, views};
@@ -100,7 +100,8 @@ impl Hash for Feature {
     }
 }
 
-/// Where an expression or a pattern begins.
+/// Where an expression or a pattern begins. It goes down on the left only.
+#[cycle(places)]
 fn place_of(phrase: &Phrase) -> usize
     ensures { result ≡ place_of (view phrase.now) }
 {
@@ -108,10 +109,49 @@ fn place_of(phrase: &Phrase) -> usize
         Phrase::Var { at, .. } => *at,
         Phrase::Any { at } => *at,
         Phrase::Int { at, .. } => *at,
+        Phrase::String { at, .. } => *at,
         Phrase::Literal { at, .. } => *at,
         Phrase::Record { at, .. } => *at,
         Phrase::Keyed { at, .. } => *at,
-        _ => 0,
+        Phrase::List { at, .. } => *at,
+        Phrase::Paren { at, .. } => *at,
+        Phrase::Binary { left, .. } => place_of(left),
+        Phrase::Bars { elements } => place_of_first(elements),
+        Phrase::Hashes { elements } => place_of_first(elements),
+        Phrase::Select { record, .. } => place_of(record),
+        Phrase::Access { at, .. } => *at,
+        Phrase::Fail { at } => *at,
+        Phrase::Raise { at, .. } => *at,
+        Phrase::Call { at, .. } => *at,
+        Phrase::Proc { at, .. } => *at,
+        Phrase::Fun { at, .. } => *at,
+        Phrase::Local { at, .. } => *at,
+        Phrase::Thread { at, .. } => *at,
+        Phrase::Choice { at, .. } => *at,
+        Phrase::When { at, .. } => *at,
+        Phrase::Choose { at, .. } => *at,
+        Phrase::Cases { at, .. } => *at,
+        Phrase::CasesOr { at, .. } => *at,
+        Phrase::Skip
+        | Phrase::Connected { .. }
+        | Phrase::Relate { .. }
+        | Phrase::Dollar
+        | Phrase::Head { .. }
+        | Phrase::Arm { .. }
+        | Phrase::Clause { .. }
+        | Phrase::Try { .. }
+        | Phrase::Body { .. } => 0,
+    }
+}
+
+/// Where the first of these begins.
+#[cycle(places)]
+fn place_of_first(phrases: &[Phrase]) -> usize
+    ensures { result ≡ place_of_first (of_list (views phrases.now)) }
+{
+    match phrases.first() {
+        Some(phrase) => place_of(phrase),
+        None => 0,
     }
 }
 

@@ -1,15 +1,15 @@
 //! What phrases declare, the variables in them, and those that stand twice.
 ghost use Rattle.std.specs.Prelude.{◌≡◌, ◌++◌, ◌∷◌, [], OnOk, IfOk, nat_eq, if◌then◌else◌};
 ghost use Rattle.std.specs.List.{list_any};
-ghost use Rattle.oz_semantics.specs.Grammar.{more, nothing, of_list};
-ghost use Rattle.oz_semantics.specs.Refusals.{declaring, name_faults, not_linear, variables_in, variables_in_each, with_names};
+ghost use Rattle.oz_semantics.specs.Grammar.{Phrase as Tree, connected, more, nothing, of_list};
+ghost use Rattle.oz_semantics.specs.Refusals.{declared_by, declaring, name_faults, name_in, not_linear, parameters_in, variables_in, variables_in_each, with_name, with_names};
 ghost use Rattle.oz_syntax.specs.View.{view, views};
-ghost use Rattle.oz_scope.specs.Declares.{name_of, declared};
+ghost use Rattle.oz_scope.specs.Declares.{name_of};
 ghost use Rattle.oz_scope.specs.Keeps.{kept};
 
 use crate::found::Found;
 use oz_base::Tally;
-use oz_semantics::{Fault, RefusalKind};
+use oz_semantics::{Connective, Fault, RefusalKind};
 use oz_syntax::Phrase;
 use std::alloc::{AllocError, Global};
 
@@ -23,29 +23,57 @@ fn variable(phrase: &Phrase) -> Option<u32>
     }
 }
 
-/// The variable that a head begins with.
-fn name_of(head: &[Phrase]) -> Option<u32>
-    ensures { result ≡ name_of (of_list (views head.now)) }
+/// The variable that phrases begin with.
+fn name_of(phrases: &[Phrase]) -> Option<u32>
+    ensures { result ≡ name_of (of_list (views phrases.now)) }
 {
-    variable(head.first()?)
+    variable(phrases.first()?)
 }
 
-/// The variable that the phrase declares: itself, or a procedure's name.
-fn declared(phrase: &Phrase) -> Option<u32>
-    ensures { result ≡ declared (view phrase.now) }
+/// The name in the head of a procedure.
+#[tactic(auto, using(crate::proofs::Naming::head_name))]
+fn name_in(head: &Phrase) -> Option<u32>
+    ensures { result ≡ name_in (view head.now) }
+{
+    match head {
+        Phrase::Head { names, .. } => name_of(names),
+        _ => None,
+    }
+}
+
+/// The variable that a statement with this left side declares.
+#[tactic(auto, using(crate::proofs::Naming::equation_declares))]
+fn declared_on_left(connective: Connective, left: &Phrase) -> Option<u32>
+    ensures { (right : Tree) → result ≡ declared_by (connected connective (view left.now) right) }
+{
+    match connective {
+        Connective::Equates => variable(left),
+        _ => None,
+    }
+}
+
+/// The variable that the phrase declares.
+fn declared_by(phrase: &Phrase) -> Option<u32>
+    ensures { result ≡ declared_by (view phrase.now) }
 {
     match phrase {
         Phrase::Var { name, .. } => Some(*name),
-        Phrase::Proc { head, .. } => name_of(head),
+        Phrase::Connected {
+            connective,
+            left,
+            ..
+        } => declared_on_left(*connective, left),
+        Phrase::Proc { head, .. } => name_in(head),
+        Phrase::Fun { head, .. } => name_in(head),
         _ => None,
     }
 }
 
 /// Puts what the phrase declares into the scope.
 fn declare_one(scope: &mut Tally, phrase: &Phrase) -> Result<(), AllocError>
-    ensures { OnOk result (scope.new ≡ declaring (more (view phrase.now) nothing) scope.old) }
+    ensures { OnOk result (scope.new ≡ with_name (declared_by (view phrase.now)) scope.old) }
 {
-    match declared(phrase) {
+    match declared_by(phrase) {
         Some(name) => scope.push(name),
         None => Ok(()),
     }
@@ -63,7 +91,7 @@ pub fn declare(scope: &mut Tally, phrases: &[Phrase]) -> Result<(), AllocError>
     Ok(())
 }
 
-/// Puts the variables in an expression or a pattern to those before them, each with its place.
+/// Puts the variables of a pattern to those before them, each with its place.
 #[cycle(variables)]
 pub fn add_variables(variables: &mut Vec<(u32, usize)>, phrase: &Phrase) -> Result<(), AllocError>
     ensures { OnOk result (variables.new.items ≡ variables.old.items ++ variables_in (view phrase.now)) }
@@ -75,6 +103,10 @@ pub fn add_variables(variables: &mut Vec<(u32, usize)>, phrase: &Phrase) -> Resu
         }
         Phrase::Record { fields, .. } => add_variables_of_each(variables, fields),
         Phrase::Keyed { value, .. } => add_variables(variables, value),
+        Phrase::List { elements, .. } => add_variables_of_each(variables, elements),
+        Phrase::Paren { inner, .. } => add_variables_of_each(variables, inner),
+        Phrase::Bars { elements } => add_variables_of_each(variables, elements),
+        Phrase::Hashes { elements } => add_variables_of_each(variables, elements),
         _ => Ok(()),
     }
 }
@@ -91,6 +123,19 @@ pub fn add_variables_of_each(
         add_variables(variables, phrase)?;
     }
     Ok(())
+}
+
+/// Puts the parameters of a head to the variables before them, each with its place.
+pub fn add_parameters(variables: &mut Vec<(u32, usize)>, head: &Phrase) -> Result<(), AllocError>
+    ensures { OnOk result (variables.new.items ≡ variables.old.items ++ parameters_in (view head.now)) }
+{
+    match head {
+        Phrase::Head { names, .. } => match names.split_first() {
+            Some((_, parameters)) => add_variables_of_each(variables, parameters),
+            None => Ok(()),
+        },
+        _ => Ok(()),
+    }
 }
 
 /// Puts the variables into the scope, the first on top.

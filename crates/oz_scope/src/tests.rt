@@ -1,39 +1,43 @@
-//! Phrases built by hand. The words are `Script`, `Show`, `X`, `Y`, `P` and `Q`.
+//! Phrases built by hand. The words that every text has are `A`, which is the first of them, and 21 more.
 ghost use Rattle.std.specs.Prelude.{◌<◌, ◌+◌, ◌^◌};
 
 use crate::first_fault;
 use crate::tests::Step::{
-    Body, Call, Cases, Choice, Clause, Equal, Keyed, Local, One, Proc, Record, Var,
+    Bars, Body, Call, Cases, Clause, Equal, Head, Keyed, One, Plus, Proc, Record, Var,
 };
-use oz_semantics::{Constant, Fault, Literal, RefusalKind};
+use oz_semantics::{Connective, Constant, Fault, Literal, Operator, RefusalKind};
 use oz_syntax::Phrase;
 use std::alloc::{AllocError, Global};
 use std::process::Abort;
 use std::test::Fail;
 
-const SCRIPT: u32 = 0;
+const A: u32 = 0;
 
-const X: u32 = 2;
+/// The last of the words that every text has.
+const B: u32 = 21;
 
-const Y: u32 = 3;
+const X: u32 = 22;
 
-const P: u32 = 4;
+const Y: u32 = 23;
 
-const Q: u32 = 5;
+const P: u32 = 24;
 
-/// A phrase of those before it, so many of them where it says so. The last of `Proc` and `Local` is their body.
+const Q: u32 = 25;
+
+/// A phrase of those before it, so many of them where it says so.
 #[derive(Clone, Copy)]
 enum Step {
     Var(u32, usize),
     One,
     Equal,
+    Plus,
+    Bars(usize),
     /// A field with this integer as its key.
     Keyed(i128, usize),
     Record(usize),
     Call(usize),
-    Proc(usize),
-    Local(usize),
-    Choice(usize),
+    Head(usize),
+    Proc,
     Clause,
     Cases(usize),
     Body(usize, usize),
@@ -57,19 +61,27 @@ fn take_boxed(alloc: Global, stack: &mut Vec<Phrase>) -> Result<Box<Phrase>, All
 fn equal(alloc: Global, stack: &mut Vec<Phrase>) -> Result<Phrase, AllocError> {
     let right = take_boxed(alloc, stack)?;
     let left = take_boxed(alloc, stack)?;
-    Ok(Phrase::Equal { left, right })
+    Ok(Phrase::Connected {
+        connective: Connective::Equates,
+        left,
+        right,
+    })
 }
 
-fn procedure(alloc: Global, stack: &mut Vec<Phrase>, count: usize) -> Result<Phrase, AllocError> {
-    let body = take_boxed(alloc, stack)?;
-    let head = take_last(stack, count)?;
-    Ok(Phrase::Proc { head, body })
+fn plus(alloc: Global, stack: &mut Vec<Phrase>) -> Result<Phrase, AllocError> {
+    let right = take_boxed(alloc, stack)?;
+    let left = take_boxed(alloc, stack)?;
+    Ok(Phrase::Binary {
+        operator: Operator::Plus,
+        left,
+        right,
+    })
 }
 
-fn local(alloc: Global, stack: &mut Vec<Phrase>, count: usize) -> Result<Phrase, AllocError> {
+fn procedure(alloc: Global, stack: &mut Vec<Phrase>) -> Result<Phrase, AllocError> {
     let body = take_boxed(alloc, stack)?;
-    let declarations = take_last(stack, count)?;
-    Ok(Phrase::Local { declarations, body })
+    let head = take_boxed(alloc, stack)?;
+    Ok(Phrase::Proc { at: 0, head, body })
 }
 
 fn clause(alloc: Global, stack: &mut Vec<Phrase>) -> Result<Phrase, AllocError> {
@@ -81,7 +93,11 @@ fn clause(alloc: Global, stack: &mut Vec<Phrase>) -> Result<Phrase, AllocError> 
 fn cases(alloc: Global, stack: &mut Vec<Phrase>, count: usize) -> Result<Phrase, AllocError> {
     let clauses = take_last(stack, count)?;
     let subject = take_boxed(alloc, stack)?;
-    Ok(Phrase::Cases { subject, clauses })
+    Ok(Phrase::Cases {
+        at: 0,
+        subject,
+        clauses,
+    })
 }
 
 fn record(fields: Vec<Phrase>) -> Phrase {
@@ -93,11 +109,11 @@ fn record(fields: Vec<Phrase>) -> Phrase {
 }
 
 fn body(stack: &mut Vec<Phrase>, declared: usize, count: usize) -> Result<Phrase, AllocError> {
-    let statements = take_last(stack, count)?;
+    let phrases = take_last(stack, count)?;
     let declarations = take_last(stack, declared)?;
     Ok(Phrase::Body {
         declarations,
-        statements,
+        phrases,
     })
 }
 
@@ -106,6 +122,10 @@ fn made(alloc: Global, stack: &mut Vec<Phrase>, step: Step) -> Result<Phrase, Al
         Var(name, at) => Ok(Phrase::Var { name, at }),
         One => Ok(Phrase::Int { value: 1, at: 0 }),
         Equal => equal(alloc, stack),
+        Plus => plus(alloc, stack),
+        Bars(count) => Ok(Phrase::Bars {
+            elements: take_last(stack, count)?,
+        }),
         Keyed(key, at) => Ok(Phrase::Keyed {
             key: Constant::Int(key),
             at,
@@ -113,13 +133,14 @@ fn made(alloc: Global, stack: &mut Vec<Phrase>, step: Step) -> Result<Phrase, Al
         }),
         Record(count) => Ok(record(take_last(stack, count)?)),
         Call(count) => Ok(Phrase::Call {
+            at: 0,
             parts: take_last(stack, count)?,
         }),
-        Proc(count) => procedure(alloc, stack, count),
-        Local(count) => local(alloc, stack, count),
-        Choice(count) => Ok(Phrase::Choice {
-            alternatives: take_last(stack, count)?,
+        Head(count) => Ok(Phrase::Head {
+            at: 0,
+            names: take_last(stack, count)?,
         }),
+        Proc => procedure(alloc, stack),
         Clause => clause(alloc, stack),
         Cases(count) => cases(alloc, stack, count),
         Body(declared, count) => body(stack, declared, count),
@@ -163,166 +184,87 @@ fn finds(
 #[test]
 fn a_variable_wants_a_binding(rt: HostRuntime) -> Result<(), Fail> {
     let alloc = rt.alloc();
-    // X=1
-    finds(&rt, alloc, &[Var(X, 0), One, Equal], unbound(0))?;
-    // Script=1
-    finds(&rt, alloc, &[Var(SCRIPT, 0), One, Equal], None)?;
-    // X in X=1 Y=1
-    let program = [
-        Var(X, 0),
-        Var(X, 5),
-        One,
-        Equal,
-        Var(Y, 9),
-        One,
-        Equal,
-        Body(1, 2),
-    ];
-    finds(&rt, alloc, &program, unbound(9))?;
-    // choice {Script unit(X)} [] Y=1 end
-    let call = [
-        Var(SCRIPT, 8),
-        Var(X, 20),
-        Record(1),
-        Call(2),
-        Var(Y, 27),
-        One,
-        Equal,
-        Choice(2),
-    ];
-    finds(&rt, alloc, &call, unbound(20))?;
+    // {A B}
+    finds(&rt, alloc, &[Var(A, 1), Var(B, 3), Call(2)], None)?;
+    // {A unit(X) Y}
+    let call = [Var(A, 1), Var(X, 8), Record(1), Var(Y, 11), Call(3)];
+    finds(&rt, alloc, &call, unbound(8))?;
     Ok(())
 }
 
 #[test]
 fn scopes_end(rt: HostRuntime) -> Result<(), Fail> {
-    let alloc = rt.alloc();
-    // local X Y in X=1 end
-    let inner = [Var(X, 6), Var(Y, 8), Var(X, 13), One, Equal, Local(2)];
-    finds(&rt, alloc, &inner, None)?;
-    // local X in local X in X=1 end X=1 end X=1
-    let program = [
-        Var(X, 6),
-        Var(X, 17),
-        Var(X, 22),
-        One,
-        Equal,
-        Local(1),
-        Var(X, 30),
-        One,
-        Equal,
-        Body(0, 2),
-        Local(1),
-        Var(X, 38),
-        One,
-        Equal,
-        Body(0, 2),
-    ];
-    finds(&rt, alloc, &program, unbound(38))?;
     // P in proc {P X} X=1 end X=1
     let program = [
         Var(P, 0),
         Var(P, 11),
         Var(X, 13),
+        Head(2),
         Var(X, 16),
         One,
         Equal,
-        Proc(2),
+        Proc,
         Var(X, 24),
         One,
         Equal,
         Body(1, 2),
     ];
-    finds(&rt, alloc, &program, unbound(24))?;
+    finds(&rt, rt.alloc(), &program, unbound(24))?;
     Ok(())
 }
 
 #[test]
 fn declarations_see_each_other(rt: HostRuntime) -> Result<(), Fail> {
-    // proc {P X} {Q X} end proc {Q X} {P X} end in {P 1}
+    // X=Y Y=1 proc {P X} {P Q} end in {P X}
     let program = [
-        Var(P, 6),
-        Var(X, 8),
-        Var(Q, 12),
-        Var(X, 14),
+        Var(X, 0),
+        Var(Y, 2),
+        Equal,
+        Var(Y, 4),
+        One,
+        Equal,
+        Var(P, 14),
+        Var(X, 16),
+        Head(2),
+        Var(P, 20),
+        Var(Q, 22),
         Call(2),
-        Proc(2),
-        Var(Q, 27),
-        Var(X, 29),
+        Proc,
         Var(P, 33),
         Var(X, 35),
         Call(2),
-        Proc(2),
-        Var(P, 46),
-        One,
-        Call(2),
-        Body(2, 1),
+        Body(3, 1),
     ];
-    finds(&rt, rt.alloc(), &program, None)?;
+    finds(&rt, rt.alloc(), &program, unbound(22))?;
     Ok(())
 }
 
 #[test]
 fn parameters_differ(rt: HostRuntime) -> Result<(), Fail> {
     let alloc = rt.alloc();
-    // proc {Script X Y X Y} Q=1 end
-    let program = [
-        Var(SCRIPT, 6),
-        Var(X, 13),
-        Var(Y, 15),
-        Var(X, 17),
-        Var(Y, 19),
-        Var(Q, 22),
-        One,
-        Equal,
-        Proc(5),
-    ];
-    finds(&rt, alloc, &program, repeated(17))?;
-    // proc {Script Script X} proc {Script X} X=1 end end
-    let program = [
-        Var(SCRIPT, 6),
-        Var(SCRIPT, 13),
-        Var(X, 20),
-        Var(SCRIPT, 29),
-        Var(X, 36),
-        Var(X, 39),
-        One,
-        Equal,
-        Proc(2),
-        Proc(3),
-    ];
-    finds(&rt, alloc, &program, None)?;
+    // proc {A X Y X} Q=1 end
+    let head = [Var(A, 6), Var(X, 8), Var(Y, 10), Var(X, 12), Head(4)];
+    finds(&rt, alloc, &head, repeated(12))?;
+    // {A A}
+    finds(&rt, alloc, &[Var(A, 6), Var(A, 8), Head(2)], None)?;
     Ok(())
 }
 
 #[test]
 fn features_differ(rt: HostRuntime) -> Result<(), Fail> {
     let alloc = rt.alloc();
-    // X in X=unit(2:X X X)
+    // unit(1:A A+B), where the sum begins at its left side
     let program = [
-        Var(X, 0),
-        Var(X, 5),
-        Var(X, 14),
-        Keyed(2, 12),
-        Var(X, 16),
-        Var(X, 18),
-        Record(3),
-        Equal,
-        Body(1, 1),
-    ];
-    finds(&rt, alloc, &program, repeated(18))?;
-    // X in X=unit(1:X 2:X)
-    let program = [
-        Var(X, 0),
-        Var(X, 5),
-        Var(X, 14),
-        Keyed(1, 12),
-        Var(X, 18),
-        Keyed(2, 16),
+        Var(A, 7),
+        Keyed(1, 5),
+        Var(A, 9),
+        Var(B, 11),
+        Plus,
         Record(2),
-        Equal,
-        Body(1, 1),
     ];
+    finds(&rt, alloc, &program, repeated(9))?;
+    // unit(1:A 2:B)
+    let program = [Var(A, 7), Keyed(1, 5), Var(B, 11), Keyed(2, 9), Record(2)];
     finds(&rt, alloc, &program, None)?;
     Ok(())
 }
@@ -330,47 +272,41 @@ fn features_differ(rt: HostRuntime) -> Result<(), Fail> {
 #[test]
 fn patterns_bind(rt: HostRuntime) -> Result<(), Fail> {
     let alloc = rt.alloc();
-    // case Script of unit(X Y) then X=Y end
+    // case A of X|Y then X=Y end
     let program = [
-        Var(SCRIPT, 5),
-        Var(X, 20),
-        Var(Y, 22),
-        Record(2),
-        Var(X, 30),
-        Var(Y, 32),
+        Var(A, 5),
+        Var(X, 10),
+        Var(Y, 12),
+        Bars(2),
+        Var(X, 19),
+        Var(Y, 21),
         Equal,
         Clause,
         Cases(1),
     ];
     finds(&rt, alloc, &program, None)?;
-    // case Script of unit(X X) then X=1 end X=1
+    // case A of X|X then 1 end
     let program = [
-        Var(SCRIPT, 5),
-        Var(X, 20),
-        Var(X, 22),
-        Record(2),
-        Var(X, 30),
+        Var(A, 5),
+        Var(X, 10),
+        Var(X, 12),
+        Bars(2),
         One,
-        Equal,
         Clause,
         Cases(1),
-        Var(X, 40),
-        One,
-        Equal,
-        Body(0, 2),
     ];
-    finds(&rt, alloc, &program, repeated(22))?;
+    finds(&rt, alloc, &program, repeated(12))?;
     Ok(())
 }
 
 #[test]
 fn the_first_place_decides(rt: HostRuntime) -> Result<(), Fail> {
     let alloc = rt.alloc();
-    // unit(Q 1:1)=1
-    let program = [Var(Q, 5), One, Keyed(1, 7), Record(2), One, Equal];
+    // unit(Q 1:1)
+    let program = [Var(Q, 5), One, Keyed(1, 7), Record(2)];
     finds(&rt, alloc, &program, unbound(5))?;
-    // a variable and its repeat at one place
-    let program = [Var(Q, 9), Var(X, 9), Var(X, 9), One, Proc(3)];
+    // a variable and a repeat at one place
+    let program = [Var(Q, 9), Var(X, 9), Var(X, 9), Head(3)];
     finds(&rt, alloc, &program, unbound(9))?;
     Ok(())
 }
@@ -389,24 +325,14 @@ fn many(alloc: Global, count: u32, first: u32) -> Result<Vec<Phrase>, AllocError
     Ok(variables)
 }
 
-/// `local` with the names from 100,000 on, whose statement has those from 100,000 on too, and one more.
+/// Declares the names from 100,000 on, and uses them and one more.
 fn uses_one_more(alloc: Global) -> Result<Phrase, AllocError> {
-    let mut stack = many(alloc, 100_000, 100_000)?;
-    stack.push(Phrase::Call {
-        parts: many(alloc, 100_001, 100_000)?,
-    })?;
-    local(alloc, &mut stack, 100_000)
-}
-
-/// A head of 100,000 variables, and the last of them again.
-fn repeats_the_last(alloc: Global) -> Result<Phrase, AllocError> {
-    let mut stack = many(alloc, 100_000, 0)?;
-    stack.push(Phrase::Var {
-        name: 99_999,
-        at: 100_000,
-    })?;
-    stack.push(Phrase::Skip)?;
-    procedure(alloc, &mut stack, 100_001)
+    let declarations = many(alloc, 100_000, 100_000)?;
+    let phrases = many(alloc, 100_001, 100_000)?;
+    Ok(Phrase::Body {
+        declarations,
+        phrases,
+    })
 }
 
 /// A record of 100,000 fields without keys, and one with the key of the last of them.
@@ -436,7 +362,5 @@ fn a_hundred_thousand_names(rt: HostRuntime) -> Result<(), Fail> {
     let alloc = rt.alloc();
     let phrase = uses_one_more(alloc)?;
     assert_eq!(rt; first_fault(alloc, &phrase)?, unbound(100_000));
-    let phrase = repeats_the_last(alloc)?;
-    assert_eq!(rt; first_fault(alloc, &phrase)?, repeated(100_000));
     Ok(())
 }

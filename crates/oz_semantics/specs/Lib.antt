@@ -15,7 +15,9 @@ pub mod Tokens
 pub mod Wording
 pub mod Grammar
 pub mod Refusals
+pub mod Served
 pub mod Translation
+pub mod KernelTexts
 pub mod Commands
 pub mod Replies
 pub mod Domains

@@ -61,6 +61,8 @@ statement_ready view environment (Some (If condition accepted otherwise)) = awai
 statement_ready view environment (Some (Case subject pattern accepted otherwise)) =
     match_ready (matched view pattern (bound environment subject ∷ []) environment)
 statement_ready view environment (Some NoMatch) = Steps
+-- no rule lets another statement step yet
+statement_ready view environment (Some s) = Waits []
 statement_ready view environment None = Waits []
 
 abbrev pub code_ready : List Statement → List Tell → List Binding → Code → Readiness
@@ -170,6 +172,7 @@ statement_effect p environment (Some (If condition accepted otherwise)) = if_eff
 statement_effect p environment (Some (Case subject pattern accepted otherwise)) =
     case_effect p environment (matched p.view pattern (bound environment subject ∷ []) environment) accepted otherwise
 statement_effect p environment (Some NoMatch) = Raises NoElse
+statement_effect p environment (Some s) = Becomes p.layer
 statement_effect p environment None = Becomes p.layer
 
 abbrev pub code_effect : List Statement → Place → Frame → Code → Effect

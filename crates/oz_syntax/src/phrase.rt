@@ -1,5 +1,5 @@
 //! Phrases, as the grammar has them.
-use oz_semantics::{Constant, Literal};
+use oz_semantics::{Comparison, Connective, Constant, Literal, Operator};
 
 /// A phrase of the language: an expression, a pattern, a statement, a declaration, a clause or a body. A place is that of a
 /// phrase's first byte.
@@ -19,6 +19,11 @@ pub enum Phrase {
         value: i128,
         at: usize,
     },
+    /// A string, by the number of its text among the words.
+    String {
+        text: u32,
+        at: usize,
+    },
     Literal {
         literal: Literal,
         at: usize,
@@ -35,61 +40,144 @@ pub enum Phrase {
         at: usize,
         value: Box<Phrase>,
     },
-    Skip,
-    Fail,
-    /// `e = e`
-    Equal {
+    /// `[e ..]`
+    List {
+        at: usize,
+        elements: Vec<Phrase>,
+    },
+    /// `(e)`, `(S ..)` and `(P)`: what stands in parentheses.
+    Paren {
+        at: usize,
+        inner: Vec<Phrase>,
+    },
+    /// `e op e`
+    Binary {
+        operator: Operator,
         left: Box<Phrase>,
         right: Box<Phrase>,
     },
-    /// `{X e ..}`: what is called, and its arguments.
+    /// `e|e|..`
+    Bars {
+        elements: Vec<Phrase>,
+    },
+    /// `e#e#..`
+    Hashes {
+        elements: Vec<Phrase>,
+    },
+    /// `e.f`
+    Select {
+        record: Box<Phrase>,
+        feature: Box<Phrase>,
+    },
+    /// `@e`
+    Access {
+        at: usize,
+        cell: Box<Phrase>,
+    },
+    Skip,
+    Fail {
+        at: usize,
+    },
+    /// `raise e end`
+    Raise {
+        at: usize,
+        value: Box<Phrase>,
+    },
+    /// A statement with two sides: `e = e`, `e := e`, `e :: e` and `e ::: e`.
+    Connected {
+        connective: Connective,
+        left: Box<Phrase>,
+        right: Box<Phrase>,
+    },
+    /// A relation of finite domains between two sums.
+    Relate {
+        comparison: Comparison,
+        left: Box<Phrase>,
+        right: Box<Phrase>,
+    },
+    /// `{e ..}`: what is called, and its arguments.
     Call {
+        at: usize,
         parts: Vec<Phrase>,
     },
-    /// `proc {X Y ..} B end`: the procedure's variable and its parameters, and its body.
+    /// `$`, which stands in place of a procedure's name.
+    Dollar,
+    /// `{X Y ..}`, the head of a procedure: its name, or `$`, and its parameters.
+    Head {
+        at: usize,
+        names: Vec<Phrase>,
+    },
+    /// `proc H B end`
     Proc {
-        head: Vec<Phrase>,
+        at: usize,
+        head: Box<Phrase>,
+        body: Box<Phrase>,
+    },
+    /// `fun H B end`, with the place of `lazy` where that stands in it.
+    Fun {
+        at: usize,
+        lazy: Option<usize>,
+        head: Box<Phrase>,
         body: Box<Phrase>,
     },
     /// `local D .. in B end`
     Local {
+        at: usize,
         declarations: Vec<Phrase>,
+        body: Box<Phrase>,
+    },
+    /// `thread B end`
+    Thread {
+        at: usize,
         body: Box<Phrase>,
     },
     /// `choice B [] .. end`
     Choice {
+        at: usize,
         alternatives: Vec<Phrase>,
     },
-    /// `if e then B end`
+    /// `if A elseif .. end`
     When {
-        condition: Box<Phrase>,
-        body: Box<Phrase>,
+        at: usize,
+        arms: Vec<Phrase>,
     },
-    /// `if e then B else B end`
+    /// `if A elseif .. else B end`
     Choose {
+        at: usize,
+        arms: Vec<Phrase>,
+        otherwise: Box<Phrase>,
+    },
+    /// An arm of an `if`: `e then B`.
+    Arm {
         condition: Box<Phrase>,
         body: Box<Phrase>,
-        otherwise: Box<Phrase>,
     },
     /// `case e of C [] .. end`
     Cases {
+        at: usize,
         subject: Box<Phrase>,
         clauses: Vec<Phrase>,
     },
     /// `case e of C [] .. else B end`
     CasesOr {
+        at: usize,
         subject: Box<Phrase>,
         clauses: Vec<Phrase>,
         otherwise: Box<Phrase>,
     },
-    /// A clause of a `case`: `P then B`.
+    /// A clause of a `case` or a `catch`: `P then B`.
     Clause {
         pattern: Box<Phrase>,
         body: Box<Phrase>,
     },
-    /// `D .. in S ..`, or statements alone.
+    /// `try B catch C [] .. end`
+    Try {
+        body: Box<Phrase>,
+        clauses: Vec<Phrase>,
+    },
+    /// `D .. in S ..`, or statements alone, of which the last may be an expression.
     Body {
         declarations: Vec<Phrase>,
-        statements: Vec<Phrase>,
+        phrases: Vec<Phrase>,
     },
 }

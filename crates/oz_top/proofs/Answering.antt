@@ -6,14 +6,19 @@ use Rattle.std.specs.Io.KnownBytes.{Appends, Consumes, IsAtEnd}
 use Rattle.oz_semantics.specs.Texts.{Printed, raise_text}
 use Rattle.oz_semantics.specs.Runs.{Ran, Ended, TopRaised, Over, run, opening}
 use Rattle.oz_semantics.specs.Search.{Found, depth_first, has_script, script_variable, search_space, with_root}
+use Rattle.oz_semantics.specs.Tokens.{Whole}
 use Rattle.oz_semantics.specs.Refusals.{Program, Accepts, IsRefused}
+use Rattle.oz_semantics.specs.Served.{IsServed, unserved_in}
+use Rattle.oz_semantics.specs.declared.token.Lexeme.{Lexeme}
+use Rattle.oz_lex.specs.Lexing.{OneReading}
 use Rattle.oz_semantics.specs.Translation.{kernel_of}
 use Rattle.oz_semantics.specs.Commands.{Spells, IsUsage}
-use Rattle.oz_semantics.specs.Replies.{Answer, IsReply, IsTextReply, Searches, line, shown_lines, spent, text_limit, usage_reply, too_large_reply, refused_reply, answer_of_tree, answer_of_raise, searched, answer_of_top, all_answer, run_answer}
+use Rattle.oz_semantics.specs.Replies.{Answer, IsReply, IsTextReply, Searches, line, shown_lines, spent, text_limit, usage_reply, too_large_reply, refused_answer, unless_unserved, answer_of_tree, answer_of_raise, searched, answer_of_top, all_answer, run_answer}
 use Rattle.oz_semantics.specs.declared.command.Command.{Command}
 use Rattle.oz_semantics.specs.declared.command.Command.TheVariants as commands
 use Rattle.oz_semantics.specs.declared.kernel.Kernel.{Kernel}
 use Rattle.oz_semantics.specs.declared.outcome.Fault.{Fault}
+use Rattle.oz_semantics.specs.declared.outcome.RefusalKind.TheVariants as kinds
 use Rattle.oz_semantics.specs.declared.configuration.Configuration.{Configuration}
 use Rattle.oz_semantics.specs.declared.outcome.State.{State}
 use Rattle.oz_semantics.specs.declared.outcome.Cause.{Cause}
@@ -21,7 +26,7 @@ use Rattle.oz_semantics.specs.declared.outcome.Cause.TheVariants as causes
 use Rattle.oz_machine.specs.Machines.{Loaded}
 use Rattle.oz_machine.specs.Answers.{IsRun}
 use Rattle.oz_machine.specs.declared.machine.Ran.TheVariants as ran
-use Rattle.oz_top.specs.Call.{Reading, Writing, answer_of, HasRead, ProgramGives, TextGives, ReadGives, AsText, IsCommand, Plans, IsDue, IsRead, Ends, IsExcused}
+use Rattle.oz_top.specs.Call.{Reading, Writing, answered, minded, answer_of, HasRead, ProgramGives, TextGives, ReadGives, AsText, IsCommand, Plans, IsDue, IsRead, Ends, IsExcused}
 
 -- a text gives the plan of the call
 pub plans_text : (words : List (List ℕ)) (old new : Reading) (text : List ℕ) (k : Command) (cause : Cause) (reply : List ℕ) → IsCommand words k → HasRead old new text → TextGives text k cause reply → Plans words old new cause reply
@@ -39,14 +44,14 @@ plans_text words old new text k cause reply w r g = by cause (record { asked = k
     by causes.WriteFault r g = absurd g
     by (causes.TooLarge count) r g = absurd g
 
--- The answer to a kernel has one of four causes
+-- The answer to a program has one of five causes
 
 abbrev IsOwn : Answer → Type 0
 IsOwn (causes.Done, reply) = Unit {0}
 IsOwn (causes.Raised shown, reply) = Unit {0}
 IsOwn (causes.Spent total, reply) = Unit {0}
 IsOwn (causes.NoScript, reply) = Unit {0}
-IsOwn (causes.Refused fault, reply) = ⊥
+IsOwn (causes.Refused fault, reply) = Unit {0}
 IsOwn (causes.NoMemory, reply) = ⊥
 IsOwn (causes.Usage, reply) = ⊥
 IsOwn (causes.ReadFault, reply) = ⊥
@@ -74,17 +79,27 @@ own_top rest budget h (Over c) = tt
 own_top rest budget h (TopRaised c left raise) = own_raise (shown_lines c) budget left (raise_text raise)
 own_top rest budget h (Ended c left) = h c left
 
-own_answer : (c : Command) (k : Kernel) → IsOwn (answer_of c k)
+own_kernel_answer : (c : Command) (p : Program) → IsOwn (answered c p)
 unfolding all_answer run_answer
-own_answer (commands.All workers budget) k = own_top (searched k budget) budget (own_searched k budget) (run k [] (opening k) budget)
-own_answer (commands.Run budget) k = own_top (λ c left. (causes.Done, shown_lines c)) budget (λ c left. tt) (run k [] (opening k) budget)
+own_kernel_answer (commands.All workers budget) p =
+    let k = kernel_of p in own_top (searched k budget) budget (own_searched k budget) (run k [] (opening k) budget)
+own_kernel_answer (commands.Run budget) p =
+    let k = kernel_of p in own_top (λ c left. (causes.Done, shown_lines c)) budget (λ c left. tt) (run k [] (opening k) budget)
+own_kernel_answer commands.Kernel p = tt
+
+own_unless : (at : Option ℕ) (x : Answer) → IsOwn x → IsOwn (unless_unserved at x)
+own_unless None x h = h
+own_unless (Some at) x h = tt
+
+own_answer : (c : Command) (at : Option ℕ) (p : Program) → IsOwn (answer_of c at p)
+own_answer c at p = own_unless (minded c at) (answered c p) (own_kernel_answer c p)
 
 gives_own : (text : List ℕ) (c : Command) (cause : Cause) (reply : List ℕ) → IsOwn (cause, reply) → ProgramGives text c (cause, reply) → TextGives text c cause reply
 gives_own text c causes.Done reply o g = g
 gives_own text c (causes.Raised shown) reply o g = g
 gives_own text c (causes.Spent total) reply o g = g
 gives_own text c causes.NoScript reply o g = g
-gives_own text c (causes.Refused fault) reply o g = absurd o
+gives_own text c (causes.Refused fault) reply o g = inr g
 gives_own text c causes.NoMemory reply o g = absurd o
 gives_own text c causes.Usage reply o g = absurd o
 gives_own text c causes.ReadFault reply o g = absurd o
@@ -92,26 +107,29 @@ gives_own text c causes.WriteFault reply o g = absurd o
 gives_own text c (causes.TooLarge count) reply o g = absurd o
 
 -- an accepted text
-pub accepted_gives : (text : List ℕ) (c : Command) (p : Program) (cause : Cause) (reply : List ℕ) → Accepts text p → ◌≡◌ {A = Answer} (cause, reply) (answer_of c (kernel_of p)) → TextGives text c cause reply
+pub accepted_gives : (text : List ℕ) (c : Command) (p : Program) (cause : Cause) (reply : List ℕ) (a : Accepts text p)
+    → ◌≡◌ {A = Answer} (cause, reply) (answer_of c (unserved_in text a.lexemes) p) → TextGives text c cause reply
 accepted_gives text c p cause reply a h =
-    gives_own text c cause reply (subst (λ (x : Answer). IsOwn x) (sym h) (own_answer c (kernel_of p))) (p, a, sym h)
+    gives_own text c cause reply (subst (λ (x : Answer). IsOwn x) (sym h) (own_answer c (unserved_in text a.lexemes) p)) (p, a, sym h)
 
-pub accepted_due : (text : List ℕ) (c : Command) (p : Program) (answer : Answer) → ((q : Program) → Accepts text q → q ≡ p) → ((f : Fault) → IsRefused text f → ⊥) → answer ≡ answer_of c (kernel_of p) → AsText text c answer
-accepted_due text c p answer only unrefused h = record {
+-- a text has one reading, whatever is made of it
+pub accepted_due : (text : List ℕ) (c : Command) (p : Program) (answer : Answer) (a : Accepts text p) → OneReading → ((q : Program) → Accepts text q → q ≡ p) → ((f : Fault) → IsRefused text f → ⊥)
+    → answer ≡ answer_of c (unserved_in text a.lexemes) p → AsText text c answer
+accepted_due text c p answer a one only unrefused h = record {
   refused = λ n f r. absurd (unrefused f r);
-  accepted = λ n q b. h ∙ ap (λ (x : Program). answer_of c (kernel_of x)) (sym (only q b));
+  accepted = λ n q b.
+      h
+      ∙ ap (λ (x : Program). answer_of c (unserved_in text a.lexemes) x) (sym (only q b))
+      ∙ ap (λ (ls : List Lexeme). answer_of c (unserved_in text ls) q) (one text 0 a.lexemes b.lexemes Whole Whole a.lexed b.lexed).0;
 }
 
 -- a refused text
-pub refused_gives : (text : List ℕ) (c : Command) (fault : Fault) (cause : Cause) (reply : List ℕ) → IsRefused text fault → cause ≡ causes.Refused fault → reply ≡ refused_reply fault → TextGives text c cause reply
-refused_gives text c fault cause reply r is e = subst (λ (x : Cause). TextGives text c x reply) (sym is) (r, e)
+pub refused_gives : (text : List ℕ) (c : Command) (fault : Fault) (cause : Cause) (reply : List ℕ) → IsRefused text fault → ◌≡◌ {A = Answer} (cause, reply) (refused_answer fault) → TextGives text c cause reply
+refused_gives text c fault cause reply r is = subst (λ (x : Answer). TextGives text c x.0 x.1) (sym is) (inl (r, refl))
 
-pub refused_due : (text : List ℕ) (c : Command) (fault : Fault) (cause : Cause) (reply : List ℕ) → ((g : Fault) → IsRefused text g → g ≡ fault) → ((p : Program) → Accepts text p → ⊥) → cause ≡ causes.Refused fault → reply ≡ refused_reply fault → AsText text c (cause, reply)
-refused_due text c fault cause reply only unaccepted is e = record {
-  refused = λ n f r.
-      ap (λ (x : Cause). (x, reply)) is
-      ∙ ap (λ (x : List ℕ). (causes.Refused fault, x)) e
-      ∙ ap (λ (x : Fault). (causes.Refused x, refused_reply x)) (sym (only f r));
+pub refused_due : (text : List ℕ) (c : Command) (fault : Fault) (answer : Answer) → ((g : Fault) → IsRefused text g → g ≡ fault) → ((p : Program) → Accepts text p → ⊥) → answer ≡ refused_answer fault → AsText text c answer
+refused_due text c fault answer only unaccepted is = record {
+  refused = λ n f r. is ∙ ap (λ (x : Fault). refused_answer x) (sym (only f r));
   accepted = λ n p a. absurd (unaccepted p a);
 }
 
@@ -136,6 +154,7 @@ usage_due words bytes cause reply u (inl h) = λ read memory. record {
   usage = λ v. ap (λ (x : Cause). (x, reply)) h.0 ∙ ap (λ (x : List ℕ). (causes.Usage, x)) h.1;
   all = λ budget asked. absurd (u (commands.All asked.workers budget) asked.spelled);
   run = λ budget asked. absurd (u (commands.Run budget) asked);
+  kernel = λ asked. absurd (u commands.Kernel asked);
 }
 
 -- what the one command that the words spell answers to the bytes
@@ -144,6 +163,7 @@ is_reply words bytes c answer w h = record {
   usage = λ u. absurd (no_usage words c w.spelled u);
   all = λ budget asked. for (commands.All asked.workers budget) asked.spelled;
   run = λ budget asked. for (commands.Run budget) asked;
+  kernel = λ asked. for commands.Kernel asked;
 }
   where
     for : (d : Command) → Spells words d → IsTextReply bytes (answer_of d) answer
@@ -153,6 +173,7 @@ is_reply words bytes c answer w h = record {
 text_reply : (words : List (List ℕ)) (bytes : List ℕ) (c : Command) (answer : Answer) → Spells words c → IsReply words bytes answer → IsTextReply bytes (answer_of c) answer
 text_reply words bytes (commands.All workers budget) answer w r = r.all budget (record { workers = workers; spelled = w })
 text_reply words bytes (commands.Run budget) answer w r = r.run budget w
+text_reply words bytes commands.Kernel answer w r = r.kernel w
 
 usage_planned : (words : List (List ℕ)) (old new : Reading) (planned : Cause) (reply : List ℕ) → IsUsage words → Plans words old new planned reply → (planned ≡ causes.Usage) ⊎ (planned ≡ causes.NoMemory)
 usage_planned words old new causes.Usage reply u p = inl refl
@@ -203,10 +224,11 @@ pub due_text : (words : List (List ℕ)) (bytes text : List ℕ) (c : Command) (
     → AsText text c answer → IsDue words bytes answer.0 answer.1
 due_text words bytes text k before after answer w b c e l a =
     let same = (whole_read before after bytes text b c e).0 in
+    let d = subst (λ (xs : List ℕ). AsText xs k answer) same a in
     λ read memory. is_reply words bytes k answer w (record {
       too_large = λ long. absurd (let k = ap length same in omega arith);
-      refused = λ short f r. a.refused memory f (subst (λ (xs : List ℕ). IsRefused xs f) (sym same) r);
-      accepted = λ short p q. a.accepted memory p (subst (λ (xs : List ℕ). Accepts xs p) (sym same) q);
+      refused = λ short f r. d.refused memory f r;
+      accepted = λ short p q. d.accepted memory p q;
     })
 
 pub read_text : (bytes text : List ℕ) (before after : Option (List ℕ)) (cause : Cause) → before ≡ Some bytes → Consumes before after text → IsAtEnd after → length text ≤ text_limit → IsRead bytes after cause
@@ -301,9 +323,9 @@ abbrev pub Replied : List (List ℕ) → List ℕ → Writing → Writing → Ca
 Replied words bytes before after cause = cause ≢ causes.ReadFault → cause ≢ causes.NoMemory → (c : Cause) × (r : List ℕ) × IsReply words bytes (c, r) × Ends c r before after cause
 
 -- where words and bytes ask for one answer
-answered : (words : List (List ℕ)) (bytes : List ℕ) (before after : Writing) (cause : Cause) (answer : Answer) → ((x : Answer) → IsReply words bytes x → x ≡ answer) → Replied words bytes before after cause
+answered_with : (words : List (List ℕ)) (bytes : List ℕ) (before after : Writing) (cause : Cause) (answer : Answer) → ((x : Answer) → IsReply words bytes x → x ≡ answer) → Replied words bytes before after cause
     → cause ≢ causes.ReadFault → cause ≢ causes.WriteFault → cause ≢ causes.NoMemory → (cause ≡ answer.0) × Appends before.written after.written answer.1
-answered words bytes before after cause answer only h f w m = go (h f m)
+answered_with words bytes before after cause answer only h f w m = go (h f m)
   where
     go : ((c : Cause) × (r : List ℕ) × IsReply words bytes (c, r) × Ends c r before after cause) → (cause ≡ answer.0) × Appends before.written after.written answer.1
     go (c, r, reply, inl e) =
@@ -317,7 +339,7 @@ asked words bytes before after cause answer only h = go (excused_or cause)
   where
     go : IsNoExcuse cause ⊎ IsExcused cause → (cause ≡ answer.0) ⊎ IsExcused cause
     go (inr e) = inr e
-    go (inl n) = inl (answered words bytes before after cause answer only h n.0 n.1 n.2).0
+    go (inl n) = inl (answered_with words bytes before after cause answer only h n.0 n.1 n.2).0
 
 -- Where they spell a command
 
@@ -326,21 +348,33 @@ module _ (words : List (List ℕ)) (c : Command) (bytes : List ℕ) (before afte
   asked_large l = asked words bytes before after cause (causes.TooLarge (text_limit + 1), too_large_reply) (λ x r. (text_reply words bytes c x w r).too_large l) h
 
   pub asked_refused : (f : Fault) → length bytes ≤ text_limit → IsRefused bytes f → (cause ≡ causes.Refused f) ⊎ IsExcused cause
-  asked_refused f l q = asked words bytes before after cause (causes.Refused f, refused_reply f) (λ x r. (text_reply words bytes c x w r).refused l f q) h
+  asked_refused f l q = asked words bytes before after cause (refused_answer f) (λ x r. (text_reply words bytes c x w r).refused l f q) h
 
   module _ (p : Program) (l : length bytes ≤ text_limit) (a : Accepts bytes p) where
-    only_answer : (x : Answer) → IsReply words bytes x → x ≡ answer_of c (kernel_of p)
+    only_answer : (x : Answer) → IsReply words bytes x → x ≡ answer_of c (unserved_in bytes a.lexemes) p
     only_answer x r = (text_reply words bytes c x w r).accepted l p a
 
-    pub asked_accepted : (cause ≡ (answer_of c (kernel_of p)).0) ⊎ IsExcused cause
-    asked_accepted = asked words bytes before after cause (answer_of c (kernel_of p)) only_answer h
+    pub asked_accepted : (cause ≡ (answer_of c (unserved_in bytes a.lexemes) p).0) ⊎ IsExcused cause
+    asked_accepted = asked words bytes before after cause (answer_of c (unserved_in bytes a.lexemes) p) only_answer h
 
     -- what is written of one answer
-    pub written : (front : List ℕ) (answer : Answer) → answer_of c (kernel_of p) ≡ answer → before.written ≡ Some front
+    pub written : (front : List ℕ) (answer : Answer) → answer_of c (unserved_in bytes a.lexemes) p ≡ answer → before.written ≡ Some front
         → cause ≢ causes.ReadFault → cause ≢ causes.WriteFault → cause ≢ causes.NoMemory → (cause ≡ answer.0) × (after.written ≡ Some (front ++ answer.1))
     written front answer is o f n m =
-        let d = answered words bytes before after cause answer (λ x r. only_answer x r ∙ is) h f n m in
+        let d = answered_with words bytes before after cause answer (λ x r. only_answer x r ∙ is) h f n m in
         (d.0, whole_written before.written after.written front answer.1 o d.1)
+
+    -- a token that is not served yet
+    pub asked_unserved : (at : ℕ) → minded c (unserved_in bytes a.lexemes) ≡ Some at → (cause ≡ causes.Refused (record { kind = kinds.Syntax; at = at })) ⊎ IsExcused cause
+    asked_unserved at e =
+        asked words bytes before after cause (refused_answer (record { kind = kinds.Syntax; at = at }))
+        (λ x r. only_answer x r ∙ ap (λ o. unless_unserved o (answered c p)) e) h
+
+-- all of a program is served
+pub served_answer : (c : Command) (bytes : List ℕ) (p : Program) (a : IsServed bytes p) → answer_of c (unserved_in bytes a.accepted.lexemes) p ≡ answered c p
+served_answer (commands.All workers budget) bytes p a = ap (λ o. unless_unserved o (answered (commands.All workers budget) p)) a.served
+served_answer (commands.Run budget) bytes p a = ap (λ o. unless_unserved o (answered (commands.Run budget) p)) a.served
+served_answer commands.Kernel bytes p a = refl
 
 -- the tree of the script is searched
 pub searched_all : (k : Kernel) (budget : ℕ) (found : Found) (s : Searches k budget found) → all_answer k budget ≡ answer_of_tree (shown_lines s.top) budget found

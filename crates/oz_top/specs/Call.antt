@@ -1,14 +1,14 @@
 -- What a call of the program answers, reads and writes.
-use Rattle.std.specs.Prelude.{ℕ, ◌≡◌, ◌≢◌, ◌<◌, ◌≤◌, ◌+◌, ◌⊎◌, List, [], take, drop, length, Option, Some}
+use Rattle.std.specs.Prelude.{ℕ, ◌≡◌, ◌≢◌, ◌<◌, ◌≤◌, ◌+◌, ◌⊎◌, List, [], take, drop, length, Option, Some, None}
 use Rattle.std.specs.Io.KnownBytes.{Appends, Consumes, IsAtEnd}
 use Rattle.oz_outside.specs.Counts.{Rose}
 use Rattle.oz_semantics.specs.Refusals.{Program, Accepts, IsRefused}
+use Rattle.oz_semantics.specs.Served.{unserved_in}
 use Rattle.oz_semantics.specs.Translation.{kernel_of}
 use Rattle.oz_semantics.specs.Commands.{Spells, IsUsage}
 use Rattle.oz_semantics.specs.declared.command.Command.{Command}
 use Rattle.oz_semantics.specs.declared.command.Command.TheVariants as command
-use Rattle.oz_semantics.specs.Replies.{Answer, IsReply, text_limit, usage_reply, too_large_reply, refused_reply, all_answer, run_answer}
-use Rattle.oz_semantics.specs.declared.kernel.Kernel.{Kernel}
+use Rattle.oz_semantics.specs.Replies.{Answer, IsReply, text_limit, usage_reply, too_large_reply, refused_reply, refused_answer, unless_unserved, all_answer, run_answer, kernel_answer}
 use Rattle.oz_semantics.specs.declared.outcome.Fault.{Fault}
 use Rattle.oz_semantics.specs.declared.outcome.Cause.{Cause}
 use Rattle.oz_semantics.specs.declared.outcome.Cause.TheVariants as causes
@@ -28,18 +28,29 @@ pub record HasRead (old new : Reading) (text : List ℕ) : Type 0 where
   pub ended : IsAtEnd new.left
   pub fits : length text ≤ text_limit
 
--- what a command answers for a kernel
-abbrev pub answer_of : Command → Kernel → Answer
-answer_of (command.All workers budget) = λ k. all_answer k budget
-answer_of (command.Run budget) = λ k. run_answer k budget
+-- what a command answers for a program that may have all its tokens
+abbrev pub answered : Command → Program → Answer
+answered (command.All workers budget) p = all_answer (kernel_of p) budget
+answered (command.Run budget) p = run_answer (kernel_of p) budget
+answered command.Kernel p = kernel_answer p
+
+-- the place of a token that is not served yet, where the command runs the program
+abbrev pub minded : Command → Option ℕ → Option ℕ
+minded command.Kernel at = None
+minded (command.All workers budget) at = at
+minded (command.Run budget) at = at
+
+-- what a command answers for a program with a token that is not served yet at this place, if there is one
+abbrev pub answer_of : Command → Option ℕ → Program → Answer
+answer_of c at p = unless_unserved (minded c at) (answered c p)
 
 -- a program of the text has this answer
 abbrev pub ProgramGives : List ℕ → Command → Answer → Type 0
-ProgramGives text c answer = (p : Program) × Accepts text p × (answer_of c (kernel_of p) ≡ answer)
+ProgramGives text c answer = (p : Program) × (a : Accepts text p) × (answer_of c (unserved_in text a.lexemes) p ≡ answer)
 
 -- a text gives this cause and this reply, before anything is written
 abbrev pub TextGives : List ℕ → Command → Cause → List ℕ → Type 0
-TextGives text c (causes.Refused fault) reply = IsRefused text fault × (reply ≡ refused_reply fault)
+TextGives text c (causes.Refused fault) reply = (IsRefused text fault × (reply ≡ refused_reply fault)) ⊎ ProgramGives text c (causes.Refused fault, reply)
 TextGives text c causes.Done reply = ProgramGives text c (causes.Done, reply)
 TextGives text c (causes.Raised shown) reply = ProgramGives text c (causes.Raised shown, reply)
 TextGives text c (causes.Spent total) reply = ProgramGives text c (causes.Spent total, reply)
@@ -95,8 +106,8 @@ IsExcused cause = (cause ≡ causes.ReadFault) ⊎ ((cause ≡ causes.WriteFault
 
 -- What each text asks for, where memory is there.
 pub record AsText (text : List ℕ) (c : Command) (answer : Answer) : Type 0 where
-  pub refused : answer.0 ≢ causes.NoMemory → (fault : Fault) → IsRefused text fault → answer ≡ (causes.Refused fault, refused_reply fault)
-  pub accepted : answer.0 ≢ causes.NoMemory → (p : Program) → Accepts text p → answer ≡ answer_of c (kernel_of p)
+  pub refused : answer.0 ≢ causes.NoMemory → (fault : Fault) → IsRefused text fault → answer ≡ refused_answer fault
+  pub accepted : answer.0 ≢ causes.NoMemory → (p : Program) → (a : Accepts text p) → answer ≡ answer_of c (unserved_in text a.lexemes) p
 
 -- the words spell this command and no other
 pub record IsCommand (words : List (List ℕ)) (c : Command) : Type 0 where

@@ -1,14 +1,17 @@
-//! What a command answers for a kernel.
+//! What a command answers for a program.
 ghost use Rattle.std.specs.Prelude.{◌≡◌, ◌++◌, [], IfOk, OnOk, codes};
+ghost use Rattle.oz_semantics.specs.Refusals.{Program};
+ghost use Rattle.oz_semantics.specs.Translation.{kernel_of};
 ghost use Rattle.oz_semantics.specs.Runs.{run, opening};
 ghost use Rattle.oz_semantics.specs.Search.{with_root, search_space, depth_first};
 ghost use Rattle.oz_semantics.specs.Texts.{raise_text};
-ghost use Rattle.oz_semantics.specs.Replies.{shown_lines, spent, answer_of_tree, answer_of_raise, searched, all_answer, run_answer};
+ghost use Rattle.oz_semantics.specs.Replies.{shown_lines, spent, answer_of_tree, answer_of_raise, searched, all_answer, run_answer, kernel_answer};
 ghost use Rattle.oz_machine.specs.Answers.{IsRun};
-ghost use Rattle.oz_top.specs.Call.{answer_of};
+ghost use Rattle.oz_top.specs.Call.{answered};
 
 use crate::reply::{add_decimal, add_leaves_reply, lines};
 use crate::search::depth_first;
+use kernel_form::kernel_text;
 use oz_base::{Ident, Sequence};
 use oz_machine::{Machine, Ran, exception_text};
 use oz_outside::Gate;
@@ -182,17 +185,29 @@ fn run_answer(alloc: Global, kernel: Kernel, budget: u64) -> Result<Plan, AllocE
     }
 }
 
-/// What a command answers for a kernel.
-pub fn answer_of<G: Gate>(
+/// What `kernel` answers: the kernel as a text.
+fn kernel_answer(alloc: Global, kernel: &Kernel) -> Result<Plan, AllocError>
+    ensures { (p : Program) → kernel.now ≡ kernel_of p → IfOk result (λ plan. (plan.cause, plan.reply.items) ≡ kernel_answer p) }
+{
+    let text = kernel_text(alloc, kernel)?;
+    Ok(Plan {
+        cause: Cause::Done,
+        reply: text.into_vec(),
+    })
+}
+
+/// What a command answers for the kernel of a program that may have all its tokens.
+pub fn answered<G: Gate>(
     alloc: Global,
     command: Command,
     kernel: Kernel,
     gate: &G,
 ) -> Result<Plan, AllocError>
-    ensures { IfOk result (λ plan. (plan.cause, plan.reply.items) ≡ answer_of command kernel) }
+    ensures { (p : Program) → kernel ≡ kernel_of p → IfOk result (λ plan. (plan.cause, plan.reply.items) ≡ answered command p) }
 {
     match command {
         Command::All { budget, .. } => all_answer(alloc, kernel, budget, gate),
         Command::Run { budget } => run_answer(alloc, kernel, budget),
+        Command::Kernel => kernel_answer(alloc, &kernel),
     }
 }

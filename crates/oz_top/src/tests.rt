@@ -92,6 +92,29 @@ fn runs_each_text(rt: HostRuntime) -> Result<(), Fail> {
 }
 
 #[test]
+fn writes_kernels_and_what_is_not_served(rt: HostRuntime) -> Result<(), Fail> {
+    let cases: [(&[&str], &[u8], &str, u8); 6] = [
+        (&["kernel"], b"", "skip\n", 0),
+        (&["kernel"], b"thread skip end", "thread skip end\n", 0),
+        (&["run"], b"thread skip end", "refused syntax 0\n", 3),
+        (&["run"], b"{Show 'a b'|nil}", "'a b'|nil\n", 0),
+        (&["all"], b"local FD in skip end", "refused syntax 6\n", 3),
+        (
+            &["run"],
+            b"F in F=fun lazy {$} 1 end",
+            "refused syntax 11\n",
+            3,
+        ),
+    ];
+    for (words, text, reply, status) in cases {
+        let (sink, ended) = answered(rt.alloc(), words, text)?;
+        assert_eq!(rt; sink.written(), reply.as_bytes());
+        assert_eq!(rt; ended, status);
+    }
+    Ok(())
+}
+
+#[test]
 fn what_was_shown_stands_in_front(rt: HostRuntime) -> Result<(), Fail> {
     let cases: [(&[&str], &[u8], &str, u8); 4] = [
         (&["all"], b"{Show a}", "a\nno script\n", 9),

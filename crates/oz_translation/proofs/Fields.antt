@@ -7,7 +7,7 @@ use Rattle.oz_syntax.specs.declared.phrase.Phrase.{Phrase as Tree}
 use Rattle.oz_syntax.specs.View.{view, views}
 use Rattle.oz_translation.specs.Keys.{key_of, feature_or, place_after, with_field}
 use Rattle.std.specs.List.{zip}
-use Rattle.oz_translation.proofs.Loops.{next_one}
+use Rattle.oz_translation.proofs.Listing.{next_one}
 
 -- the features of fields, those without a key having n, n + 1, ..
 abbrev pub keys_from : ℕ → Phrases → List Constant

@@ -1,37 +1,35 @@
--- What one phrase and the others behind it declare, and what a head binds.
-use Rattle.std.proofs.Common.{◌≡◌, ℕ, Bool, true, false, Some, List, [], ◌∷◌, ◌++◌, refl}
+-- What one phrase and the others behind it declare.
+use Rattle.std.proofs.Common.{◌≡◌, ℕ, ◌+◌, ◌<◌, Bool, true, false, Option, Some, None, List, [], ◌∷◌, ◌++◌, length, get_or, drop, append_assoc, refl, ap, sym, ◌∙◌}
 use Rattle.std.specs.Prelude.{if◌then◌else◌}
-use Rattle.oz_semantics.specs.Grammar.{Phrase, Phrases, nothing, more, var, proc, rec, keyed}
-use Rattle.oz_semantics.specs.Kernels.{Stmts}
-use Rattle.oz_semantics.specs.Translation.{variable_of, behind, declared, is_among, proc_bound}
+use Rattle.oz_semantics.specs.Grammar.{of_list}
+use Rattle.oz_semantics.specs.Refusals.{contains, declared_by}
+use Rattle.oz_semantics.specs.Translation.{once, declared}
 use Rattle.oz_semantics.specs.declared.kernel.Name.{Name}
 use Rattle.oz_semantics.specs.declared.kernel.Name.TheVariants.{Word}
-use Rattle.oz_translation.specs.Declares.{declares, first_time, seen_with, head_name, parameters, bound}
+use Rattle.oz_syntax.specs.declared.phrase.Phrase.{Phrase as Tree}
+use Rattle.oz_syntax.specs.View.{view, views}
+use Rattle.oz_translation.specs.Declares.{first_time, seen_with}
+use Rattle.oz_translation.proofs.Listing.{next_one}
 
-once_before : (b : Bool) (x : Name) (xs : List Name) → (if b then xs else x ∷ xs) ≡ (if b then [] else x ∷ []) ++ xs
-once_before true x xs = refl
-once_before false x xs = refl
+tested : (b : Bool) (x : Name) (seen next : List ℕ) (rest : List ℕ → List Name) →
+    (if b then rest seen else x ∷ rest next) ≡ (if b then [] else x ∷ []) ++ rest (if b then seen else next)
+tested true x seen next rest = refl
+tested false x seen next rest = refl
 
-declared_head : (seen : List ℕ) (hs : Phrases) (b : Phrase) (ps : Phrases) →
-    declared seen (more (proc hs b) ps) ≡ first_time seen (head_name hs) ++ declared (seen_with (head_name hs) seen) ps
-declared_head seen nothing b ps = refl
-declared_head seen (more (var name at) hs) b ps = once_before (is_among seen name) (Word name) (declared (name ∷ seen) ps)
-declared_head seen (more p hs) b ps = refl
+pub once_first : (seen : List ℕ) (name : Option ℕ) (rest : List ℕ → List Name) → once seen name rest ≡ first_time seen name ++ rest (seen_with name seen)
+once_first seen None rest = refl
+once_first seen (Some name) rest = tested (contains seen name) (Word name) seen (name ∷ seen) rest
 
-pub declared_more : (seen : List ℕ) (p : Phrase) (ps : Phrases) →
-    declared seen (more p ps) ≡ first_time seen (declares p) ++ declared (seen_with (declares p) seen) ps
-declared_more seen (var name at) ps = once_before (is_among seen name) (Word name) (declared (name ∷ seen) ps)
-declared_more seen (proc hs b) ps = declared_head seen hs b ps
-declared_more seen p ps = refl
-
--- a variable takes no identifier of its own
-pub behind_variable : (n : ℕ) (e : Phrase) (x : Name) → variable_of e ≡ Some x → n ≡ behind n e
-behind_variable n (keyed k at e) x h = behind_variable n e x h
-behind_variable n (rec l at fs) x h = absurd (cc)
-behind_variable n e x h = refl
-
--- only a head that begins with a variable binds something
-pub head_binds : (hs : Phrases) (ss : Stmts) → proc_bound hs ss ≡ bound (head_name hs) (parameters hs) ss
-head_binds nothing ss = refl
-head_binds (more (var name at) hs) ss = refl
-head_binds (more p hs) ss = refl
+pub declared_loop : (xs xs' f : List Name) (seen seen' : List ℕ) (ps : List Tree) (i : ℕ) (e : Tree) →
+    i < length ps → e ≡ get_or ps i e →
+    xs' ≡ xs ++ first_time seen (declared_by (view e)) → seen' ≡ seen_with (declared_by (view e)) seen →
+    xs ++ declared seen (of_list (views (drop i ps))) ≡ f →
+    xs' ++ declared seen' (of_list (views (drop (i + 1) ps))) ≡ f
+declared_loop xs xs' f seen seen' ps i e lt is ex es h =
+    let rest = of_list (views (drop (i + 1) ps)) in
+    ap (λ q. q ++ declared seen' rest) ex
+    ∙ ap (λ q. (xs ++ first_time seen (declared_by (view e))) ++ declared q rest) es
+    ∙ append_assoc xs (first_time seen (declared_by (view e))) _
+    ∙ ap (λ q. xs ++ q) (sym (once_first seen (declared_by (view e)) (λ names. declared names rest)))
+    ∙ sym (ap (λ q. xs ++ declared seen q) (next_one ps i e lt is))
+    ∙ h

@@ -40,6 +40,12 @@ mutual
       let second = length-listed_all (n + count ss) us in
       let both = length-append (listed_all n ss) (listed_all (n + count ss) us) in
       omega (arith, first, second, both)
+  length-listed_inside n (k.thread ss) = length-listed_all n ss
+  length-listed_inside n (k.attempt ss x us) =
+      let first = length-listed_all n ss in
+      let second = length-listed_all (n + count ss) us in
+      let both = length-append (listed_all n ss) (listed_all (n + count ss) us) in
+      omega (arith, first, second, both)
   length-listed_inside n s = refl
 
   pub length-listed_all : (n : ℕ) (ss : Stmts) → length (listed_all n ss) ≡ count ss

@@ -1,5 +1,10 @@
 pub mod Outputs
 pub mod Declares
 pub mod Keys
-pub mod Chains
 pub mod Order
+pub mod Nodes
+pub mod Constructs
+pub mod Goals
+pub mod Tasks
+pub mod Cells
+pub mod Relations

@@ -1,18 +1,19 @@
 //! What phrases declare.
 ghost use Rattle.std.specs.Prelude.{◌≡◌, ◌++◌, [], OnOk, IfOk};
-ghost use Rattle.oz_semantics.specs.Grammar.{more, nothing, of_list};
+ghost use Rattle.oz_semantics.specs.Grammar.{of_list};
 ghost use Rattle.oz_semantics.specs.Translation.{declared};
+ghost use Rattle.oz_semantics.specs.Refusals.{name_in, declared_by};
 ghost use Rattle.oz_syntax.specs.View.{view, views};
-ghost use Rattle.oz_translation.specs.Declares.{head_name, declares, first_time, seen_with};
+ghost use Rattle.oz_translation.specs.Declares.{variable_name, first_time, seen_with};
 
 use oz_base::{Sequence, Tally};
-use oz_semantics::Name;
+use oz_semantics::{Connective, Name};
 use oz_syntax::Phrase;
 use std::alloc::{AllocError, Global};
 
 /// The variable that the phrase is.
 fn variable(phrase: &Phrase) -> Option<u32>
-    ensures { result ≡ head_name (more (view phrase.now) nothing) }
+    ensures { result ≡ variable_name (view phrase.now) }
 {
     match phrase {
         Phrase::Var { name, .. } => Some(*name),
@@ -20,20 +21,28 @@ fn variable(phrase: &Phrase) -> Option<u32>
     }
 }
 
-/// The variable that a head begins with.
-pub fn head_name(head: &[Phrase]) -> Option<u32>
-    ensures { result ≡ head_name (of_list (views head.now)) }
+/// The name that a head begins with.
+pub fn name_in(head: &Phrase) -> Option<u32>
+    ensures { result ≡ name_in (view head.now) }
 {
-    variable(head.first()?)
+    match head {
+        Phrase::Head { names, .. } => variable(names.first()?),
+        _ => None,
+    }
 }
 
-/// The variable that the phrase declares: itself, or a procedure's name.
-fn declares(phrase: &Phrase) -> Option<u32>
-    ensures { result ≡ declares (view phrase.now) }
+/// The variable that the phrase declares: itself, the left side of an equation, or the name of a procedure or a function.
+fn declared_by(phrase: &Phrase) -> Option<u32>
+    ensures { result ≡ declared_by (view phrase.now) }
 {
     match phrase {
         Phrase::Var { name, .. } => Some(*name),
-        Phrase::Proc { head, .. } => head_name(head),
+        Phrase::Connected {
+            connective: Connective::Equates,
+            left,
+            ..
+        } => variable(left),
+        Phrase::Proc { head, .. } | Phrase::Fun { head, .. } => name_in(head),
         _ => None,
     }
 }
@@ -52,8 +61,8 @@ fn declare(
     };
     if !seen.has(name) {
         names.push(Name::Word(name))?;
+        seen.push(name)?;
     }
-    seen.push(name)?;
     Ok(())
 }
 
@@ -69,7 +78,7 @@ pub fn declared(
     seen.leave(0);
     let mut names = Sequence::new(alloc);
     'phrases: for phrase in phrases {
-        declare(&mut names, seen, declares(phrase))?;
+        declare(&mut names, seen, declared_by(phrase))?;
     }
     Ok(names)
 }

@@ -1,7 +1,7 @@
 //! The identifiers of parts.
-ghost use Rattle.std.specs.Prelude.{◌≡◌, suc, OnOk, IfOk};
+ghost use Rattle.std.specs.Prelude.{◌≡◌, suc, [], ◌∷◌, OnOk, IfOk};
 ghost use Rattle.oz_semantics.specs.Grammar.{of_list};
-ghost use Rattle.oz_semantics.specs.Translation.{variable_of, name_or, next_after, names_of, behind_names, fresh_among, variables};
+ghost use Rattle.oz_semantics.specs.Translation.{variable_of, name_or, next_after, names_of, behind_names, fresh_among, last_variable, parameter_of, parameter_names, behind_parameters};
 ghost use Rattle.oz_semantics.specs.declared.kernel.Name.TheVariants.{Fresh};
 ghost use Rattle.oz_syntax.specs.View.{view, views};
 
@@ -10,13 +10,17 @@ use oz_semantics::Name;
 use oz_syntax::Phrase;
 use std::alloc::{AllocError, Global};
 
-/// The identifier of a variable, or of a field that is one.
+/// The identifier of a variable, also in parentheses or as a field.
 pub fn variable_of(phrase: &Phrase) -> Option<Name>
     ensures { result ≡ variable_of (view phrase.now) }
 {
     match phrase {
         Phrase::Var { name, .. } => Some(Name::Word(*name)),
         Phrase::Keyed { value, .. } => variable_of(value),
+        Phrase::Paren { inner, .. } => match inner.as_slice() {
+            [value] => variable_of(value),
+            _ => None,
+        },
         _ => None,
     }
 }
@@ -48,10 +52,46 @@ impl Numbers {
         ensures name { IfOk result (λ name. name ≡ name_or self.old.next (variable_of (view part.now))) }
         ensures next { OnOk result (self.new.next ≡ next_after self.old.next (variable_of (view part.now))) }
     {
-        match variable_of(part) {
+        self.name_or(variable_of(part))
+    }
+
+    /// A name, or an identifier of its own where there is none.
+    pub fn name_or(&mut self, name: Option<Name>) -> Result<Name, AllocError>
+        ensures name { IfOk result (λ x. x ≡ name_or self.old.next name) }
+        ensures next { OnOk result (self.new.next ≡ next_after self.old.next name) }
+    {
+        match name {
             Some(name) => Ok(name),
             None => self.fresh(),
         }
+    }
+
+    /// The identifier of a parameter: `_` has one of its own.
+    fn parameter(&mut self, parameter: &Phrase) -> Result<Name, AllocError>
+        ensures name { IfOk result (λ name. name ≡ name_or self.old.next (parameter_of (view parameter.now))) }
+        ensures next { OnOk result (self.new.next ≡ next_after self.old.next (parameter_of (view parameter.now))) }
+    {
+        match parameter {
+            Phrase::Var { name, .. } => Ok(Name::Word(*name)),
+            _ => self.fresh(),
+        }
+    }
+
+    /// The identifiers of parameters.
+    pub fn parameters(
+        &mut self,
+        alloc: Global,
+        parameters: &[Phrase],
+    ) -> Result<Sequence<Name>, AllocError>
+        ensures names { IfOk result (λ names. names ≡ parameter_names self.old.next (of_list (views parameters.now))) }
+        ensures next { OnOk result (self.new.next ≡ behind_parameters self.old.next (of_list (views parameters.now))) }
+    {
+        let mut names = Sequence::new(alloc);
+        'parameters: for parameter in parameters {
+            let name = self.parameter(parameter)?;
+            names.push(name)?;
+        }
+        Ok(names)
     }
 
     /// The identifiers of parts, left to right.
@@ -81,15 +121,31 @@ pub fn fresh_among(alloc: Global, names: &[Name]) -> Result<Sequence<Name>, Allo
     Ok(fresh)
 }
 
-/// The identifiers of the variables among phrases.
-pub fn variables(alloc: Global, phrases: &[Phrase]) -> Result<Sequence<Name>, AllocError>
-    ensures { IfOk result (λ names. names ≡ variables (of_list (views phrases.now))) }
+/// One identifier alone.
+pub fn one_name(alloc: Global, name: Name) -> Result<Sequence<Name>, AllocError>
+    ensures { IfOk result (λ names. names ≡ name ∷ []) }
 {
     let mut names = Sequence::new(alloc);
-    'phrases: for phrase in phrases {
-        if let Phrase::Var { name, .. } = phrase {
-            names.push(Name::Word(*name))?;
-        }
-    }
+    names.push(name)?;
     Ok(names)
+}
+
+/// Two identifiers.
+pub fn two_names(alloc: Global, first: Name, second: Name) -> Result<Sequence<Name>, AllocError>
+    ensures { IfOk result (λ names. names ≡ first ∷ second ∷ []) }
+{
+    let mut names = one_name(alloc, first)?;
+    names.push(second)?;
+    Ok(names)
+}
+
+/// What a chain ends in, where that is a variable and nothing else is left.
+#[tactic(auto, using(crate::proofs::Listing::many_no_last))]
+pub fn last_variable(elements: &[Phrase]) -> Option<Name>
+    ensures { result ≡ last_variable (of_list (views elements.now)) }
+{
+    match elements {
+        [element] => variable_of(element),
+        _ => None,
+    }
 }

@@ -1,14 +1,12 @@
 //! The statements written so far.
 ghost use Rattle.std.specs.Prelude.{◌≡◌, [], ◌∷◌, length, OnOk, IfOk};
-ghost use Rattle.oz_semantics.specs.Kernels.{none, just};
+ghost use Rattle.oz_semantics.specs.Kernels.{just};
 ghost use Rattle.oz_semantics.specs.Kernels as k;
 ghost use Rattle.oz_semantics.specs.declared.kernel.Statement.TheVariants as numbered;
-ghost use Rattle.oz_semantics.specs.Translation.{called};
-ghost use Rattle.oz_translation.specs.Chains.{with_chain};
-ghost use Rattle.oz_translation.specs.Outputs.{with_statement, with_all, with_alone, with_part_closed, opened, joined, in_local, in_scope};
+ghost use Rattle.oz_translation.specs.Outputs.{with_statement, with_all, opened};
 
-use oz_base::{Sequence, Stack};
-use oz_semantics::{Constant, Name, Piece, Statement};
+use oz_base::Sequence;
+use oz_semantics::{Constant, LinearTerm, Name, Piece, Sign, Statement};
 use std::alloc::{AllocError, Global};
 use std::mem;
 
@@ -27,13 +25,6 @@ fn number_at(place: usize) -> Result<u32, AllocError>
         Ok(number) => Ok(number),
         Err(_) => Err(AllocError),
     }
-}
-
-/// A clause of a `case` whose body is written: the nodes of its pattern, and the numbers of the statements of its body.
-#[derive(Drop)]
-pub struct Arm {
-    pub pattern: Sequence<Piece>,
-    pub accepted: Sequence<u32>,
 }
 
 impl Output {
@@ -57,14 +48,6 @@ impl Output {
         Ok(())
     }
 
-    /// Adds no statement.
-    #[tactic(auto, using(crate::proofs::Writing::with_nothing))]
-    pub fn nothing(&mut self) -> Result<(), AllocError>
-        ensures { OnOk result (self.new ≡ with_all self.old none) }
-    {
-        Ok(())
-    }
-
     /// `skip`
     #[tactic(auto, using(crate::proofs::Writing::skip_written))]
     pub fn skip(&mut self) -> Result<(), AllocError>
@@ -80,6 +63,24 @@ impl Output {
         ensures { OnOk result (self.new ≡ with_all self.old (just k.fail)) }
     {
         self.push(Statement::Fail)?;
+        Ok(())
+    }
+
+    /// No clause of a `case` matches.
+    #[tactic(auto, using(crate::proofs::Writing::no_match_written))]
+    pub fn no_match(&mut self) -> Result<(), AllocError>
+        ensures { OnOk result (self.new ≡ with_all self.old (just k.no_match)) }
+    {
+        self.push(Statement::NoMatch)?;
+        Ok(())
+    }
+
+    /// `raise X end`
+    #[tactic(auto, using(crate::proofs::Writing::raise_written))]
+    pub fn raise(&mut self, name: Name) -> Result<(), AllocError>
+        ensures { OnOk result (self.new ≡ with_all self.old (just (k.raise name))) }
+    {
+        self.push(Statement::Raise { name })?;
         Ok(())
     }
 
@@ -101,17 +102,33 @@ impl Output {
         Ok(())
     }
 
-    /// A call of the first with the others.
-    #[tactic(auto, using(crate::proofs::Writing::with_nothing, crate::proofs::Writing::call_written))]
-    pub fn call(&mut self, mut names: Sequence<Name>) -> Result<(), AllocError>
-        ensures { OnOk result (self.new ≡ with_all self.old (called names)) }
+    /// `post(S C A*X ..)`: what the sum of a constant and terms is.
+    #[tactic(auto, using(crate::proofs::RelationLaws::post_written))]
+    pub fn post(
+        &mut self,
+        sign: Sign,
+        constant: i64,
+        terms: Sequence<LinearTerm>,
+    ) -> Result<(), AllocError>
+        ensures { OnOk result (self.new ≡ with_all self.old (just (k.post sign constant terms))) }
     {
-        let Some(procedure) = names.take_front() else {
-            return Ok(());
-        };
-        self.push(Statement::Call {
-            procedure,
-            arguments: names,
+        self.push(Statement::Post {
+            sign,
+            constant,
+            terms,
+        })?;
+        Ok(())
+    }
+
+    /// `post(times X Y Z)`: the last is the product of the others.
+    #[tactic(auto, using(crate::proofs::RelationLaws::post_times_written))]
+    pub fn post_times(&mut self, left: Name, right: Name, product: Name) -> Result<(), AllocError>
+        ensures { OnOk result (self.new ≡ with_all self.old (just (k.post_times left right product))) }
+    {
+        self.push(Statement::PostTimes {
+            left,
+            right,
+            product,
         })?;
         Ok(())
     }
@@ -139,6 +156,40 @@ impl Output {
         self.push(Statement::Choice { alternatives })
     }
 
+    /// `case X of P then S .. else S .. end`, by the numbers of its bodies.
+    pub fn case(
+        &mut self,
+        subject: Name,
+        pattern: Sequence<Piece>,
+        accepted: Sequence<u32>,
+        otherwise: Sequence<u32>,
+    ) -> Result<(), AllocError>
+        ensures { OnOk result (self.new ≡ with_statement self.old (numbered.Case subject pattern accepted otherwise)) }
+    {
+        self.push(Statement::Case {
+            subject,
+            pattern,
+            accepted,
+            otherwise,
+        })
+    }
+
+    /// `try S .. catch X then S .. end`, by the numbers of its bodies.
+    pub fn attempt(
+        &mut self,
+        body: Sequence<u32>,
+        exception: Name,
+        handler: Sequence<u32>,
+    ) -> Result<(), AllocError>
+        ensures { OnOk result (self.new ≡ with_statement self.old (numbered.Try body exception handler)) }
+    {
+        self.push(Statement::Try {
+            body,
+            exception,
+            handler,
+        })
+    }
+
     /// `if X then S .. else S .. end`, by the numbers of its bodies.
     pub fn test(
         &mut self,
@@ -155,45 +206,6 @@ impl Output {
         })
     }
 
-    /// Writes a statement that stands in no body yet, and hands out a body of it alone.
-    pub fn alone(
-        &mut self,
-        alloc: Global,
-        statement: Statement,
-    ) -> Result<Sequence<u32>, AllocError>
-        ensures output { OnOk result (self.new ≡ with_alone self.old statement) }
-        ensures body { IfOk result (λ body. body ≡ length self.old.statements ∷ []) }
-    {
-        let mut body = Sequence::new(alloc);
-        body.push(number_at(self.statements.len())?)?;
-        self.statements.push(statement)?;
-        Ok(body)
-    }
-
-    /// The `case` statements of clauses, from the last clause to the first, since a statement comes behind those inside it.
-    /// They go on with what is done where no clause matches.
-    pub fn chain(
-        &mut self,
-        alloc: Global,
-        subject: Name,
-        mut arms: Stack<Arm>,
-        last: Sequence<u32>,
-    ) -> Result<(), AllocError>
-        ensures { OnOk result (self.new ≡ with_chain subject arms self.old last) }
-    {
-        let mut otherwise = last;
-        'arms: while let Some(Arm { pattern, accepted }) = arms.pop() {
-            let statement = Statement::Case {
-                subject,
-                pattern,
-                accepted,
-                otherwise,
-            };
-            otherwise = self.alone(alloc, statement)?;
-        }
-        self.body.append(otherwise.into_vec())
-    }
-
     /// Begins a body of its own, and hands out the outer one.
     pub fn open(&mut self, alloc: Global) -> Sequence<u32>
         ensures outer { result ≡ self.old.body }
@@ -208,59 +220,5 @@ impl Output {
         ensures output { self.new ≡ record { statements = self.old.statements; body = outer } }
     {
         mem::replace(&mut self.body, outer)
-    }
-
-    /// Puts the body behind an outer one.
-    pub fn join(&mut self, outer: Sequence<u32>) -> Result<(), AllocError>
-        ensures { OnOk result (self.new ≡ joined outer self.old) }
-    {
-        let inner = self.close(outer);
-        self.body.append(inner.into_vec())
-    }
-
-    /// Makes the body that of a `local` behind an outer one.
-    pub fn close_local(
-        &mut self,
-        outer: Sequence<u32>,
-        names: Sequence<Name>,
-    ) -> Result<(), AllocError>
-        ensures { OnOk result (self.new ≡ in_local outer names self.old) }
-    {
-        let body = self.close(outer);
-        self.push(Statement::Local { names, body })
-    }
-
-    /// Does so where there are names.
-    pub fn close_scope(
-        &mut self,
-        outer: Sequence<u32>,
-        names: Sequence<Name>,
-    ) -> Result<(), AllocError>
-        ensures { OnOk result (self.new ≡ in_scope outer names self.old) }
-    {
-        if names.len() == 0 {
-            self.join(outer)
-        } else {
-            self.close_local(outer, names)
-        }
-    }
-
-    /// Does so where the name is one that the translation made.
-    pub fn close_part(
-        &mut self,
-        alloc: Global,
-        outer: Sequence<u32>,
-        name: Name,
-    ) -> Result<(), AllocError>
-        ensures { OnOk result (self.new ≡ with_part_closed name outer self.old) }
-    {
-        match name {
-            Name::Word(_) => self.join(outer),
-            Name::Fresh(_) => {
-                let mut names = Sequence::new(alloc);
-                names.push(name)?;
-                self.close_local(outer, names)
-            }
-        }
     }
 }

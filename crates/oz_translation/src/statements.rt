@@ -1,243 +1,419 @@
-//! The translation of statements, declarations and bodies.
-ghost use Rattle.std.specs.Prelude.{◌≡◌, length, Some, OnOk, IfOk};
-ghost use Rattle.oz_semantics.specs.Grammar.{choice, of_list};
-ghost use Rattle.oz_semantics.specs.Kernels.{none, numbers, numbers_each};
-ghost use Rattle.oz_semantics.specs.Translation.{translated, translated_each, alternatives, behind_statement, behind_statements, or_skip, kernel_of};
+//! Statements, and constructs that may have a value.
+ghost use Rattle.std.specs.Prelude.{◌≡◌, ℕ, List, [], ◌∷◌, Some, None, OnOk};
+ghost use Rattle.oz_semantics.specs.Grammar.{of_list};
+ghost use Rattle.oz_semantics.specs.Kernels as k;
+ghost use Rattle.oz_semantics.specs.Translation.{variable_of, and_then, statement, translated, references, parameters_of, procedure_name};
+ghost use Rattle.oz_semantics.specs.Wording.{assign_word};
+ghost use Rattle.oz_semantics.specs.declared.kernel.Name.TheVariants.{Word};
 ghost use Rattle.oz_syntax.specs.View.{view, views};
-ghost use Rattle.oz_translation.specs.Declares.{parameters, bound};
-ghost use Rattle.oz_translation.specs.Outputs.{with_all, with_inside, with_bodies, in_declarations};
+ghost use Rattle.oz_translation.specs.Constructs.{with_two, connected_made, raised, equation_made, relation_made, call_made, procedure_made, value_procedure_made, lazy_made, statement_made};
+ghost use Rattle.oz_translation.specs.Goals.{goal_of};
+ghost use Rattle.oz_translation.specs.Tasks.{state_of, calling, outcome, outcome_with};
 
-use crate::declarations::{declared, head_name};
-use crate::expressions::Writer;
-use crate::names::variables;
-use crate::output::Output;
+use crate::declarations::name_in;
+use crate::expressions::with_result;
+use crate::given::{assign, by_need};
+use crate::goals::Goal;
+use crate::names::{Numbers, one_name, two_names, variable_of};
+use crate::relations::{behind_factor, behind_side, between};
+use crate::tasks::{Closing, Task};
+use crate::writer::Writer;
 use oz_base::{Sequence, Words};
-use oz_semantics::{Kernel, Name, Statement};
+use oz_semantics::{Comparison, Connective, Name, Operation, Operator, Statement};
 use oz_syntax::Phrase;
-use std::alloc::{AllocError, Global};
-use std::mem;
+use std::alloc::AllocError;
 
-/// The identifiers of the parameters of a head.
-fn parameters(alloc: Global, head: &[Phrase]) -> Result<Sequence<Name>, AllocError>
-    ensures { IfOk result (λ names. names ≡ parameters (of_list (views head.now))) }
+/// The parameters of a procedure: what stands behind its name.
+fn parameters_of(head: &Phrase) -> &[Phrase]
+    ensures { of_list (views result.now) ≡ parameters_of (view head.now) }
 {
-    match head.split_first() {
-        None => Ok(Sequence::new(alloc)),
-        Some((_, others)) => variables(alloc, others),
+    match head {
+        Phrase::Head { names, .. } => match names.split_first() {
+            Some((_, parameters)) => parameters,
+            None => &[],
+        },
+        _ => &[],
     }
 }
 
-impl Writer {
-    /// The statements of a statement, a declaration, a clause or a body.
-    #[cycle(statements)]
-    pub fn statement(&mut self, words: &Words, phrase: &Phrase) -> Result<(), AllocError>
-        ensures output { OnOk result (self.new.output ≡ with_all self.old.output (translated words.now self.old.numbers.next (view phrase.now))) }
-        ensures next { OnOk result (self.new.numbers.next ≡ behind_statement self.old.numbers.next (view phrase.now)) }
+/// The identifier of a procedure: what gets its value, or its name.
+fn procedure_name(goal: Goal, head: &Phrase) -> Name
+    ensures { result ≡ procedure_name (goal_of goal) (view head.now) }
+{
+    match goal {
+        Goal::Value(name) => name,
+        Goal::Statement => match name_in(head) {
+            Some(name) => Name::Word(name),
+            // What is read has a name there.
+            None => Name::Fresh(0),
+        },
+    }
+}
+
+impl<'a> Writer<'a> {
+    /// A phrase as a statement. An expression alone, as it is declared, is none.
+    pub fn statement(&mut self, words: &Words, phrase: &'a Phrase) -> Result<(), AllocError>
+        ensures { OnOk result (outcome words.now self.new ≡ outcome_with words.now self.old (translated words.now statement self.old.numbers.next (view phrase.now))) }
     {
         match phrase {
-            Phrase::Skip => self.output.skip(),
-            Phrase::Fail => self.output.fail(),
-            Phrase::Equal { left, right } => self.equate(words, left, right),
-            Phrase::Call { parts } => self.call(words, parts),
-            Phrase::Proc { head, body } => match head_name(head) {
-                None => self.pass_over(words, body),
-                Some(name) => {
-                    let parameters = parameters(self.alloc, head)?;
-                    self.procedure(words, name, parameters, body)
-                }
-            },
-            Phrase::Local { declarations, body } => {
-                let outer = self.output.open(self.alloc);
-                self.statements(words, declarations)?;
-                self.statement(words, body)?;
-                self.close_declarations(outer, declarations)?;
-                Ok(())
-            }
-            Phrase::Choice { alternatives } => self.choice(words, alternatives),
-            Phrase::When { condition, body } => {
-                let part = self.open_part(words, condition)?;
-                let accepted = self.inner(words, body)?;
-                let refused = self.output.alone(self.alloc, Statement::Skip)?;
-                self.close_test(part, accepted, refused)?;
-                Ok(())
-            }
-            Phrase::Choose {
-                condition,
-                body,
-                otherwise,
-            } => {
-                let part = self.open_part(words, condition)?;
-                let accepted = self.inner(words, body)?;
-                let refused = self.inner(words, otherwise)?;
-                self.close_test(part, accepted, refused)?;
-                Ok(())
-            }
-            Phrase::Cases { subject, clauses } => {
-                let part = self.open_part(words, subject)?;
-                let arms = self.arms(words, clauses)?;
-                let last = self.output.alone(self.alloc, Statement::NoMatch)?;
-                self.close_chain(part, arms, last)?;
-                Ok(())
-            }
-            Phrase::CasesOr {
-                subject,
-                clauses,
-                otherwise,
-            } => {
-                let part = self.open_part(words, subject)?;
-                let arms = self.arms(words, clauses)?;
-                let last = self.inner(words, otherwise)?;
-                self.close_chain(part, arms, last)?;
-                Ok(())
-            }
-            Phrase::Clause { body, .. } => self.statement(words, body),
+            Phrase::Paren { inner, .. } => self.later(Task::Each { phrases: inner }),
+            Phrase::Skip
+            | Phrase::Fail { .. }
+            | Phrase::Raise { .. }
+            | Phrase::Connected { .. }
+            | Phrase::Relate { .. }
+            | Phrase::Call { .. }
+            | Phrase::Proc { .. }
+            | Phrase::Fun { .. } => self.simple(words, Goal::Statement, phrase),
+            Phrase::Local { .. }
+            | Phrase::Thread { .. }
+            | Phrase::Choice { .. }
+            | Phrase::When { .. }
+            | Phrase::Choose { .. }
+            | Phrase::Cases { .. }
+            | Phrase::CasesOr { .. }
+            | Phrase::Try { .. } => self.construct(words, Goal::Statement, phrase),
             Phrase::Body {
                 declarations,
-                statements,
-            } => {
-                let outer = self.output.open(self.alloc);
-                self.statements(words, declarations)?;
-                self.statements_or_skip(words, statements)?;
-                self.close_declarations(outer, declarations)?;
-                Ok(())
-            }
+                phrases,
+            } => self.body(declarations, phrases),
             Phrase::Var { .. }
             | Phrase::Any { .. }
             | Phrase::Int { .. }
+            | Phrase::String { .. }
             | Phrase::Literal { .. }
             | Phrase::Record { .. }
-            | Phrase::Keyed { .. } => self.output.nothing(),
+            | Phrase::Keyed { .. }
+            | Phrase::List { .. }
+            | Phrase::Binary { .. }
+            | Phrase::Bars { .. }
+            | Phrase::Hashes { .. }
+            | Phrase::Select { .. }
+            | Phrase::Access { .. }
+            | Phrase::Dollar
+            | Phrase::Head { .. }
+            | Phrase::Arm { .. }
+            | Phrase::Clause { .. } => self.nothing(),
         }
     }
 
-    /// One behind the other.
-    #[cycle(statements)]
-    fn statements(&mut self, words: &Words, phrases: &[Phrase]) -> Result<(), AllocError>
-        ensures output { OnOk result (self.new.output ≡ with_all self.old.output (translated_each words.now self.old.numbers.next (of_list (views phrases.now)))) }
-        ensures next { OnOk result (self.new.numbers.next ≡ behind_statements self.old.numbers.next (of_list (views phrases.now))) }
+    /// What has no bodies but those of procedures.
+    pub fn simple(
+        &mut self,
+        words: &Words,
+        goal: Goal,
+        phrase: &'a Phrase,
+    ) -> Result<(), AllocError>
+        ensures { OnOk result (outcome words.now self.new ≡ outcome_with words.now self.old (statement_made words.now (goal_of goal) self.old.numbers.next (view phrase.now))) }
     {
-        'phrases: for phrase in phrases {
-            self.statement(words, phrase)?;
+        match phrase {
+            Phrase::Skip => self.skip(),
+            Phrase::Fail { .. } => self.fail(),
+            Phrase::Raise { value, .. } => self.raise(value),
+            Phrase::Connected {
+                connective,
+                left,
+                right,
+            } => self.connect(*connective, left, right),
+            Phrase::Relate {
+                comparison,
+                left,
+                right,
+            } => self.relate(*comparison, left, right),
+            Phrase::Call { parts, .. } => self.call(goal, parts),
+            Phrase::Proc { head, body, .. } => {
+                self.procedure(procedure_name(goal, head), parameters_of(head), body)
+            }
+            Phrase::Fun {
+                lazy,
+                head,
+                body,
+                ..
+            } => {
+                let name = procedure_name(goal, head);
+                match lazy {
+                    None => self.function(name, parameters_of(head), body),
+                    Some(_) => self.lazy_function(name, parameters_of(head), body),
+                }
+            }
+            _ => self.nothing(),
         }
+    }
+
+    /// `raise e end`
+    fn raise(&mut self, value: &'a Phrase) -> Result<(), AllocError>
+        ensures { OnOk result ((words : List (List ℕ)) → outcome words self.new ≡ outcome_with words self.old (raised words self.old.numbers.next (view value.now))) }
+    {
+        let name = self.begin_part(value)?;
+        self.put(Task::Statement {
+            statement: Statement::Raise { name },
+        })?;
+        self.fill(name, value)?;
         Ok(())
     }
 
-    /// `skip` where there are none.
-    #[cycle(statements)]
-    fn statements_or_skip(&mut self, words: &Words, phrases: &[Phrase]) -> Result<(), AllocError>
-        ensures output { OnOk result (self.new.output ≡ with_all self.old.output (or_skip (of_list (views phrases.now)) (translated_each words.now self.old.numbers.next (of_list (views phrases.now))))) }
-        ensures next { OnOk result (self.new.numbers.next ≡ behind_statements self.old.numbers.next (of_list (views phrases.now))) }
+    /// What connects two expressions.
+    fn connect(
+        &mut self,
+        connective: Connective,
+        left: &'a Phrase,
+        right: &'a Phrase,
+    ) -> Result<(), AllocError>
+        ensures { OnOk result ((words : List (List ℕ)) → outcome words self.new ≡ outcome_with words self.old (connected_made words self.old.numbers.next connective (view left.now) (view right.now))) }
     {
-        match phrases {
-            [] => self.output.skip(),
-            [_, ..] => self.statements(words, phrases),
+        match connective {
+            Connective::Equates => self.equate_sides(left, right),
+            Connective::Assigns => self.assign(left, right),
+            Connective::Bounds => self.apply(Operation::Bound, None, left, right),
+            Connective::BoundsEach => self.apply(Operation::BoundEach, None, left, right),
         }
     }
 
-    /// The body of another statement: its statements are written, and the numbers of its own handed out.
-    #[cycle(statements)]
-    pub fn inner(&mut self, words: &Words, phrase: &Phrase) -> Result<Sequence<u32>, AllocError>
-        ensures output { OnOk result (self.new.output ≡ with_inside self.old.output (translated words.now self.old.numbers.next (view phrase.now))) }
-        ensures body { IfOk result (λ body. body ≡ numbers (length self.old.output.statements) (translated words.now self.old.numbers.next (view phrase.now))) }
-        ensures next { OnOk result (self.new.numbers.next ≡ behind_statement self.old.numbers.next (view phrase.now)) }
+    /// `e = e`: a side that is a variable gets the value of the other one.
+    fn equate_sides(&mut self, left: &'a Phrase, right: &'a Phrase) -> Result<(), AllocError>
+        ensures { OnOk result ((words : List (List ℕ)) → outcome words self.new ≡ outcome_with words self.old (equation_made words self.old.numbers.next (variable_of (view left.now)) (variable_of (view right.now)) (view left.now) (view right.now))) }
     {
-        let outer = self.output.open(self.alloc);
-        self.statement(words, phrase)?;
-        let body = self.output.close(outer);
-        Ok(body)
+        match variable_of(left) {
+            Some(name) => self.value_of(name, right),
+            None => self.equate_right(left, right),
+        }
     }
 
-    /// A procedure, by its name, its parameters and its body.
-    #[cycle(statements)]
+    /// Where the left side is no variable.
+    fn equate_right(&mut self, left: &'a Phrase, right: &'a Phrase) -> Result<(), AllocError>
+        ensures { OnOk result ((words : List (List ℕ)) → outcome words self.new ≡ outcome_with words self.old (equation_made words self.old.numbers.next None (variable_of (view right.now)) (view left.now) (view right.now))) }
+    {
+        match variable_of(right) {
+            Some(name) => self.value_of(name, left),
+            None => self.equate_values(left, right),
+        }
+    }
+
+    /// Where no side is a variable: both are the value of an identifier of its own.
+    fn equate_values(&mut self, left: &'a Phrase, right: &'a Phrase) -> Result<(), AllocError>
+        ensures { OnOk result ((words : List (List ℕ)) → outcome words self.new ≡ outcome_with words self.old (equation_made words self.old.numbers.next None None (view left.now) (view right.now))) }
+    {
+        let name = self.numbers.fresh()?;
+        let names = one_name(self.alloc, name)?;
+        self.begin_scope(names)?;
+        self.put_value(name, right)?;
+        self.put_value(name, left)?;
+        Ok(())
+    }
+
+    /// `e := e`
+    fn assign(&mut self, left: &'a Phrase, right: &'a Phrase) -> Result<(), AllocError>
+        ensures { OnOk result ((words : List (List ℕ)) → outcome words self.new ≡ outcome_with words self.old (with_two words self.old.numbers.next (view left.now) (view right.now) (λ y z. k.call (Word assign_word) (y ∷ z ∷ [])))) }
+    {
+        let (cell, value) = self.begin_parts(left, right)?;
+        self.put(Task::Statement {
+            statement: Statement::Call {
+                procedure: assign(),
+                arguments: two_names(self.alloc, cell, value)?,
+            },
+        })?;
+        self.fill(value, right)?;
+        self.fill(cell, left)?;
+        Ok(())
+    }
+
+    /// A relation of finite domains: the references of its sides, and then its products and itself.
+    fn relate(
+        &mut self,
+        comparison: Comparison,
+        left: &'a Phrase,
+        right: &'a Phrase,
+    ) -> Result<(), AllocError>
+        ensures { OnOk result ((words : List (List ℕ)) → outcome words self.new ≡ outcome_with words self.old (relation_made words self.old.numbers.next comparison (view left.now) (view right.now))) }
+    {
+        let names = self.numbers;
+        let behind = behind_side(names, left)?;
+        let last = behind_side(behind, right)?;
+        self.numbers = last;
+        let fresh = between(self.alloc, names, last)?;
+        self.begin_scope(fresh)?;
+        self.put(Task::Relation {
+            comparison,
+            names,
+            left,
+            right,
+        })?;
+        self.put(Task::References {
+            names: behind,
+            side: right,
+        })?;
+        self.put(Task::References { names, side: left })?;
+        Ok(())
+    }
+
+    /// The references of a side that are no variables.
+    pub fn references(&mut self, names: Numbers, side: &'a Phrase) -> Result<(), AllocError>
+        ensures { OnOk result ((words : List (List ℕ)) → outcome words self.new ≡ outcome_with words self.old (references words names.next (view side.now) self.old.numbers.next)) }
+    {
+        match side {
+            Phrase::Binary {
+                operator: Operator::Plus | Operator::Minus,
+                left,
+                right,
+            } => {
+                let behind = behind_side(names, left)?;
+                self.both_references(names, behind, left, right)
+            }
+            Phrase::Binary {
+                operator: Operator::Times,
+                left,
+                right,
+            } => {
+                let behind = behind_factor(names, left)?;
+                self.both_references(names, behind, left, right)
+            }
+            Phrase::Select { record, feature } => {
+                self.select(Name::Fresh(names.next), record, feature)
+            }
+            _ => self.nothing(),
+        }
+    }
+
+    /// Those of two sides, each by the numbers of its identifiers.
+    fn both_references(
+        &mut self,
+        first: Numbers,
+        second: Numbers,
+        left: &'a Phrase,
+        right: &'a Phrase,
+    ) -> Result<(), AllocError>
+        ensures { OnOk result ((words : List (List ℕ)) → outcome words self.new ≡ outcome_with words self.old (and_then (references words first.next (view left.now) self.old.numbers.next) (λ i. references words second.next (view right.now) i))) }
+    {
+        self.put(Task::References {
+            names: second,
+            side: right,
+        })?;
+        self.put(Task::References {
+            names: first,
+            side: left,
+        })?;
+        Ok(())
+    }
+
+    /// Has a call written of the first name with the others.
+    fn put_call(&mut self, mut names: Sequence<Name>) -> Result<(), AllocError>
+        ensures tasks { OnOk result (self.new.tasks ≡ calling names self.old.tasks) }
+        ensures state { OnOk result (state_of self.new ≡ state_of self.old) }
+    {
+        let Some(procedure) = names.take_front() else {
+            return Ok(());
+        };
+        self.put(Task::Statement {
+            statement: Statement::Call {
+                procedure,
+                arguments: names,
+            },
+        })?;
+        Ok(())
+    }
+
+    /// A call: its parts, and then itself.
+    fn call(&mut self, goal: Goal, parts: &'a [Phrase]) -> Result<(), AllocError>
+        ensures { OnOk result ((words : List (List ℕ)) → outcome words self.new ≡ outcome_with words self.old (call_made words (goal_of goal) self.old.numbers.next (of_list (views parts.now)))) }
+    {
+        let first = self.numbers;
+        let names = self.numbers.parts(self.alloc, parts)?;
+        self.begin_names(names.as_slice())?;
+        self.put_call(with_result(names, goal.name())?)?;
+        self.put(Task::Filled {
+            names: first,
+            parts,
+        })?;
+        Ok(())
+    }
+
+    /// `proc H B end`, by its name.
     fn procedure(
         &mut self,
-        words: &Words,
-        name: u32,
-        parameters: Sequence<Name>,
-        body: &Phrase,
+        name: Name,
+        parameters: &[Phrase],
+        body: &'a Phrase,
     ) -> Result<(), AllocError>
-        ensures output { OnOk result (self.new.output ≡ with_all self.old.output (bound (Some name) parameters (translated words.now self.old.numbers.next (view body.now)))) }
-        ensures next { OnOk result (self.new.numbers.next ≡ behind_statement self.old.numbers.next (view body.now)) }
+        ensures { OnOk result ((words : List (List ℕ)) → outcome words self.new ≡ outcome_with words self.old (procedure_made words name self.old.numbers.next (of_list (views parameters.now)) (view body.now))) }
     {
-        let body = self.inner(words, body)?;
-        self.output.procedure(Name::Word(name), parameters, body)?;
+        let parameters = self.numbers.parameters(self.alloc, parameters)?;
+        self.begin()?;
+        self.put(Task::Close {
+            closing: Closing::Procedure { name, parameters },
+        })?;
+        self.put(Task::Phrase {
+            goal: Goal::Statement,
+            phrase: body,
+        })?;
         Ok(())
     }
 
-    /// Writes nothing; the identifiers that the phrase would take are used up.
-    #[cycle(statements)]
-    #[tactic(auto, using(crate::proofs::Writing::with_nothing))]
-    fn pass_over(&mut self, words: &Words, phrase: &Phrase) -> Result<(), AllocError>
-        ensures output { OnOk result (self.new.output ≡ with_all self.old.output none) }
-        ensures next { OnOk result (self.new.numbers.next ≡ behind_statement self.old.numbers.next (view phrase.now)) }
-    {
-        let output = mem::replace(&mut self.output, Output::new(self.alloc));
-        self.statement(words, phrase)?;
-        self.output = output;
-        Ok(())
-    }
-
-    /// Makes the body that of a `local` behind an outer one, where there are declarations.
-    fn close_declarations(
+    /// `fun H B end`, by its name: a procedure with one more parameter, which gets the value.
+    fn function(
         &mut self,
-        outer: Sequence<u32>,
-        declarations: &[Phrase],
+        name: Name,
+        parameters: &[Phrase],
+        body: &'a Phrase,
     ) -> Result<(), AllocError>
-        ensures output { OnOk result (self.new.output ≡ in_declarations outer (of_list (views declarations.now)) self.old.output) }
-        ensures next { self.new.numbers.next ≡ self.old.numbers.next }
+        ensures { OnOk result ((words : List (List ℕ)) → outcome words self.new ≡ outcome_with words self.old (value_procedure_made words name self.old.numbers.next None (of_list (views parameters.now)) (view body.now))) }
     {
-        match declarations {
-            [] => self.output.join(outer),
-            [_, ..] => {
-                let names = declared(self.alloc, &mut self.declared, declarations)?;
-                self.output.close_local(outer, names)?;
-                Ok(())
-            }
-        }
-    }
-
-    /// The bodies of alternatives.
-    #[cycle(statements)]
-    fn alternatives(
-        &mut self,
-        words: &Words,
-        phrases: &[Phrase],
-    ) -> Result<Sequence<Sequence<u32>>, AllocError>
-        ensures output { OnOk result (self.new.output ≡ with_bodies self.old.output (alternatives words.now self.old.numbers.next (of_list (views phrases.now)))) }
-        ensures bodies { IfOk result (λ bodies. bodies ≡ numbers_each (length self.old.output.statements) (alternatives words.now self.old.numbers.next (of_list (views phrases.now)))) }
-        ensures next { OnOk result (self.new.numbers.next ≡ behind_statements self.old.numbers.next (of_list (views phrases.now))) }
-    {
-        let mut bodies = Sequence::new(self.alloc);
-        'phrases: for phrase in phrases {
-            let body = self.inner(words, phrase)?;
-            bodies.push(body)?;
-        }
-        Ok(bodies)
-    }
-
-    /// `choice B [] .. end`
-    #[cycle(statements)]
-    fn choice(&mut self, words: &Words, phrases: &[Phrase]) -> Result<(), AllocError>
-        ensures output { OnOk result (self.new.output ≡ with_all self.old.output (translated words.now self.old.numbers.next (choice (of_list (views phrases.now))))) }
-        ensures next { OnOk result (self.new.numbers.next ≡ behind_statements self.old.numbers.next (of_list (views phrases.now))) }
-    {
-        let alternatives = self.alternatives(words, phrases)?;
-        self.output.choice(alternatives)?;
+        let mut parameters = self.numbers.parameters(self.alloc, parameters)?;
+        let value = self.numbers.fresh()?;
+        parameters.push(value)?;
+        self.begin()?;
+        self.put(Task::Close {
+            closing: Closing::Procedure { name, parameters },
+        })?;
+        self.put_value(value, body)?;
         Ok(())
     }
-}
 
-/// The kernel of a program: its words, its statements numbered, and its body. An error is want of memory, or of numbers: 2^32
-/// statements have one each, and so have 2^32 - 2 identifiers that the translation makes.
-#[tactic(auto, unfolding(oz_semantics::specs::Translation::kernel_of))]
-pub fn translate(alloc: Global, words: &Words, phrase: &Phrase) -> Result<Kernel, AllocError>
-    ensures { IfOk result (λ kernel. kernel ≡ kernel_of (record { words = words.now; phrase = view phrase.now })) }
-{
-    let mut writer = Writer::new(alloc);
-    writer.statement(words, phrase)?;
-    Ok(Kernel {
-        words: words.texts(alloc)?,
-        statements: writer.output.statements,
-        body: writer.output.body,
-    })
+    /// `fun lazy H B end`: the value is made by another procedure, once it is needed.
+    fn lazy_function(
+        &mut self,
+        name: Name,
+        parameters: &[Phrase],
+        body: &'a Phrase,
+    ) -> Result<(), AllocError>
+        ensures { OnOk result ((words : List (List ℕ)) → outcome words self.new ≡ outcome_with words self.old (value_procedure_made words name self.old.numbers.next (Some 0) (of_list (views parameters.now)) (view body.now))) }
+    {
+        let mut parameters = self.numbers.parameters(self.alloc, parameters)?;
+        let value = self.numbers.fresh()?;
+        parameters.push(value)?;
+        self.begin()?;
+        self.put(Task::Close {
+            closing: Closing::Procedure { name, parameters },
+        })?;
+        self.lazily(value, body)?;
+        Ok(())
+    }
+
+    /// The body of a lazy function, by the name of its value.
+    fn lazily(&mut self, value: Name, body: &'a Phrase) -> Result<(), AllocError>
+        ensures { OnOk result ((words : List (List ℕ)) → outcome words self.new ≡ outcome_with words self.old (lazy_made words value self.old.numbers.next (view body.now))) }
+    {
+        let procedure = self.numbers.fresh()?;
+        let inner = self.numbers.fresh()?;
+        self.begin()?;
+        self.put(Task::Close {
+            closing: Closing::Local {
+                names: one_name(self.alloc, procedure)?,
+            },
+        })?;
+        self.put(Task::Statement {
+            statement: Statement::Call {
+                procedure: by_need(),
+                arguments: two_names(self.alloc, procedure, value)?,
+            },
+        })?;
+        self.begin()?;
+        self.put(Task::Close {
+            closing: Closing::Procedure {
+                name: procedure,
+                parameters: one_name(self.alloc, inner)?,
+            },
+        })?;
+        self.put_value(inner, body)?;
+        Ok(())
+    }
 }

@@ -1,14 +1,14 @@
 -- The machine accepts exactly the programs, and goes through exactly what begins one.
-use Rattle.std.proofs.Common.{◌≡◌, List, [], ◌∷◌, ◌++◌, Option, Some, None, refl, sym, ap, ◌∙◌}
+use Rattle.std.proofs.Common.{◌≡◌, List, ◌++◌, Option, Some, None, refl, sym, ap, ◌∙◌, subst}
 use Rattle.oz_semantics.specs.declared.token.Token.{Token}
 use Rattle.oz_semantics.specs.Grammar.{Phrase, Derives, Begins}
 use Rattle.reader_law.specs.Machine.{Stack, bind, run, start, finish, parse}
 use Rattle.reader_law.specs.Laws.{ParsesLaw, BeginsLaw}
 use Rattle.reader_law.proofs.Basics.{run_append, run_none}
-use Rattle.reader_law.proofs.Good.{spelled, Good, Leads}
+use Rattle.reader_law.proofs.Good.{Good, Leads}
 use Rattle.reader_law.proofs.Complete.{parses}
 use Rattle.reader_law.proofs.Sound.{run_leads, parse_sound, good_start}
-use Rattle.reader_law.proofs.Viable.{Completes, complete, good_after}
+use Rattle.reader_law.proofs.Viable.{Completes, complete}
 
 parse_complete : (ts : List Token) (p : Phrase) → Derives ts p → parse ts ≡ Some p
 parse_complete ts p a = ap parse (sym a.spelled) ∙ parses p a.program
@@ -33,20 +33,13 @@ begins_from ts k e c = record {
   derived = parse_sound (ts ++ c.by) c.program (ap (λ o. bind o finish) (run_append (Some start) ts c.by ∙ ap (λ o. run o c.by) e) ∙ c.ends);
 }
 
-spelled_after : (ts : List Token) (o : Option Stack) (k : Stack) → Leads start ts o → o ≡ Some k → spelled k ≡ ts
-spelled_after ts (Some j) k l e = let h : j ≡ k = cc in ap spelled (sym h) ∙ l.0
-spelled_after ts None k l e = absurd (cc)
-
--- something is open
-completes : (ts : List Token) (k : Stack) → run (Some start) ts ≡ Some k → spelled k ≡ ts → Good k → Completes k
-completes ts (f ∷ k) e h g = complete f k g
-completes [] [] e h g = absurd (cc)
-completes (t ∷ ts) [] e h g = absurd (cc)
+-- what is open after a run is good
+good_after : (j : Stack) (ts : List Token) (o : Option Stack) (k : Stack) → Leads j ts o → o ≡ Some k → Good k
+good_after j ts (Some m) k l e = let h : m ≡ k = cc in subst Good h l.1
+good_after j ts None k l e = absurd (cc)
 
 begins : (ts : List Token) (k : Stack) → run (Some start) ts ≡ Some k → Begins ts
-begins ts k e =
-    let l = run_leads ts start good_start in
-    begins_from ts k e (completes ts k e (spelled_after ts (run (Some start) ts) k l e) (good_after start ts (run (Some start) ts) k l e))
+begins ts k e = begins_from ts k e (complete k (good_after start ts (run (Some start) ts) k (run_leads ts start good_start) e))
 
 pub begins_law : BeginsLaw
 begins_law ts = (runs ts, λ r. begins ts r.0 r.1)

@@ -1,306 +1,342 @@
 -- What is open spells the tokens that were read, and stays good.
-use Rattle.std.proofs.Common.{◌≡◌, ℕ, List, [], ◌∷◌, ◌++◌, Option, Some, None, Bool, true, false, ◌&&◌, ◌||◌, refl, sym, ap, ◌∙◌, subst, append_assoc}
+use Rattle.std.proofs.Common.{◌≡◌, ℕ, arith, zero, ◌+◌, List, [], ◌∷◌, ◌++◌, Option, Some, None, Bool, true, false, ◌&&◌, ◌||◌, nat_eq, nat_le, nat_lt, if◌then◌else◌, refl, sym, ap, ◌∙◌, subst, append_assoc}
 use Rattle.std.proofs.lemmas.List.{append-nil}
+use Rattle.std.proofs.lemmas.Bool.{eqb-true}
+use Rattle.std.proofs.lemmas.Bool.Decides.{nat_tests}
+use Rattle.oz_semantics.specs.Grammar.{level_of_hashes, level_of_selection, Phrase, Phrases, of_list, var, any, int, literal, rec, keyed, list, paren, raise, connected, relate, call, dollar, head, connective_token, tokens_of, each, declared, is_more, is_var, is_parameter, is_named_head, is_value_head, is_side, terms_in, terms_limit, term, terms, fields as are_fields, feature, stmt, stmts, decl, decls, expr, pattern as is_pattern, Derives}
+use Rattle.oz_semantics.specs.Wording.{lazy_word}
 use Rattle.oz_semantics.specs.declared.token.Literal.{Literal}
-use Rattle.oz_semantics.specs.declared.token.Token.{Token}
-use Rattle.oz_semantics.specs.declared.token.Token.TheVariants.{Var, Any, Int, Literal as Lit, Label, OpenBrace, CloseBrace, CloseParen, Colon, Equals, Box, Case, Choice, Else, End, Fail, If, In, Local, Of, Proc, Skip, Then}
+use Rattle.oz_semantics.specs.declared.token.Literal.TheVariants.{Atom}
 use Rattle.oz_semantics.specs.declared.kernel.Constant.{Constant}
-use Rattle.oz_semantics.specs.Grammar.{Phrase, of_list, var, any, int, literal, keyed, skip, fail, equal, call, proc, local, choice, when, choose, cases, cases_or, clause, body, tokens_of, each, declared, is_more, is_var, are_vars, term, fields as are_fields, expr, exprs, pattern, stmt, stmts, is_clause, clauses, decl, decls, is_body, Derives}
-use Rattle.reader_law.specs.Machine.{Opener, program, declaring, of_local, of_proc, of_choice, of_then, of_else, of_clause, of_case_else, block, have, right, fields, key, parts, heading, head, testing, matching, patterns, accepted, Stack, guard, bind, is_some_item, operand, add, add_statement, body_of, close, enter_body, enter, item, item_again, behind, next_field, turn_key, behind_field, behind_value, next_part, next_head, open_head, tested, subjected, claused, whole, step, run, start, accepted_of, finish, parse}
-use Rattle.reader_law.proofs.Basics.{split, both, or_left, or_true, and_false, more_snoc, each_snoc, vars_snoc, exprs_snoc, is_field, fields_snoc, term_field, stmts_snoc, clauses_snoc, decls_snoc, bodies_snoc, boxes_snoc, boxed_snoc, run_none}
-use Rattle.reader_law.proofs.Good.{opener_tokens, spelled, in_pattern, Takes, Says, GoodItems, GoodOpener, GoodParts, Good, Leads}
+use Rattle.oz_semantics.specs.declared.token.Comparison.{Comparison}
+use Rattle.oz_semantics.specs.declared.token.Token.{Token}
+use Rattle.oz_semantics.specs.declared.token.Connective.{Connective}
+use Rattle.oz_semantics.specs.declared.token.Token.TheVariants.{Var, Any, Literal as Lit, Label, CloseParen, OpenBracket, CloseBracket, OpenBrace, CloseBrace, Colon, Equals, Assign, Domain, Domains, Dollar, Relates, End, Fun, Of, Then}
+use Rattle.oz_semantics.specs.declared.token.Connective.TheVariants.{Equates, Assigns, Bounds, BoundsEach}
+use Rattle.reader_law.specs.Machine.{Opener, program, Maker, making_proc, making_fun, block, whole, dotted, accessing, connecting, relating, fields, key, listing, enclosing, parts, heading, heads, raising, testing, matching, patterns, catching, accepted, Stack, guard, bind, is_some_item, body_of, opened, may_state, in_block, may_value, expression, kind_by, kind_of, had, value, binds, reduce, right_level, shift_in, is_operator, item, declares, item_over, behind_item, next_field, turn_key, behind_field, behind_value, next_element, next_part, close_paren, raised, tested, subjected, claused, caught, open_head, made, first_head, next_head, behind, settled, step, run, start, accepted_of, finish, parse}
+use Rattle.reader_law.proofs.Basics.{split, both, or_true, each_snoc, term_at, terms_snoc, is_field, fields_snoc, term_field, named_snoc, value_snoc, run_none}
+use Rattle.reader_law.proofs.Good.{maker_tokens, spelled, Says, Stands, Makes, GoodItems, GoodOpener, Connects, connected_level, Has, Under, Good, Leads, spot_stands}
+use Rattle.reader_law.proofs.SoundBasics.{told, leads_from, guard_leads, fresh_items, term_of, value_leads}
+use Rattle.reader_law.proofs.SoundTerms.{operand_leads, select_leads, feature_leads, accessed_leads, access_leads, reduces}
+use Rattle.reader_law.proofs.SoundOperators.{operator_leads}
+use Rattle.reader_law.proofs.SoundBlocks.{Tells, Is, some_more, var_stands, item_leads, other_flags, tells_snoc, spelled_snoc, over_leads}
 
--- ---- what flags say
+-- ---- parts of records, lists and calls
 
-told : (a : Bool) (P : Type 0) → Says a P → a ≡ true → P
-told true P s h = s
-told false P s h = absurd (cc)
+-- what records and lists are, as patterns and as expressions
+rec_term : (w : Bool) (l : Literal) (at : ℕ) (fs : Phrases) → are_fields w fs ≡ true → term w zero (rec l at fs) ≡ true
+rec_term true l at fs h = h
+rec_term false l at fs h = h
 
-says_and : (a b : Bool) (P Q R : Type 0) → Says a P → Says b Q → (P → Q → R) → Says (a && b) R
-says_and true true P Q R p q f = f p q
-says_and true false P Q R p q f = tt
-says_and false b P Q R p q f = tt
+list_term : (w : Bool) (at : ℕ) (es : Phrases) → is_more es && terms w zero es ≡ true → term w zero (list at es) ≡ true
+list_term true at es h = h
+list_term false at es h = h
 
--- ---- leading on
-
-pub leads_from : (k j : Stack) (ts us : List Token) (o : Option Stack) → spelled k ++ ts ≡ spelled j ++ us → Leads k ts o → Leads j us o
-leads_from k j ts us None e l = tt
-leads_from k j ts us (Some m) e l = (l.0 ∙ e, l.1)
-
-guard_leads : (b : Bool) (k : Stack) (ts : List Token) (o : Option Stack) → (b ≡ true → Leads k ts o) → Leads k ts (guard b o)
-guard_leads true k ts o f = f refl
-guard_leads false k ts o f = tt
-
-fresh_items : GoodItems true true [] []
-fresh_items = ((tt, refl), refl, refl, refl)
-
--- ---- a phrase ends
-
--- a block goes on with other flags
-other_flag : (o : Opener) (s s' : Bool) (k : Stack) → GoodOpener o s k → (s ≡ false → s' ≡ false) → GoodOpener o s' k
-other_flag program s s' [] h f = tt
-other_flag program s s' (e ∷ k) h f = h
-other_flag declaring s s' k h f = (h.0, f h.1)
-other_flag (of_local ls) s s' k h f = h
-other_flag (of_proc hs) s s' k h f = h
-other_flag (of_choice bs) s s' k h f = h
-other_flag (of_then e) s s' k h f = h
-other_flag (of_else e b) s s' k h f = h
-other_flag (of_clause e cs p) s s' k h f = h
-other_flag (of_case_else e cs) s s' k h f = h
-
--- one that may be a declaration, may be a statement
-add_leads : (p : Phrase) (d' s' : Bool) (k : Stack) → Says d' (decl p ≡ true) → Says s' (stmt p ≡ true) → Good k → Leads k (tokens_of p) (add p d' s' k)
-add_leads p d' s' (block o d s ds ps ∷ k) h i g =
-    guard_leads ((d && d') || (s && s')) (block o d s ds ps ∷ k) (tokens_of p) (Some (block o (d && d') (s && s') ds (ps ++ p ∷ []) ∷ k)) (λ q. (
-      ap (λ ts. spelled k ++ (opener_tokens o ++ (declared (of_list ds) ++ ts))) (each_snoc ps p) ∙ simp append_assoc,
-      (
-        (
-          (says_and d d' _ _ _ g.0.0.0 h (λ x y. (x.0, decls_snoc ps p x.1 y)), says_and s s' _ _ _ g.0.0.1 i (λ x y. stmts_snoc ps p x y), g.0.0.2, q),
-          other_flag o s (s && s') k g.0.1 (and_false s s'),
-        ),
-        g.1,
-      ),
-    ))
-add_leads p d' s' [] h i g = tt
-add_leads p d' s' (f ∷ k) h i g = tt
-
--- ---- a block ends
-
-body_good : (ds ps : List Phrase) → decls (of_list ds) ≡ true → stmts (of_list ps) ≡ true → is_body (body (of_list ds) (of_list ps)) ≡ true
-body_good ds ps w i = both (decls (of_list ds)) (stmts (of_list ps)) w i
-
--- `end` makes a statement
-ends_leads : (p : Phrase) (o : Opener) (d s : Bool) (ds ps : List Phrase) (k : Stack) → spelled k ++ tokens_of p ≡ spelled (block o d s ds ps ∷ k) ++ End ∷ [] → stmt p ≡ true → Good k
-    → Leads (block o d s ds ps ∷ k) (End ∷ []) (add_statement p k)
-ends_leads p o d s ds ps k e h g = leads_from k (block o d s ds ps ∷ k) (tokens_of p) (End ∷ []) (add_statement p k) e (add_leads p false true k tt h g)
-
--- a clause of a `case`, with its body
-clause_good : (p : Phrase) (ds ps : List Phrase) → pattern p ≡ true → decls (of_list ds) ≡ true → stmts (of_list ps) ≡ true → is_clause (clause p (body_of ds ps)) ≡ true
-clause_good p ds ps h w i = both (pattern p) _ h (body_good ds ps w i)
-
-close_clause : (e : Phrase) (cs : List Phrase) (p : Phrase) (d s : Bool) (ds ps : List Phrase) (k : Stack) → GoodOpener (of_clause e cs p) s k → Good k → decls (of_list ds) ≡ true → stmts (of_list ps) ≡ true
-    → Leads (block (of_clause e cs p) d s ds ps ∷ k) (End ∷ []) (add_statement (cases e (of_list (cs ++ clause p (body_of ds ps) ∷ []))) k)
-close_clause e cs p d s ds ps k h g w i =
-    let c = clause p (body_of ds ps) in
-    ends_leads (cases e (of_list (cs ++ c ∷ []))) (of_clause e cs p) d s ds ps k
-    (ap (λ ts. spelled k ++ (Case ∷ (tokens_of e ++ Of ∷ (ts ++ End ∷ [])))) (boxed_snoc cs c) ∙ simp append_assoc)
-    (both (expr e) _ h.1 (both (is_more (of_list (cs ++ c ∷ []))) _ (more_snoc cs c) (clauses_snoc cs c h.2 (clause_good p ds ps h.3 w i)))) g
-
-close_leads : (t : Token) (o : Opener) (d s : Bool) (ds ps : List Phrase) (k : Stack) → GoodOpener o s k → Good k → decls (of_list ds) ≡ true → stmts (of_list ps) ≡ true
-    → Leads (block o d s ds ps ∷ k) (t ∷ []) (close (Some t) o ds ps k)
-close_leads End (of_local ls) d s ds ps k h g w i =
-    let b = body (of_list ds) (of_list ps) in
-    leads_from k (block (of_local ls) d s ds ps ∷ k) (tokens_of (local (of_list ls) b)) (End ∷ []) (add_statement (local (of_list ls) b) k) (simp append_assoc)
-    (add_leads (local (of_list ls) b) false true k tt (both (is_more (of_list ls)) _ h.1 (both (decls (of_list ls)) (is_body b) h.2 (body_good ds ps w i))) g)
-close_leads End (of_proc hs) d s ds ps k h g w i =
-    let b = body (of_list ds) (of_list ps) in
-    let e = both (is_more (of_list hs)) (are_vars (of_list hs) && is_body b) h.1 (both (are_vars (of_list hs)) (is_body b) h.2 (body_good ds ps w i)) in
-    leads_from k (block (of_proc hs) d s ds ps ∷ k) (tokens_of (proc (of_list hs) b)) (End ∷ []) (add (proc (of_list hs) b) true true k) (simp append_assoc)
-    (add_leads (proc (of_list hs) b) true true k e e g)
-close_leads End (of_choice bs) d s ds ps k h g w i =
-    let b = body (of_list ds) (of_list ps) in
-    leads_from k (block (of_choice bs) d s ds ps ∷ k) (tokens_of (choice (of_list (bs ++ b ∷ [])))) (End ∷ []) (add_statement (choice (of_list (bs ++ b ∷ []))) k)
-    (ap (λ ts. spelled k ++ (Choice ∷ (ts ++ End ∷ []))) (boxed_snoc bs b) ∙ simp append_assoc)
-    (add_leads (choice (of_list (bs ++ b ∷ []))) false true k tt (both (is_more (of_list (bs ++ b ∷ []))) _ (more_snoc bs b) (bodies_snoc bs b h.1 (body_good ds ps w i))) g)
-close_leads Box (of_choice bs) d s ds ps k h g w i =
-    let b = body (of_list ds) (of_list ps) in
-    (ap (λ ts. spelled k ++ ((Choice ∷ ts) ++ [])) (boxes_snoc bs b) ∙ simp (append_assoc, append-nil), ((fresh_items, (h.0, bodies_snoc bs b h.1 (body_good ds ps w i))), g))
-close_leads End (of_then e) d s ds ps k h g w i =
-    ends_leads (when e (body_of ds ps)) (of_then e) d s ds ps k (simp append_assoc) (both (expr e) _ h.1 (body_good ds ps w i)) g
-close_leads Else (of_then e) d s ds ps k h g w i = (simp (append_assoc, append-nil), ((fresh_items, (h.0, h.1, body_good ds ps w i)), g))
-close_leads End (of_else e b) d s ds ps k h g w i =
-    ends_leads (choose e b (body_of ds ps)) (of_else e b) d s ds ps k (simp append_assoc) (both (expr e) _ h.1 (both (is_body b) _ h.2 (body_good ds ps w i))) g
-close_leads End (of_clause e cs p) d s ds ps k h g w i = close_clause e cs p d s ds ps k h g w i
-close_leads Box (of_clause e cs p) d s ds ps k h g w i =
-    let c = clause p (body_of ds ps) in
-    (ap (λ ts. spelled k ++ (Case ∷ (tokens_of e ++ Of ∷ ts))) (boxes_snoc cs c) ∙ simp append_assoc, ((h.0, h.1, clauses_snoc cs c h.2 (clause_good p ds ps h.3 w i)), g))
-close_leads Else (of_clause e cs p) d s ds ps k h g w i =
-    let c = clause p (body_of ds ps) in (
-      ap (λ ts. spelled k ++ ((Case ∷ (tokens_of e ++ Of ∷ (ts ++ Else ∷ []))) ++ [])) (boxed_snoc cs c) ∙ simp (append_assoc, append-nil),
-      ((fresh_items, (h.0, h.1, more_snoc cs c, clauses_snoc cs c h.2 (clause_good p ds ps h.3 w i))), g),
-    )
-close_leads End (of_case_else e cs) d s ds ps k h g w i =
-    ends_leads (cases_or e (of_list cs) (body_of ds ps)) (of_case_else e cs) d s ds ps k (simp append_assoc)
-    (both (expr e) _ h.1 (both (is_more (of_list cs)) _ h.2 (both (clauses (of_list cs)) _ h.3 (body_good ds ps w i)))) g
-close_leads t o d s ds ps k h g w i = tt
-
--- `in` behind declarations
-enter_body_leads : (o : Opener) (s : Bool) (p : Phrase) (ps : List Phrase) (k : Stack) → GoodOpener o s k → Good k → decls (of_list (p ∷ ps)) ≡ true
-    → Leads (block o true s [] (p ∷ ps) ∷ k) (In ∷ []) (enter_body o (p ∷ ps) k)
-enter_body_leads program s p ps [] h g i = (simp (append_assoc, append-nil), (((tt, refl, i, refl), tt), g))
-enter_body_leads program s p ps (f ∷ k) h g i = elim h [ ]
-enter_body_leads declaring s p ps k h g i = (simp (append_assoc, append-nil), ((fresh_items, (h.0, refl, i)), g))
-enter_body_leads (of_local ls) s p ps k h g i = (simp (append_assoc, append-nil), (((tt, refl, i, refl), h), g))
-enter_body_leads (of_proc hs) s p ps k h g i = (simp (append_assoc, append-nil), (((tt, refl, i, refl), h), g))
-enter_body_leads (of_choice bs) s p ps k h g i = (simp (append_assoc, append-nil), (((tt, refl, i, refl), h), g))
-enter_body_leads (of_then e) s p ps k h g i = (simp (append_assoc, append-nil), (((tt, refl, i, refl), h), g))
-enter_body_leads (of_else e b) s p ps k h g i = (simp (append_assoc, append-nil), (((tt, refl, i, refl), h), g))
-enter_body_leads (of_clause e cs c) s p ps k h g i = (simp (append_assoc, append-nil), (((tt, refl, i, refl), h), g))
-enter_body_leads (of_case_else e cs) s p ps k h g i = (simp (append_assoc, append-nil), (((tt, refl, i, refl), h), g))
-
-enter_leads : (o : Opener) (d s : Bool) (ds ps : List Phrase) (k : Stack) → Good (block o d s ds ps ∷ k) → Leads (block o d s ds ps ∷ k) (In ∷ []) (enter o d ps k)
-enter_leads o false s ds ps k g = tt
-enter_leads o true s ds [] k g = tt
-enter_leads o true s [] (p ∷ ps) k g = enter_body_leads o s p ps k g.0.1 g.1 g.0.0.0.1
-enter_leads o true s (d ∷ ds) (p ∷ ps) k g = elim g.0.0.0.0 [ ]
-
--- ---- the next phrase of a block begins
-
-item_leads : (t : Token) (o : Opener) (d s : Bool) (ds ps : List Phrase) (k : Stack) → Good (block o d s ds ps ∷ k) → Leads (block o d s ds ps ∷ k) (t ∷ []) (item (Some t) o d s ds ps k)
-item_leads (Var name at) o d s ds ps k g = (refl, ((refl, or_true s), g))
-item_leads (Int i at) o d s ds ps k g = guard_leads s (block o d s ds ps ∷ k) (Int i at ∷ []) (Some (have (int i at) ∷ block o d s ds ps ∷ k)) (λ h. (refl, ((refl, or_left s false h), g)))
-item_leads (Lit l at) o d s ds ps k g = guard_leads s (block o d s ds ps ∷ k) (Lit l at ∷ []) (Some (have (literal l at) ∷ block o d s ds ps ∷ k)) (λ h. (refl, ((refl, or_left s false h), g)))
-item_leads (Label l at) o d s ds ps k g = guard_leads s (block o d s ds ps ∷ k) (Label l at ∷ []) (Some (fields false l at [] ∷ block o d s ds ps ∷ k)) (λ h. (refl, ((refl, or_left s false h, refl), g)))
-item_leads Skip o d s ds ps k g = add_leads skip false true (block o d s ds ps ∷ k) tt refl g
-item_leads Fail o d s ds ps k g = add_leads fail false true (block o d s ds ps ∷ k) tt refl g
-item_leads OpenBrace o d s ds ps k g = guard_leads s (block o d s ds ps ∷ k) (OpenBrace ∷ []) (Some (parts [] ∷ block o d s ds ps ∷ k)) (λ h. (refl, ((tt, h), g)))
-item_leads Proc o d s ds ps k g = (refl, (tt, g))
-item_leads Local o d s ds ps k g = guard_leads s (block o d s ds ps ∷ k) (Local ∷ []) (Some (block declaring true false [] [] ∷ block o d s ds ps ∷ k)) (λ h. (refl, ((((tt, refl), tt, refl, refl), (h, refl)), g)))
-item_leads Choice o d s ds ps k g = guard_leads s (block o d s ds ps ∷ k) (Choice ∷ []) (Some (block (of_choice []) true true [] [] ∷ block o d s ds ps ∷ k)) (λ h. (refl, ((fresh_items, (h, refl)), g)))
-item_leads If o d s ds ps k g = guard_leads s (block o d s ds ps ∷ k) (If ∷ []) (Some (testing ∷ block o d s ds ps ∷ k)) (λ h. (refl, (h, g)))
-item_leads Case o d s ds ps k g = guard_leads s (block o d s ds ps ∷ k) (Case ∷ []) (Some (matching ∷ block o d s ds ps ∷ k)) (λ h. (refl, (h, g)))
-item_leads In o d s ds ps k g = enter_leads o d s ds ps k g
-item_leads t o d s ds ps k g = guard_leads s (block o d s ds ps ∷ k) (t ∷ []) (close (Some t) o ds ps k) (λ h. close_leads t o d s ds ps k g.0.1 g.1 g.0.0.2 (told s _ g.0.0.1 h))
-
-again_leads : (t : Token) (k : Stack) (ts : List Token) (o : Option Stack) → Leads k ts o → Leads k (ts ++ t ∷ []) (bind o (item_again (Some t)))
-again_leads t k ts None l = tt
-again_leads t k ts (Some (block o d s ds ps ∷ j)) l =
-    leads_from (block o d s ds ps ∷ j) k (t ∷ []) (ts ++ t ∷ []) (item (Some t) o d s ds ps j) (ap (λ us. us ++ t ∷ []) l.0 ∙ append_assoc (spelled k) ts (t ∷ [])) (item_leads t o d s ds ps j l.1)
-again_leads t k ts (Some []) l = tt
-again_leads t k ts (Some (f ∷ j)) l = tt
-
--- ---- expressions
-
-operand_leads : (t : Token) (k : Stack) → Takes true k → Takes false k → Good k → Leads k (t ∷ []) (operand (in_pattern k) (Some t) k)
-operand_leads (Var name at) k h i g = (refl, ((refl, h), g))
-operand_leads (Any at) k h i g = guard_leads (in_pattern k) k (Any at ∷ []) (Some (have (any at) ∷ k)) (λ q. (refl, ((q, i), g)))
-operand_leads (Int n at) k h i g = (refl, ((refl, i), g))
-operand_leads (Lit l at) k h i g = (refl, ((refl, i), g))
-operand_leads (Label l at) k h i g = (refl, ((refl, i, refl), g))
-operand_leads t k h i g = tt
-
+-- the next token of a record
 field_leads : (t : Token) (w : Bool) (l : Literal) (at : ℕ) (fs : List Phrase) (k : Stack) → Good (fields w l at fs ∷ k) → Leads (fields w l at fs ∷ k) (t ∷ []) (next_field (Some t) w l at fs k)
-field_leads CloseParen w l at fs k g = (simp append_assoc, ((subst (λ v. are_fields v (of_list fs) ≡ true) g.0.2 g.0.0, g.0.1), g.1))
-field_leads t w l at fs k g = operand_leads t (fields w l at fs ∷ k) tt tt g
+field_leads CloseParen w l at fs k g = value_leads w (rec l at (of_list fs)) false k (fields w l at fs ∷ k) (CloseParen ∷ []) (simp append_assoc) g.0.1 tt (rec_term w l at (of_list fs) g.0.0) tt refl g.1
+field_leads t w l at fs k g = operand_leads t (fields w l at fs ∷ k) tt g
 
-call_leads : (es : List Phrase) (k : Stack) → Good (parts es ∷ k) → Leads (parts es ∷ k) (CloseBrace ∷ []) (guard (is_some_item es) (add_statement (call (of_list es)) k))
-call_leads [] k g = tt
-call_leads (p ∷ es) k g =
-    leads_from k (parts (p ∷ es) ∷ k) (tokens_of (call (of_list (p ∷ es)))) (CloseBrace ∷ []) (add_statement (call (of_list (p ∷ es))) k) (simp append_assoc)
-    (add_leads (call (of_list (p ∷ es))) false true k tt g.0.0 g.1)
+-- one more field
+field_added : (t : Token) (p : Phrase) (w : Bool) (l : Literal) (at : ℕ) (fs : List Phrase) (j k : Stack) → spelled (fields w l at fs ∷ k) ++ tokens_of p ≡ spelled j → is_field w p ≡ true → Good (fields w l at fs ∷ k)
+    → Leads j (t ∷ []) (next_field (Some t) w l at (fs ++ p ∷ []) k)
+field_added t p w l at fs j k q h g =
+    leads_from (fields w l at (fs ++ p ∷ []) ∷ k) j (t ∷ []) (t ∷ []) (next_field (Some t) w l at (fs ++ p ∷ []) k)
+    (ap (λ ts. ts ++ t ∷ []) (ap (λ ts. spelled k ++ Label l at ∷ ts) (each_snoc fs p) ∙ sym (append_assoc (spelled k) (Label l at ∷ each (of_list fs)) (tokens_of p)) ∙ q))
+    (field_leads t w l at (fs ++ p ∷ []) k ((fields_snoc w fs p g.0.0 h, g.0.1), g.1))
 
-part_leads : (t : Token) (es : List Phrase) (k : Stack) → Good (parts es ∷ k) → Leads (parts es ∷ k) (t ∷ []) (next_part (Some t) es k)
-part_leads CloseBrace es k g = call_leads es k g
-part_leads (Var name at) es k g = (refl, ((refl, or_true (is_some_item es)), g))
-part_leads t es k g = guard_leads (is_some_item es) (parts es ∷ k) (t ∷ []) (operand false (Some t) (parts es ∷ k)) (λ h. operand_leads t (parts es ∷ k) (or_true (is_some_item es)) (or_left (is_some_item es) false h) g)
+-- an integer or a literal turns out to be a key
+key_leads : (p : Phrase) (s e w : Bool) (l : Literal) (at : ℕ) (fs : List Phrase) (k : Stack) → Good (fields w l at fs ∷ k) → Leads (whole p s e ∷ fields w l at fs ∷ k) (Colon ∷ []) (turn_key p w (fields w l at fs ∷ k))
+key_leads (int i place) s e w l at fs k g = (simp append_assoc, (refl, g))
+key_leads (literal m place) s e w l at fs k g = (simp append_assoc, (refl, g))
+key_leads p s e w l at fs k g = tt
+
+-- a field ends, without a key or with one
+behind_field_leads : (t : Token) (p : Phrase) (s e w : Bool) (l : Literal) (at : ℕ) (fs : List Phrase) (k : Stack) → Has p s e (fields w l at fs ∷ k) → Good (fields w l at fs ∷ k)
+    → Leads (whole p s e ∷ fields w l at fs ∷ k) (t ∷ []) (behind_field (Some t) p w l at fs k)
+behind_field_leads Colon p s e w l at fs k h g = key_leads p s e w l at fs k g
+behind_field_leads t p s e w l at fs k h g =
+    field_added t p w l at fs (whole p s e ∷ fields w l at fs ∷ k) k refl (term_field w p (term_of w zero p (kind_by w) refl (told e _ h.1 h.3))) g
+
+behind_value_leads : (t : Token) (p : Phrase) (s e w : Bool) (c : Constant) (place : ℕ) (k : Stack) → Has p s e (key w c place ∷ k) → Good (key w c place ∷ k) → Leads (whole p s e ∷ key w c place ∷ k) (t ∷ []) (behind_value (Some t) p c place k)
+behind_value_leads t p s e w c place (fields v l at fs ∷ k) h g =
+    field_added t (keyed c place p) v l at fs (whole p s e ∷ key w c place ∷ fields v l at fs ∷ k) k (simp append_assoc)
+    (subst (λ q. term q zero p ≡ true) g.0 (term_of w zero p (kind_by w) refl (told e _ h.1 h.3))) g.1
+behind_value_leads t p s e w c place [] h g = tt
+behind_value_leads t p s e w c place (f ∷ k) h g = tt
+
+-- the next token of a list and of a call
+element_leads : (t : Token) (w : Bool) (at : ℕ) (es : List Phrase) (k : Stack) → Good (listing w at es ∷ k) → Leads (listing w at es ∷ k) (t ∷ []) (next_element (Some t) w at es k)
+element_leads CloseBracket w at es k g =
+    guard_leads (is_some_item es) (listing w at es ∷ k) (CloseBracket ∷ []) (value (list at (of_list es)) k) (λ h.
+    value_leads w (list at (of_list es)) false k (listing w at es ∷ k) (CloseBracket ∷ []) (simp append_assoc) g.0.1 tt (list_term w at (of_list es) (both (is_more (of_list es)) (terms w zero (of_list es)) (some_more es h) g.0.0)) tt refl g.1)
+element_leads t w at es k g = operand_leads t (listing w at es ∷ k) tt g
+
+part_leads : (t : Token) (at : ℕ) (es : List Phrase) (k : Stack) → Good (parts at es ∷ k) → Leads (parts at es ∷ k) (t ∷ []) (next_part (Some t) at es k)
+part_leads CloseBrace at es k g =
+    guard_leads (is_some_item es) (parts at es ∷ k) (CloseBrace ∷ []) (Some (had (call at (of_list es)) true true k)) (λ h.
+    let i = both (is_more (of_list es)) (terms false zero (of_list es)) (some_more es h) g.0.0 in
+    value_leads false (call at (of_list es)) true k (parts at es ∷ k) (CloseBrace ∷ []) (simp append_assoc) g.0.1 i i tt refl g.1)
+part_leads t at es k g = operand_leads t (parts at es ∷ k) tt g
+
+-- one more element, and one more part
+element_added : (t : Token) (p : Phrase) (s e w : Bool) (at : ℕ) (es : List Phrase) (k : Stack) → Has p s e (listing w at es ∷ k) → Good (listing w at es ∷ k) → Leads (whole p s e ∷ listing w at es ∷ k) (t ∷ []) (next_element (Some t) w at (es ++ p ∷ []) k)
+element_added t p s e w at es k h g =
+    leads_from (listing w at (es ++ p ∷ []) ∷ k) (whole p s e ∷ listing w at es ∷ k) (t ∷ []) (t ∷ []) (next_element (Some t) w at (es ++ p ∷ []) k)
+    (ap (λ ts. (spelled k ++ OpenBracket at ∷ ts) ++ t ∷ []) (each_snoc es p) ∙ simp append_assoc)
+    (element_leads t w at (es ++ p ∷ []) k ((terms_snoc w zero es p g.0.0 (term_of w zero p (kind_by w) refl (told e _ h.1 h.3)), g.0.1), g.1))
+
+part_added : (t : Token) (p : Phrase) (s e : Bool) (at : ℕ) (es : List Phrase) (k : Stack) → Has p s e (parts at es ∷ k) → Good (parts at es ∷ k) → Leads (whole p s e ∷ parts at es ∷ k) (t ∷ []) (next_part (Some t) at (es ++ p ∷ []) k)
+part_added t p s e at es k h g =
+    leads_from (parts at (es ++ p ∷ []) ∷ k) (whole p s e ∷ parts at es ∷ k) (t ∷ []) (t ∷ []) (next_part (Some t) at (es ++ p ∷ []) k)
+    (ap (λ ts. (spelled k ++ OpenBrace at ∷ ts) ++ t ∷ []) (each_snoc es p) ∙ simp append_assoc)
+    (part_leads t at (es ++ p ∷ []) k ((terms_snoc false zero es p g.0.0 (told e _ h.1 h.3), g.0.1), g.1))
+
+-- ---- parentheses
+
+-- what one phrase in parentheses is
+single_feature : (at : ℕ) (p : Phrase) → expr p ≡ true → feature (paren at (of_list (p ∷ []))) ≡ true
+single_feature at p h = both (expr p) true h refl
+
+single_state : (s : Bool) (at : ℕ) (p : Phrase) → Says s (stmt p ≡ true) → Says s (stmt (paren at (of_list (p ∷ []))) ≡ true)
+single_state true at p h = both (stmt p) true h refl
+single_state false at p h = tt
+
+single_term : (w : Bool) (at : ℕ) (p : Phrase) → term w zero p ≡ true → term w zero (paren at (of_list (p ∷ []))) ≡ true
+single_term true at p h = both (is_pattern p) true h refl
+single_term false at p h = both (expr p) true h refl
+
+-- the parenthesis ends, also behind `.` and `@`
+enclosed_leads : (p : Phrase) (s e w : Bool) (at : ℕ) (k : Stack) → Has p s e (enclosing w at ∷ k) → Good (enclosing w at ∷ k) → Leads (whole p s e ∷ enclosing w at ∷ k) (CloseParen ∷ []) (Some (had (paren at (of_list (p ∷ []))) s true k))
+enclosed_leads p s e w at (dotted a ∷ k) h g =
+    let t = subst (λ v. term v zero p ≡ true) g.0 (term_of w zero p (kind_by w) refl (told e _ h.1 h.3)) in
+    leads_from (dotted a ∷ k) (whole p s e ∷ enclosing w at ∷ dotted a ∷ k) (tokens_of (paren at (of_list (p ∷ [])))) (CloseParen ∷ []) (Some (had (paren at (of_list (p ∷ []))) s true (dotted a ∷ k))) (simp (append_assoc, append-nil))
+    (select_leads a (paren at (of_list (p ∷ []))) k (single_feature at p t) g.1)
+enclosed_leads p s e w at (accessing place ∷ k) h g =
+    let t = subst (λ v. term v zero p ≡ true) g.0 (term_of w zero p (kind_by w) refl (told e _ h.1 h.3)) in
+    leads_from (accessing place ∷ k) (whole p s e ∷ enclosing w at ∷ accessing place ∷ k) (tokens_of (paren at (of_list (p ∷ [])))) (CloseParen ∷ []) (Some (had (paren at (of_list (p ∷ []))) s true (accessing place ∷ k))) (simp (append_assoc, append-nil))
+    (accessed_leads place (paren at (of_list (p ∷ []))) k (single_feature at p t) g.1)
+enclosed_leads p s e w at [] h g = elim g.0.0 [ ]
+enclosed_leads p s e w at (f ∷ k) h g =
+    let t = term_of w zero p (kind_by w) refl (told e _ h.1 h.3) in
+    value_leads w (paren at (of_list (p ∷ []))) s (f ∷ k) (whole p s e ∷ enclosing w at ∷ f ∷ k) (CloseParen ∷ []) (simp (append_assoc, append-nil)) g.0 (single_state s at p h.0) (single_term w at p t) tt refl g.1
+
+paren_leads : (t : Token) (p : Phrase) (s e w : Bool) (at : ℕ) (k : Stack) → Has p s e (enclosing w at ∷ k) → Good (enclosing w at ∷ k) → Leads (whole p s e ∷ enclosing w at ∷ k) (t ∷ []) (close_paren (Some t) p s at k)
+paren_leads CloseParen p s e w at k h g = enclosed_leads p s e w at k h g
+paren_leads t p s e w at k h g = tt
+
+-- ---- `raise`, `if`, `case` and `catch`
+
+raised_leads : (t : Token) (p : Phrase) (s e : Bool) (at : ℕ) (k : Stack) → Has p s e (raising at ∷ k) → Good (raising at ∷ k) → Leads (whole p s e ∷ raising at ∷ k) (t ∷ []) (raised (Some t) p at k)
+raised_leads End p s e at k h g =
+    let i = told e _ h.1 h.3 in
+    value_leads false (raise at p) true k (whole p s e ∷ raising at ∷ k) (End ∷ []) (simp append_assoc) g.0 i i tt refl g.1
+raised_leads t p s e at k h g = tt
+
+tested_leads : (t : Token) (p : Phrase) (s e : Bool) (at : ℕ) (sb eb : Bool) (bs : List Phrase) (k : Stack) → Has p s e (testing at sb eb bs ∷ k) → Good (testing at sb eb bs ∷ k)
+    → Leads (whole p s e ∷ testing at sb eb bs ∷ k) (t ∷ []) (tested (Some t) p at sb eb bs k)
+tested_leads Then p s e at sb eb bs k h g = (simp (append_assoc, append-nil), ((fresh_items, (g.0.0, g.0.1, g.0.2, told e _ h.1 h.3)), g.1))
+tested_leads t p s e at sb eb bs k h g = tt
+
+subjected_leads : (t : Token) (p : Phrase) (s e : Bool) (at : ℕ) (k : Stack) → Has p s e (matching at ∷ k) → Good (matching at ∷ k) → Leads (whole p s e ∷ matching at ∷ k) (t ∷ []) (subjected (Some t) p at k)
+subjected_leads Of p s e at k h g = (simp append_assoc, (((g.0, or_true (may_state k && true)), refl, refl, told e _ h.1 h.3), g.1))
+subjected_leads t p s e at k h g = tt
+
+claused_leads : (t : Token) (p : Phrase) (s e : Bool) (at : ℕ) (c : Phrase) (sb eb : Bool) (cs : List Phrase) (k : Stack) → Has p s e (patterns at c sb eb cs ∷ k) → Good (patterns at c sb eb cs ∷ k)
+    → Leads (whole p s e ∷ patterns at c sb eb cs ∷ k) (t ∷ []) (claused (Some t) p at c sb eb cs k)
+claused_leads Then p s e at c sb eb cs k h g = (simp (append_assoc, append-nil), ((fresh_items, (g.0.0, g.0.1, g.0.2, g.0.3, told e _ h.1 h.3)), g.1))
+claused_leads t p s e at c sb eb cs k h g = tt
+
+caught_leads : (t : Token) (p : Phrase) (s e : Bool) (b : Phrase) (cs : List Phrase) (k : Stack) → Has p s e (catching b cs ∷ k) → Good (catching b cs ∷ k) → Leads (whole p s e ∷ catching b cs ∷ k) (t ∷ []) (caught (Some t) p b cs k)
+caught_leads Then p s e b cs k h g = (simp (append_assoc, append-nil), ((fresh_items, (g.0.0, g.0.1, g.0.2, told e _ h.1 h.3)), g.1))
+caught_leads t p s e b cs k h g = tt
 
 -- ---- heads
 
-some_more : (hs : List Phrase) → is_some_item hs ≡ true → is_more (of_list hs) ≡ true
-some_more (p ∷ hs) h = refl
-some_more [] h = absurd (cc)
+-- `lazy` behind `fun`
+lazy_leads : (n at place : ℕ) (k : Stack) → Good (heading (making_fun at None) ∷ k) → Leads (heading (making_fun at None) ∷ k) (Lit (Atom n) place ∷ []) (guard (nat_eq n lazy_word) (Some (heading (making_fun at (Some place)) ∷ k)))
+lazy_leads n at place k g =
+    guard_leads (nat_eq n lazy_word) (heading (making_fun at None) ∷ k) (Lit (Atom n) place ∷ []) (Some (heading (making_fun at (Some place)) ∷ k)) (λ q. (
+      ap (λ m. spelled k ++ (Fun at ∷ Lit (Atom m) place ∷ [])) (sym (eqb-true n lazy_word q)) ∙ simp append_assoc,
+      (g.0, g.1),
+    ))
 
-head_leads : (t : Token) (hs : List Phrase) (k : Stack) → Good (head hs ∷ k) → Leads (head hs ∷ k) (t ∷ []) (next_head (Some t) hs k)
-head_leads CloseBrace hs k g = guard_leads (is_some_item hs) (head hs ∷ k) (CloseBrace ∷ []) (Some (block (of_proc hs) true true [] [] ∷ k)) (λ h. (simp (append_assoc, append-nil), ((fresh_items, (g.0.1, some_more hs h, g.0.0)), g.1)))
-head_leads (Var name at) hs k g = (ap (λ ts. spelled k ++ (Proc ∷ OpenBrace ∷ ts)) (each_snoc hs (var name at)) ∙ simp append_assoc, ((vars_snoc hs (var name at) g.0.0 refl, g.0.1), g.1))
-head_leads t hs k g = tt
+open_leads : (t : Token) (m : Maker) (k : Stack) → Good (heading m ∷ k) → Leads (heading m ∷ k) (t ∷ []) (open_head (Some t) m k)
+open_leads (OpenBrace at) m k g = (simp append_assoc, (g.0, g.1))
+open_leads (Lit (Atom n) place) (making_fun at None) k g = lazy_leads n at place k g
+open_leads (Lit (Atom n) place) (making_fun at (Some p)) k g = tt
+open_leads (Lit (Atom n) place) (making_proc at) k g = tt
+open_leads (Lit l place) m k g = tt
+open_leads t m k g = tt
 
-open_leads : (t : Token) (k : Stack) → Good (heading ∷ k) → Leads (heading ∷ k) (t ∷ []) (open_head (Some t) k)
-open_leads OpenBrace k g = (simp append_assoc, ((refl, g.0), g.1))
-open_leads t k g = tt
+-- a procedure with a name stands in a block, one without where a value may
+named_stands : (k : Stack) → Under k → in_block k ≡ true → Stands true true false k × (kind_of k ≡ expression)
+named_stands (block o d s ds ps ∷ k) u h = (var_stands d s u.0.0.3, refl)
+named_stands [] u h = absurd (cc)
+named_stands (f ∷ k) u h = absurd (cc)
 
--- ---- behind a whole expression
+value_stands : (k : Stack) → Makes k → may_value k ≡ true → Stands false false true k × (kind_of k ≡ expression)
+value_stands (block o d s ds ps ∷ k) g h = (spot_stands false false (block o d s ds ps ∷ k) h, refl)
+value_stands [] g h = (spot_stands false false [] g.0, g.1)
+value_stands (f ∷ k) g h = (spot_stands false false (f ∷ k) g.0, g.1)
 
-says_var : (e : Phrase) → Says (is_var e) (decl e ≡ true)
-says_var (var name at) = refl
-says_var e = tt
+-- the first part of a head
+first_leads : (t : Token) (m : Maker) (at : ℕ) (k : Stack) → Good (heads m at [] ∷ k) → Leads (heads m at [] ∷ k) (t ∷ []) (first_head (Some t) m at k)
+first_leads (Var name place) m at k g =
+    guard_leads (in_block k) (heads m at [] ∷ k) (Var name place ∷ []) (Some (heads m at (var name place ∷ []) ∷ k)) (λ h. (simp append_assoc, (named_stands k g.1 h, g.1)))
+first_leads Dollar m at k g = guard_leads (may_value k) (heads m at [] ∷ k) (Dollar ∷ []) (Some (heads m at (dollar ∷ []) ∷ k)) (λ h. (simp append_assoc, (value_stands k g.0 h, g.1)))
+first_leads t m at k g = tt
 
-behind_leads : (t : Token) (e : Phrase) (o : Opener) (d s : Bool) (ds ps : List Phrase) (k : Stack) → Good (have e ∷ block o d s ds ps ∷ k)
-    → Leads (have e ∷ block o d s ds ps ∷ k) (t ∷ []) (behind (Some t) e o d s ds ps k)
-behind_leads Equals e o d s ds ps k g = guard_leads s (have e ∷ block o d s ds ps ∷ k) (Equals ∷ []) (Some (right e ∷ block o d s ds ps ∷ k)) (λ h. (simp append_assoc, ((g.0.0, h), g.1)))
-behind_leads t e o d s ds ps k g =
-    leads_from (block o d s ds ps ∷ k) (have e ∷ block o d s ds ps ∷ k) (tokens_of e ++ t ∷ []) (t ∷ []) (bind (add e (is_var e) false (block o d s ds ps ∷ k)) (item_again (Some t))) (simp append_assoc)
-    (again_leads t (block o d s ds ps ∷ k) (tokens_of e) (add e (is_var e) false (block o d s ds ps ∷ k)) (add_leads e (is_var e) false (block o d s ds ps ∷ k) (says_var e) tt g.1))
+-- one more parameter
+parameter_leads : (p : Phrase) (m : Maker) (at : ℕ) (h : Phrase) (hs : List Phrase) (k : Stack) → is_parameter p ≡ true → Good (heads m at (h ∷ hs) ∷ k) → Leads (heads m at (h ∷ hs) ∷ k) (tokens_of p) (Some (heads m at (h ∷ hs ++ p ∷ []) ∷ k))
+parameter_leads p m at h hs k i g =
+    let n = named_snoc at h hs p i in
+    let v = value_snoc at h hs p i in (
+      ap (λ ts. spelled k ++ (maker_tokens m ++ OpenBrace at ∷ (tokens_of h ++ ts))) (each_snoc hs p) ∙ simp append_assoc,
+      ((subst (λ b. Stands (is_named_head (head at (of_list (h ∷ hs ++ p ∷ [])))) (is_named_head (head at (of_list (h ∷ hs ++ p ∷ [])))) b k) (sym v) (subst (λ b. Stands b b (is_value_head (head at (of_list (h ∷ hs)))) k) (sym n) g.0.0), g.0.1), g.1),
+    )
 
-right_leads : (t : Token) (e a : Phrase) (k : Stack) → Good (have e ∷ right a ∷ k) → Leads (have e ∷ right a ∷ k) (t ∷ []) (bind (add_statement (equal a e) k) (item_again (Some t)))
-right_leads t e a k g =
-    leads_from k (have e ∷ right a ∷ k) (tokens_of (equal a e) ++ t ∷ []) (t ∷ []) (bind (add_statement (equal a e) k) (item_again (Some t))) (simp append_assoc)
-    (again_leads t k (tokens_of (equal a e)) (add_statement (equal a e) k) (add_leads (equal a e) false true k tt (both (expr a) (expr e) g.1.0.0 g.0.0) g.1.1))
+-- a head ends, and a body begins
+made_leads : (m : Maker) (at : ℕ) (h : Phrase) (hs : List Phrase) (k : Stack) → Good (heads m at (h ∷ hs) ∷ k) → Leads (heads m at (h ∷ hs) ∷ k) (CloseBrace ∷ []) (Some (opened (made m (head at (of_list (h ∷ hs)))) k))
+made_leads (making_proc place) at h hs k g = (simp (append_assoc, append-nil), ((fresh_items, g.0), g.1))
+made_leads (making_fun place lazy) at h hs k g = (simp (append_assoc, append-nil), ((fresh_items, g.0), g.1))
 
-pub part_good : (es : List Phrase) (e : Phrase) → GoodParts es → expr e ≡ true → is_some_item es || is_var e ≡ true → GoodParts (es ++ e ∷ [])
-part_good [] e g h i = both (is_var e) true i refl
-part_good (p ∷ es) e g h i = let j = split (is_var p) (exprs (of_list es)) g in both (is_var p) _ j.fst (exprs_snoc es e j.snd h)
+head_leads : (t : Token) (m : Maker) (at : ℕ) (hs : List Phrase) (k : Stack) → Good (heads m at hs ∷ k) → Leads (heads m at hs ∷ k) (t ∷ []) (next_head (Some t) m at hs k)
+head_leads t m at [] k g = first_leads t m at k g
+head_leads (Var name place) m at (h ∷ hs) k g = parameter_leads (var name place) m at h hs k refl g
+head_leads (Any place) m at (h ∷ hs) k g = parameter_leads (any place) m at h hs k refl g
+head_leads CloseBrace m at (h ∷ hs) k g = made_leads m at h hs k g
+head_leads t m at (h ∷ hs) k g = tt
 
--- one more field
-field_added : (t : Token) (e : Phrase) (w : Bool) (l : Literal) (at : ℕ) (fs : List Phrase) (j k : Stack) → spelled j ≡ spelled (fields w l at fs ∷ k) ++ tokens_of e → is_field w e ≡ true → Good (fields w l at fs ∷ k)
-    → Leads j (t ∷ []) (next_field (Some t) w l at (fs ++ e ∷ []) k)
-field_added t e w l at fs j k q h g =
-    leads_from (fields w l at (fs ++ e ∷ []) ∷ k) j (t ∷ []) (t ∷ []) (next_field (Some t) w l at (fs ++ e ∷ []) k)
-    (ap (λ ts. ts ++ t ∷ []) (ap (λ ts. spelled k ++ Label l at ∷ ts) (each_snoc fs e) ∙ sym (append_assoc (spelled k) (Label l at ∷ each (of_list fs)) (tokens_of e)) ∙ sym q))
-    (field_leads t w l at (fs ++ e ∷ []) k ((fields_snoc w fs e g.0.0 h, g.0.1, g.0.2), g.1))
+-- ---- phrases of blocks
 
-key_leads : (e : Phrase) (w : Bool) (l : Literal) (at : ℕ) (fs : List Phrase) (k : Stack) → Good (have e ∷ fields w l at fs ∷ k)
-    → Leads (have e ∷ fields w l at fs ∷ k) (Colon ∷ []) (turn_key e w (fields w l at fs ∷ k))
-key_leads (int i place) w l at fs k g = (simp append_assoc, (refl, g.1))
-key_leads (literal m place) w l at fs k g = (simp append_assoc, (refl, g.1))
-key_leads e w l at fs k g = tt
+-- what is known of a phrase that stands in a block
+is_has : (p : Phrase) (s e : Bool) (o : Opener) (d b : Bool) (ds ps : List Phrase) (k : Stack) → Has p s e (block o d b ds ps ∷ k) → Is p s e
+is_has p s e o d b ds ps k h = (h.0, h.1, h.2)
 
-behind_field_leads : (t : Token) (e : Phrase) (w : Bool) (l : Literal) (at : ℕ) (fs : List Phrase) (k : Stack) → Good (have e ∷ fields w l at fs ∷ k)
-    → Leads (have e ∷ fields w l at fs ∷ k) (t ∷ []) (behind_field (Some t) e w l at fs k)
-behind_field_leads Colon e w l at fs k g = key_leads e w l at fs k g
-behind_field_leads t e w l at fs k g = field_added t e w l at fs (have e ∷ fields w l at fs ∷ k) k refl (term_field w e g.0.0) g.1
+first : (a b : Bool) → a && b ≡ true → a ≡ true
+first a b h = let j = split a b h in j.fst
 
-behind_value_leads : (t : Token) (e : Phrase) (w : Bool) (c : Constant) (place : ℕ) (k : Stack) → Good (have e ∷ key w c place ∷ k) → Leads (have e ∷ key w c place ∷ k) (t ∷ []) (behind_value (Some t) e c place k)
-behind_value_leads t e w c place (fields v l at fs ∷ k) g =
-    field_added t (keyed c place e) v l at fs (have e ∷ key w c place ∷ fields v l at fs ∷ k) k (simp append_assoc) (subst (λ q. term q e ≡ true) g.1.0 g.0.0) g.1.1
-behind_value_leads t e w c place [] g = tt
-behind_value_leads t e w c place (f ∷ k) g = tt
+second : (a b : Bool) → a && b ≡ true → b ≡ true
+second a b h = let j = split a b h in j.snd
 
-tested_leads : (t : Token) (e : Phrase) (k : Stack) → Good (have e ∷ testing ∷ k) → Leads (have e ∷ testing ∷ k) (t ∷ []) (tested (Some t) e k)
-tested_leads Then e k g = (simp (append_assoc, append-nil), ((fresh_items, (g.1.0, g.0.0)), g.1.1))
-tested_leads t e k g = tt
+zero_le : (n : ℕ) → nat_le zero n ≡ true
+zero_le n = grind (arith, nat_tests)
 
-subjected_leads : (t : Token) (e : Phrase) (k : Stack) → Good (have e ∷ matching ∷ k) → Leads (have e ∷ matching ∷ k) (t ∷ []) (subjected (Some t) e k)
-subjected_leads Of e k g = (simp append_assoc, ((g.1.0, g.0.0, refl), g.1.1))
-subjected_leads t e k g = tt
+-- the left side of a statement with two sides. The flag tells whether it may be one
+connecting_leads : (c : Connective) (p : Phrase) (s e q : Bool) (o : Opener) (d b : Bool) (ds ps : List Phrase) (k : Stack) → Has p s e (block o d b ds ps ∷ k) → Good (block o d b ds ps ∷ k)
+    → (q ≡ true → nat_le (connected_level c) (binds p) ≡ true) → (q ≡ true → Connects c p (block o d b ds ps ∷ k))
+    → Leads (whole p s e ∷ block o d b ds ps ∷ k) (connective_token c ∷ []) (guard (e && q) (Some (connecting c p ∷ block o d b ds ps ∷ k)))
+connecting_leads c p s e q o d b ds ps k h g f n =
+    guard_leads (e && q) (whole p s e ∷ block o d b ds ps ∷ k) (connective_token c ∷ []) (Some (connecting c p ∷ block o d b ds ps ∷ k)) (λ x.
+    let y = split e q x in
+    (simp append_assoc, ((term_at false (connected_level c) p (told e _ h.1 y.fst) (f y.snd), n y.snd), g)))
 
-claused_leads : (t : Token) (p e : Phrase) (cs : List Phrase) (k : Stack) → Good (have p ∷ patterns e cs ∷ k) → Leads (have p ∷ patterns e cs ∷ k) (t ∷ []) (claused (Some t) p e cs k)
-claused_leads Then p e cs k g = (simp (append_assoc, append-nil), ((fresh_items, (g.1.0.0, g.1.0.1, g.1.0.2, g.0.0)), g.1.1))
-claused_leads t p e cs k g = tt
+-- what comes behind the first expression of a block's phrase
+behind_item_leads : (t : Token) (p : Phrase) (s e : Bool) (o : Opener) (d b : Bool) (ds ps : List Phrase) (k : Stack) → Has p s e (block o d b ds ps ∷ k) → Good (block o d b ds ps ∷ k)
+    → Leads (whole p s e ∷ block o d b ds ps ∷ k) (t ∷ []) (behind_item (Some t) p s e o d b ds ps k)
+behind_item_leads Equals p s e o d b ds ps k h g = connecting_leads Equates p s e (b || (d && is_var p)) o d b ds ps k h g (λ i. zero_le (binds p)) (λ i. i)
+behind_item_leads Assign p s e o d b ds ps k h g = connecting_leads Assigns p s e b o d b ds ps k h g (λ i. zero_le (binds p)) (λ i. i)
+behind_item_leads Domain p s e o d b ds ps k h g = connecting_leads Bounds p s e (b && nat_le level_of_selection (binds p)) o d b ds ps k h g (second b (nat_le level_of_selection (binds p))) (first b (nat_le level_of_selection (binds p)))
+behind_item_leads Domains p s e o d b ds ps k h g = connecting_leads BoundsEach p s e (b && nat_le level_of_selection (binds p)) o d b ds ps k h g (second b (nat_le level_of_selection (binds p))) (first b (nat_le level_of_selection (binds p)))
+behind_item_leads (Relates r) p s e o d b ds ps k h g =
+    guard_leads (e && (b && (is_side p && nat_lt (terms_in p) terms_limit))) (whole p s e ∷ block o d b ds ps ∷ k) (Relates r ∷ []) (Some (relating r p ∷ block o d b ds ps ∷ k)) (λ x.
+    let y = split e (b && (is_side p && nat_lt (terms_in p) terms_limit)) x in
+    let z = split b (is_side p && nat_lt (terms_in p) terms_limit) y.snd in
+    let v = split (is_side p) (nat_lt (terms_in p) terms_limit) z.snd in
+    (simp append_assoc, ((told e _ h.1 y.fst, v.fst, v.snd, z.fst), g)))
+behind_item_leads t p s e o d b ds ps k h g = over_leads t p s e o d b ds ps k (whole p s e ∷ block o d b ds ps ∷ k) refl (is_has p s e o d b ds ps k h) g
 
-whole_leads : (t : Token) (e : Phrase) (k : Stack) → Good (have e ∷ k) → Leads (have e ∷ k) (t ∷ []) (whole (Some t) e k)
-whole_leads t e (block o d s ds ps ∷ k) g = behind_leads t e o d s ds ps k g
-whole_leads t e (right a ∷ k) g = right_leads t e a k g
-whole_leads t e (fields w l at fs ∷ k) g = behind_field_leads t e w l at fs k g
-whole_leads t e (key w c place ∷ k) g = behind_value_leads t e w c place k g
-whole_leads t e (parts es ∷ k) g =
-    leads_from (parts (es ++ e ∷ []) ∷ k) (have e ∷ parts es ∷ k) (t ∷ []) (t ∷ []) (next_part (Some t) (es ++ e ∷ []) k)
-    (ap (λ ts. (spelled k ++ OpenBrace ∷ ts) ++ t ∷ []) (each_snoc es e) ∙ simp append_assoc)
-    (part_leads t (es ++ e ∷ []) k ((part_good es e g.1.0.0 g.0.0 g.0.1, g.1.0.1), g.1.1))
-whole_leads t e (testing ∷ k) g = tested_leads t e k g
-whole_leads t e (matching ∷ k) g = subjected_leads t e k g
-whole_leads t p (patterns e cs ∷ k) g = claused_leads t p e cs k g
-whole_leads t e [] g = tt
-whole_leads t e (f ∷ k) g = tt
+-- ---- statements with two sides
+
+-- what statements with two sides are
+connected_stmt : (c : Connective) (a p : Phrase) → term false (connected_level c) a ≡ true → expr p ≡ true → nat_le (right_level c) (binds p) ≡ true → stmt (connected c a p) ≡ true
+connected_stmt Equates a p h i b = both (expr a) (expr p) h i
+connected_stmt Assigns a p h i b = both (expr a) (expr p) h i
+connected_stmt Bounds a p h i b = both (term false level_of_selection a) (term false level_of_hashes p) h (term_at false level_of_hashes p i b)
+connected_stmt BoundsEach a p h i b = both (term false level_of_selection a) (term false level_of_hashes p) h (term_at false level_of_hashes p i b)
+
+connected_decl : (c : Connective) (a p : Phrase) → expr p ≡ true → Says (declares (connected c a p)) (decl (connected c a p) ≡ true)
+connected_decl Equates (var name at) p h = h
+connected_decl Equates a p h = tt
+connected_decl c a p h = tt
+
+connected_is : (c : Connective) (a p : Phrase) (s e : Bool) (k : Stack) → Has p s e (connecting c a ∷ k) → Good (connecting c a ∷ k) → Is (connected c a p) true false
+connected_is c a p s e k h g =
+    let i = told e _ h.1 h.3 in
+    (connected_stmt c a p g.0.0 i h.4, tt, connected_decl c a p i)
+
+right_leads : (t : Token) (c : Connective) (a p : Phrase) (s e : Bool) (k : Stack) → Has p s e (connecting c a ∷ k) → Good (connecting c a ∷ k) → Leads (whole p s e ∷ connecting c a ∷ k) (t ∷ []) (item_over (Some t) (connected c a p) true false k)
+right_leads t c a p s e (block o d b ds ps ∷ k) h g =
+    over_leads t (connected c a p) true false o d b ds ps k (whole p s e ∷ connecting c a ∷ block o d b ds ps ∷ k) (simp append_assoc) (connected_is c a p s e (block o d b ds ps ∷ k) h g) g.1
+right_leads t c a p s e [] h g = tt
+right_leads t c a p s e (f ∷ k) h g = tt
+
+related_is : (r : Comparison) (a p : Phrase) (s e : Bool) (k : Stack) → Has p s e (relating r a ∷ k) → Good (relating r a ∷ k) → Is (relate r a p) true false
+related_is r a p s e k h g =
+    let j = split (is_side p) (nat_le (terms_in a + terms_in p) terms_limit) h.5 in (
+      both (expr a && expr p) ((is_side a && is_side p) && nat_le (terms_in a + terms_in p) terms_limit) (both (expr a) (expr p) g.0.0 (told e _ h.1 h.3))
+          (both (is_side a && is_side p) (nat_le (terms_in a + terms_in p) terms_limit) (both (is_side a) (is_side p) g.0.1 j.fst) j.snd),
+      tt,
+      tt,
+    )
+
+related_leads : (t : Token) (r : Comparison) (a p : Phrase) (s e : Bool) (k : Stack) → Has p s e (relating r a ∷ k) → Good (relating r a ∷ k) → Leads (whole p s e ∷ relating r a ∷ k) (t ∷ []) (item_over (Some t) (relate r a p) true false k)
+related_leads t r a p s e (block o d b ds ps ∷ k) h g =
+    over_leads t (relate r a p) true false o d b ds ps k (whole p s e ∷ relating r a ∷ block o d b ds ps ∷ k) (simp append_assoc) (related_is r a p s e (block o d b ds ps ∷ k) h g) g.1
+related_leads t r a p s e [] h g = tt
+related_leads t r a p s e (f ∷ k) h g = tt
+
+-- ---- behind a phrase that is whole
+
+behind_leads : (t : Token) (p : Phrase) (s e : Bool) (k : Stack) → Has p s e k → Under k → Leads (whole p s e ∷ k) (t ∷ []) (behind (Some t) p s e k)
+behind_leads t p s e (block o d b ds ps ∷ k) h u = behind_item_leads t p s e o d b ds ps k h u
+behind_leads t p s e (connecting c a ∷ k) h u = right_leads t c a p s e k h u
+behind_leads t p s e (relating r a ∷ k) h u = related_leads t r a p s e k h u
+behind_leads t p s e (fields w l at fs ∷ k) h u = behind_field_leads t p s e w l at fs k h u
+behind_leads t p s e (key w c place ∷ k) h u = behind_value_leads t p s e w c place k h u
+behind_leads t p s e (listing w at es ∷ k) h u = element_added t p s e w at es k h u
+behind_leads t p s e (enclosing w at ∷ k) h u = paren_leads t p s e w at k h u
+behind_leads t p s e (parts at es ∷ k) h u = part_added t p s e at es k h u
+behind_leads t p s e (raising at ∷ k) h u = raised_leads t p s e at k h u
+behind_leads t p s e (testing at sb eb bs ∷ k) h u = tested_leads t p s e at sb eb bs k h u
+behind_leads t p s e (matching at ∷ k) h u = subjected_leads t p s e at k h u
+behind_leads t p s e (patterns at c sb eb cs ∷ k) h u = claused_leads t p s e at c sb eb cs k h u
+behind_leads t p s e (catching b cs ∷ k) h u = caught_leads t p s e b cs k h u
+behind_leads t p s e [] h u = tt
+behind_leads t p s e (f ∷ k) h u = tt
+
+-- no operator follows
+settled_leads : (t : Token) (p : Phrase) (s e : Bool) (k : Stack) → Good (whole p s e ∷ k) → Leads (whole p s e ∷ k) (t ∷ []) (settled (Some t) p s e k)
+settled_leads t p s e k g =
+    let h = reduces zero p s e k g.0.0 g.1 (zero_le (binds p)) in
+    let r = reduce zero p s k in
+    leads_from (whole r.phrase r.states e ∷ r.rest) (whole p s e ∷ k) (t ∷ []) (t ∷ []) (behind (Some t) r.phrase r.states e r.rest) (ap (λ ts. ts ++ t ∷ []) h.same)
+    (behind_leads t r.phrase r.states e r.rest h.has h.under)
+
+after_if : (q : Bool) (t : Token) (p : Phrase) (s e : Bool) (k : Stack) → Good (whole p s e ∷ k) → Leads (whole p s e ∷ k) (t ∷ []) (if q then guard e (shift_in (kind_of k) t p s k) else settled (Some t) p s e k)
+after_if true t p s e k g = operator_leads t p s e k g
+after_if false t p s e k g = settled_leads t p s e k g
 
 -- ---- runs
 
+items_tell : (d s : Bool) (ds ps : List Phrase) → GoodItems d s ds ps → Tells d s false ds ps
+items_tell d s ds ps g = (g.0, g.1, tt, g.2)
+
 -- each step spells its token, and keeps what is open good
 pub step_leads : (t : Token) (k : Stack) → Good k → Leads k (t ∷ []) (step t k)
-step_leads t [] g = tt
-step_leads t (block o d s ds ps ∷ k) g = item_leads t o d s ds ps k g
-step_leads t (have e ∷ k) g = whole_leads t e k g
-step_leads t (right a ∷ k) g = operand_leads t (right a ∷ k) tt tt g
+step_leads t [] g = elim g [ ]
+step_leads t (block o d s ds ps ∷ k) g = item_leads t o d s false ds ps k g.0.1 g.1 (items_tell d s ds ps g.0.0)
+step_leads t (whole p s e ∷ k) g = after_if (is_operator t) t p s e k g
 step_leads t (fields w l at fs ∷ k) g = field_leads t w l at fs k g
-step_leads t (key w c place ∷ k) g = operand_leads t (key w c place ∷ k) tt tt g
-step_leads t (parts es ∷ k) g = part_leads t es k g
-step_leads t (heading ∷ k) g = open_leads t k g
-step_leads t (head hs ∷ k) g = head_leads t hs k g
-step_leads t (testing ∷ k) g = operand_leads t (testing ∷ k) tt tt g
-step_leads t (matching ∷ k) g = operand_leads t (matching ∷ k) tt tt g
-step_leads t (patterns e cs ∷ k) g = operand_leads t (patterns e cs ∷ k) tt tt g
+step_leads t (listing w at es ∷ k) g = element_leads t w at es k g
+step_leads t (parts at es ∷ k) g = part_leads t at es k g
+step_leads t (dotted a ∷ k) g = feature_leads t a k g
+step_leads t (accessing at ∷ k) g = access_leads t at k g
+step_leads t (heading m ∷ k) g = open_leads t m k g
+step_leads t (heads m at hs ∷ k) g = head_leads t m at hs k g
 step_leads t (accepted p ∷ k) g = tt
+step_leads t (f ∷ k) g = operand_leads t (f ∷ k) tt g
 
 run_leads_from : (ts : List Token) (t : Token) (k : Stack) (o : Option Stack) → Leads k (t ∷ []) o → ((j : Stack) → Good j → Leads j ts (run (Some j) ts)) → Leads k (t ∷ ts) (run o ts)
 run_leads_from ts t k None l f = subst (Leads k (t ∷ ts)) (sym (run_none ts)) tt
@@ -315,41 +351,48 @@ good_start = ((fresh_items, tt), tt)
 
 -- ---- at the end
 
-finish_block : (o : Opener) (d s : Bool) (ds ps : List Phrase) (k : Stack) (p : Phrase) → Good (block o d s ds ps ∷ k) → bind (item None o d s ds ps k) accepted_of ≡ Some p → Derives (spelled (block o d s ds ps ∷ k)) p
-finish_block program d true ds ps [] p g h =
-    let x = body (of_list ds) (of_list ps) in
-    let q : x ≡ p = cc in
-    subst (Derives (declared (of_list ds) ++ each (of_list ps))) q (record { program = body_good ds ps g.0.0.2 g.0.0.1; spelled = refl })
-finish_block program d true ds ps (f ∷ k) p g h = elim g.0.1 [ ]
-finish_block o d true ds ps k p g h = absurd (cc)
-finish_block o d false ds ps k p g h = absurd (cc)
+-- a program ends with its block
+finish_item : (o : Opener) (d b s e : Bool) (ds ps : List Phrase) (k : Stack) (p : Phrase) → GoodOpener o d b ds k → Tells d s e ds ps → bind (item None o d b e ds ps k) accepted_of ≡ Some p → b ≡ s → Derives (spelled (block o d b ds ps ∷ k)) p
+finish_item program d true s e ds ps [] p g i h q =
+    let x = body_of ds ps in
+    let m : x ≡ p = cc in
+    subst (Derives (declared (of_list ds) ++ each (of_list ps))) m (record { program = both (decls (of_list ds)) (stmts (of_list ps)) i.3 (told s _ i.1 (sym q)); spelled = refl })
+finish_item program d b s e ds ps (f ∷ k) p g i h q = elim g [ ]
+finish_item program d false s e ds ps [] p g i h q = absurd (cc)
+finish_item o d b s e ds ps k p g i h q = absurd (cc)
 
-finish_again : (k : Stack) (ts : List Token) (o : Option Stack) (p : Phrase) → Leads k ts o → bind (bind o (item_again None)) accepted_of ≡ Some p → Derives (spelled k ++ ts) p
-finish_again k ts None p l h = absurd (cc)
-finish_again k ts (Some (block o d s ds ps ∷ j)) p l h = subst (λ us. Derives us p) l.0 (finish_block o d s ds ps j p l.1 h)
-finish_again k ts (Some []) p l h = absurd (cc)
-finish_again k ts (Some (f ∷ j)) p l h = absurd (cc)
+-- and with the last phrase of its block
+finish_over : (q : Phrase) (s e : Bool) (o : Opener) (d b : Bool) (ds ps : List Phrase) (k : Stack) (us : List Token) (p : Phrase) → spelled (block o d b ds ps ∷ k) ++ tokens_of q ≡ us → Is q s e → Good (block o d b ds ps ∷ k)
+    → bind (item_over None q s e (block o d b ds ps ∷ k)) accepted_of ≡ Some p → Derives us p
+finish_over q s e o d b ds ps k us p m i g h =
+    let d' = d && declares q in
+    let b' = b && s in
+    subst (λ ts. Derives ts p) (spelled_snoc o d' b' d b ds ps q k ∙ m)
+    (finish_item o d' b' b' (b && e) ds (ps ++ q ∷ []) k p (other_flags o d b (declares q) s ds k g.0.1) (tells_snoc q s e d b ds ps g.0.0 i) h refl)
 
-none_of : (b : Bool) (p : Phrase) → bind (guard b None) accepted_of ≡ Some p → ⊥
-none_of true p h = absurd (cc)
-none_of false p h = absurd (cc)
-
-finish_have : (e : Phrase) (k : Stack) (p : Phrase) → Good (have e ∷ k) → bind (whole None e k) accepted_of ≡ Some p → Derives (spelled (have e ∷ k)) p
-finish_have e (block o d s ds ps ∷ k) p g h = finish_again (block o d s ds ps ∷ k) (tokens_of e) (add e (is_var e) false (block o d s ds ps ∷ k)) p (add_leads e (is_var e) false (block o d s ds ps ∷ k) (says_var e) tt g.1) h
-finish_have e (right a ∷ k) p g h =
-    subst (λ us. Derives us p) (simp append_assoc)
-    (finish_again k (tokens_of (equal a e)) (add_statement (equal a e) k) p (add_leads (equal a e) false true k tt (both (expr a) (expr e) g.1.0.0 g.0.0) g.1.1) h)
-finish_have e (parts es ∷ k) p g h = absurd (none_of (is_some_item (es ++ e ∷ [])) p h)
-finish_have e (key w c place ∷ fields v l at fs ∷ k) p g h = absurd (cc)
-finish_have e (key w c place ∷ k) p g h = elim g.1.0 [ ]
-finish_have e [] p g h = absurd (cc)
-finish_have e (f ∷ k) p g h = absurd (cc)
+-- and with what is whole there
+finish_behind : (q : Phrase) (s e : Bool) (k : Stack) (p : Phrase) → Has q s e k → Under k → bind (behind None q s e k) accepted_of ≡ Some p → Derives (spelled k ++ tokens_of q) p
+finish_behind q s e (block o d b ds ps ∷ k) p i u h = finish_over q s e o d b ds ps k (spelled (block o d b ds ps ∷ k) ++ tokens_of q) p refl (is_has q s e o d b ds ps k i) u h
+finish_behind q s e (connecting c a ∷ block o d b ds ps ∷ k) p i u h =
+    finish_over (connected c a q) true false o d b ds ps k (spelled (connecting c a ∷ block o d b ds ps ∷ k) ++ tokens_of q) p (simp append_assoc) (connected_is c a q s e (block o d b ds ps ∷ k) i u) u.1 h
+finish_behind q s e (relating r a ∷ block o d b ds ps ∷ k) p i u h =
+    finish_over (relate r a q) true false o d b ds ps k (spelled (relating r a ∷ block o d b ds ps ∷ k) ++ tokens_of q) p (simp append_assoc) (related_is r a q s e (block o d b ds ps ∷ k) i u) u.1 h
+finish_behind q s e (connecting c a ∷ k) p i u h = absurd (cc)
+finish_behind q s e (relating r a ∷ k) p i u h = absurd (cc)
+finish_behind q s e (key w c place ∷ fields v l at fs ∷ k) p i u h = absurd (cc)
+finish_behind q s e (key w c place ∷ k) p i u h = elim u.0 [ ]
+finish_behind q s e [] p i u h = absurd (cc)
+finish_behind q s e (f ∷ k) p i u h = absurd (cc)
 
 finish_sound : (k : Stack) (p : Phrase) → Good k → finish k ≡ Some p → Derives (spelled k) p
-finish_sound (block o d s ds ps ∷ k) p g h = finish_block o d s ds ps k p g h
-finish_sound (have e ∷ k) p g h = finish_have e k p g h
-finish_sound (parts es ∷ k) p g h = absurd (none_of (is_some_item es) p h)
-finish_sound [] p g h = absurd (cc)
+finish_sound (block o d s ds ps ∷ k) p g h = finish_item o d s s false ds ps k p g.0.1 (items_tell d s ds ps g.0.0) h refl
+finish_sound (whole q s e ∷ k) p g h =
+    let i = reduces zero q s e k g.0.0 g.1 (zero_le (binds q)) in
+    let r = reduce zero q s k in
+    subst (λ ts. Derives ts p) i.same (finish_behind r.phrase r.states e r.rest p i.has i.under h)
+finish_sound (heads m at [] ∷ k) p g h = absurd (cc)
+finish_sound (heads m at (x ∷ hs) ∷ k) p g h = absurd (cc)
+finish_sound [] p g h = elim g [ ]
 finish_sound (f ∷ k) p g h = absurd (cc)
 
 parse_sound_from : (ts : List Token) (o : Option Stack) (p : Phrase) → Leads start ts o → bind o finish ≡ Some p → Derives ts p

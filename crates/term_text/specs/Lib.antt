@@ -1,4 +1,4 @@
-pub mod Keys
+pub mod Operands
 pub mod Pending
 pub mod Placing
 pub mod TextWithin

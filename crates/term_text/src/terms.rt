@@ -16,11 +16,13 @@ pub struct Text {
 }
 
 /// The text of a variable's term in a view. `None` where the term has more nodes than the fuel. It refuses where there is no
-/// memory, and where a field has no feature, as no program makes one.
+/// memory.
 ///
-/// An atom's text is its word. A field has its feature before it, as `a:X`, but the features 1, 2, .. are left out as far as they
-/// go without a gap. `^K` stands for the K-th of the enclosing records, the innermost being 1. The time goes with the nodes that
-/// are printed, at most as many as the fuel; the depth of a term takes memory, but no stack.
+/// A list is written as `A|B` and a row as `A#B#..`, with an operand in parentheses where it needs them. Before a field of any
+/// other record stands its feature, as in `f(a:X)`, but the features 1, 2, .. are left out as far as they go without a gap. `^K`
+/// stands for the K-th of the enclosing records, the innermost being 1. The time goes with the nodes that are printed, at most as
+/// many as the fuel, and with the features of records that are written with `|` or `#`; the depth of a term takes memory, but no
+/// stack.
 pub fn term_text<'a>(
     alloc: Global,
     words: &[Sequence<u8>],
@@ -32,7 +34,11 @@ pub fn term_text<'a>(
 {
     let bound = seen.len().checked_add(1).ok_or(AllocError)?;
     let mut printer = Printer::new(alloc);
-    let mut term = Term { variable, bound };
+    let mut term = Term {
+        variable,
+        bound,
+        owed: false,
+    };
     for nodes in 0..fuel {
         match printer.step(alloc, words, seen, &term)? {
             Some(next) => term = next,

@@ -13,6 +13,10 @@ const A: Literal = Literal::Atom(2);
 
 const B: Literal = Literal::Atom(3);
 
+const BAR: Literal = Literal::Atom(4);
+
+const HASH: Literal = Literal::Atom(5);
+
 fn var(alloc: Global, number: u32) -> Ident {
     Ident {
         space: Sequence::new(alloc),
@@ -103,7 +107,7 @@ fn told(alloc: Global, tells: Vec<Tell>) -> Result<Seen, AllocError> {
 /// The text of variable 0.
 fn text(alloc: Global, tells: Vec<Tell>, fuel: u64) -> Result<Option<Text>, AllocError> {
     let mut words = Vec::new(alloc);
-    for letter in b"fgab" {
+    for letter in b"fgab|#" {
         words.push(word(alloc, &[*letter])?)?;
     }
     let seen = told(alloc, tells)?;
@@ -219,6 +223,52 @@ fn a_way_up_from_a_field_with_a_key(rt: HostRuntime) -> Result<(), Fail> {
     let inner = [(Constant::Int(2), 0), (key(A), 1)];
     let tells = vec![in alloc; record(alloc, 0, F, &outer)?, record(alloc, 1, G, &inner)?]?;
     assert!(rt; is_text(&text(alloc, tells, 9)?, b"f(a:g(2:^2 a:^1) b:^1)", 5));
+    Ok(())
+}
+
+#[test]
+fn a_list_inside_itself(rt: HostRuntime) -> Result<(), Fail> {
+    let alloc = rt.alloc();
+    let tells = vec![in alloc;
+        tuple(alloc, 0, BAR, &[1, 2])?,
+        tuple(alloc, 2, BAR, &[3, 0])?,
+        atom(alloc, 1, A),
+    ]?;
+    assert!(rt; is_text(&text(alloc, tells, 9)?, b"a|_|^2", 5));
+    Ok(())
+}
+
+#[test]
+fn a_list_before_a_bar(rt: HostRuntime) -> Result<(), Fail> {
+    let alloc = rt.alloc();
+    let tells = vec![in alloc;
+        tuple(alloc, 0, BAR, &[1, 3])?,
+        tuple(alloc, 1, BAR, &[2, 2])?,
+        tuple(alloc, 3, HASH, &[2, 2])?,
+        tuple(alloc, 2, F, &[4])?,
+    ]?;
+    let both = b"(f(_)|f(_))|f(_)#f(_)";
+    assert!(rt; is_text(&text(alloc, tells, 11)?, both, 11));
+    Ok(())
+}
+
+#[test]
+fn a_row_of_rows(rt: HostRuntime) -> Result<(), Fail> {
+    let alloc = rt.alloc();
+    let tells = vec![in alloc;
+        tuple(alloc, 0, HASH, &[1, 2, 0])?,
+        tuple(alloc, 1, BAR, &[3, 3])?,
+        tuple(alloc, 2, HASH, &[3, 0])?,
+    ]?;
+    assert!(rt; is_text(&text(alloc, tells, 9)?, b"(_|_)#(_#^2)#^1", 8));
+    Ok(())
+}
+
+#[test]
+fn a_row_of_one_field(rt: HostRuntime) -> Result<(), Fail> {
+    let alloc = rt.alloc();
+    let tells = vec![in alloc; tuple(alloc, 0, HASH, &[1])?, atom(alloc, 1, BAR)]?;
+    assert!(rt; is_text(&text(alloc, tells, 2)?, b"'#'('|')", 2));
     Ok(())
 }
 

@@ -1,6 +1,6 @@
 use Rattle.std.proofs.Common.{◌≡◌, ◌≤◌, ◌∙◌, ap, arith, refl}
 use Rattle.std.specs.Prelude.{unwrap_or}
-use Rattle.oz_semantics.specs.Commands.{Verb, all, run, workers, value_in, verb_word}
+use Rattle.oz_semantics.specs.Commands.{Verb, all, run, kernel, workers, value_in, verb_word}
 use Rattle.command_line.proofs.Numbers.{found_name, found_rows, value_most}
 use Rattle.command_line.proofs.reader.found_command.Goals as goal
 
@@ -19,3 +19,4 @@ returns-in_default c verb given found = absurd (other verb (found_name c.args.ma
     other : (v : Verb) → c.in_ok-name.name.now ≡ verb_word v → ⊥
     other all e = c.in_default.not-all e
     other run e = c.in_default.not-run e
+    other kernel e = c.in_default.not-kernel e

@@ -1,6 +1,7 @@
 use Rattle.std.proofs.Common.{◌≡◌, ◌≤◌, ◌+◌, length, drop, subst, sym, ap, ◌∙◌, arith, length-drop, true, false}
 use Rattle.std.proofs.lemmas.List.{drop-drop}
-use Rattle.oz_semantics.specs.Tokens.{gap_length, IsLongest, NoToken, is_broken_number}
+use Rattle.oz_semantics.specs.Tokens.{gap_length, IsLongest, is_broken_number}
+use Rattle.oz_lex.specs.Scanning.{IsBadFront}
 use Rattle.oz_lex.proofs.Readings.{Front, gap_step, token_step, bad_byte, bad_fraction, finished}
 use Rattle.oz_lex.proofs.lexer.lexemes.Goals as goal
 
@@ -16,24 +17,25 @@ loop-at-preserved-then-gap-gt0 c =
       so_far = gap_step text at c.loop-at.lexemes.items c.loop-at.invariant.so_far c.loop-at-test.true g c.if-gap-gt0.true v;
     }
 
-pub returns-in_default-clause-bad : goal.returns-in_default-clause-bad
-returns-in_default-clause-bad c =
+pub returns-in-Err-clause-bad : goal.returns-in-Err-clause-bad
+returns-in-Err-clause-bad c =
     let text = c.args.text.now in
     let at = c.loop-at.at in
     let g = c.gap_len-gap.result in
+    let away = c.in-Err.away in
     let v : g ≡ gap_length (drop at text) = c.gap_len-gap.ensures.value ∙ ap gap_length c.rest_of-rest.ensures in
-    let n : NoToken (drop at text) = subst NoToken c.rest_of-rest.ensures c.in_default.ensures in
-    bad_byte text at c.loop-at.lexemes.items c.loop-at.invariant.so_far c.loop-at-test.true g v c.if-gap-gt0.false n
+    let f : IsBadFront (drop at text) away = subst (λ xs. IsBadFront xs away) c.rest_of-rest.ensures c.in-Err.ensures in
+    bad_byte text at c.loop-at.lexemes.items c.loop-at.invariant.so_far c.loop-at-test.true g v c.if-gap-gt0.false away f.none f.place
 
 pub returns-then-is_broken_number-clause-bad : goal.returns-then-is_broken_number-clause-bad
 returns-then-is_broken_number-clause-bad c =
     let text = c.args.text.now in
     let at = c.loop-at.at in
     let g = c.gap_len-gap.result in
-    let n = c.in-Some.len in
-    let s = c.in-Some.sort in
+    let n = c.in-Ok.len in
+    let s = c.in-Ok.sort in
     let v : g ≡ gap_length (drop at text) = c.gap_len-gap.ensures.value ∙ ap gap_length c.rest_of-rest.ensures in
-    let t : IsLongest (drop at text) n s = subst (λ xs. IsLongest xs n s) c.rest_of-rest.ensures c.in-Some.ensures in
+    let t : IsLongest (drop at text) n s = subst (λ xs. IsLongest xs n s) c.rest_of-rest.ensures c.in-Ok.ensures in
     let d = c.rest_of.ensures ∙ ap (drop n) c.rest_of-rest.ensures ∙ drop-drop n at text in
     let b : is_broken_number s (drop (at + n) text) ≡ true = ap (is_broken_number s) (sym d) ∙ sym c.is_broken_number.ensures ∙ c.if-is_broken_number.true in
     bad_fraction text at c.loop-at.lexemes.items c.loop-at.invariant.so_far c.loop-at-test.true g v c.if-gap-gt0.false n s t b
@@ -43,16 +45,16 @@ loop-at-preserved c =
     let text = c.args.text.now in
     let at = c.loop-at.at in
     let g = c.gap_len-gap.result in
-    let n = c.in-Some.len in
-    let s = c.in-Some.sort in
+    let n = c.in-Ok.len in
+    let s = c.in-Ok.sort in
     let v : g ≡ gap_length (drop at text) = c.gap_len-gap.ensures.value ∙ ap gap_length c.rest_of-rest.ensures in
-    let t : IsLongest (drop at text) n s = subst (λ xs. IsLongest xs n s) c.rest_of-rest.ensures c.in-Some.ensures in
+    let t : IsLongest (drop at text) n s = subst (λ xs. IsLongest xs n s) c.rest_of-rest.ensures c.in-Ok.ensures in
     let w = t.within in
     let d = c.rest_of.ensures ∙ ap (drop n) c.rest_of-rest.ensures ∙ drop-drop n at text in
     let b : is_broken_number s (drop (at + n) text) ≡ false = ap (is_broken_number s) (sym d) ∙ sym c.is_broken_number.ensures ∙ c.if-is_broken_number.false in
     record {
       within = omega (arith, w, length-drop at text, c.loop-at-test.true);
-      so_far = subst (Front text (at + n)) (sym c.in_ok-push.ensures.items)
+      so_far = subst (Front text (at + n)) (sym c.in_ok-push-in-Ok.ensures.items)
           (token_step text at c.loop-at.lexemes.items c.loop-at.invariant.so_far c.loop-at-test.true g v c.if-gap-gt0.false n s t b);
     }
 

@@ -1,7 +1,7 @@
 use Rattle.std.proofs.Common.{◌≡◌, ◌≤◌, ◌<◌, ◌+◌, ℕ, nat_lt, true, false, ap, List, [], take, length, slice_index_or, slice_get, Some, sym, ◌∙◌, subst, arith}
 use Rattle.std.proofs.lemmas.Option.{slice_get-get_or}
 use Rattle.oz_semantics.specs.Grammar.{Phrase, Derives}
-use Rattle.oz_semantics.specs.Refusals.{Open, IsRefused, depth_limit, depth_of}
+use Rattle.oz_semantics.specs.Refusals.{Open, IsRefused, depth_limit, depth_of, text_open}
 use Rattle.oz_semantics.specs.Tokens.{Whole}
 use Rattle.oz_semantics.specs.Wording.{tokens_in}
 use Rattle.oz_semantics.specs.declared.token.Lexeme.{Lexeme}
@@ -22,8 +22,8 @@ there ls n h = slice_get-get_or ls n none h
 pub loop-lexeme-init : goal.loop-lexeme-init
 loop-lexeme-init c = record {
   words = sym c.in_ok-words.ensures;
-  goes = subst (λ (os : List Open). Goes [] os (stack_of c.in_ok-stack.stack.items)) (sym c.new-depth.ensures) (subst (λ (k : Stack). Goes [] [] k) (sym c.in_ok-stack.ensures) goes_start);
-  shallow = subst (λ (os : List Open). depth_of os ≤ depth_limit) (sym c.new-depth.ensures) (omega arith);
+  goes = subst (λ (os : List Open). Goes [] os (stack_of c.in_ok-stack.stack.items)) (sym c.in_ok-depth.ensures) (subst (λ (k : Stack). Goes [] text_open k) (sym c.in_ok-stack.ensures) goes_start);
+  shallow = subst (λ (os : List Open). depth_of os ≤ depth_limit) (sym c.in_ok-depth.ensures) (omega arith);
 }
 
 pub token_of-requires : goal.token_of-requires
@@ -79,9 +79,9 @@ returns-in_err-phrase-clause-refused c =
 
 pub returns-clause-read : goal.returns-clause-read
 returns-clause-read c = record {
-  words = c.new.ensures.words ∙ (sym c.loop-lexeme.invariant.words ∙ words_all c.args.text.now c.args.lexemes.now c.loop-lexeme.lexeme-index (omega arith));
+  words = c.new-2.ensures.words ∙ (sym c.loop-lexeme.invariant.words ∙ words_all c.args.text.now c.args.lexemes.now c.loop-lexeme.lexeme-index (omega arith));
   derived =
-      subst (λ (p : Phrase). Derives (tokens_in c.args.text.now c.args.lexemes.now) p) (sym c.new.ensures.phrase)
+      subst (λ (p : Phrase). Derives (tokens_in c.args.text.now c.args.lexemes.now) p) (sym c.new-2.ensures.phrase)
       (all_derived c.begins_law.ensures c.parses_law.ensures c.args.text.now c.args.lexemes.now c.requires c.loop-lexeme.lexeme-index c.loop-lexeme.depth (stack_of c.loop-lexeme.stack.items)
       c.loop-lexeme.invariant.goes (omega arith) (view c.in_ok-phrase.phrase) c.in_ok-phrase.ensures);
   shallow =

@@ -1,31 +1,112 @@
 use Rattle.std.proofs.Common.{◌≡◌, ◌∙◌, ap, sym}
-use Rattle.oz_semantics.specs.Grammar.{Phrase, of_list, rec, equal, proc, local, when, choose, cases, cases_or, clause, body}
-use Rattle.oz_semantics.specs.Refusals.{faults, faults_each, head_faults, feature_faults, name_faults, variables_in, with_names, parameters, declaring}
+use Rattle.oz_semantics.specs.Grammar.{Phrase, of_list, rec, binary, select, connected, relate, head, proc, fun, local, choose, arm, cases, cases_or, clause, attempt, body}
+use Rattle.oz_semantics.specs.Refusals.{faults, faults_each, feature_faults, name_faults, variables_in, parameters_in, with_names, declaring}
 use Rattle.oz_syntax.specs.declared.phrase.Phrase.TheOpen.{Phrase-F}
 use Rattle.oz_syntax.specs.declared.phrase.Phrase.TheFolds.{fold-roll-Phrase}
 use Rattle.oz_syntax.specs.View.{view, views, view_step}
 use Rattle.oz_scope.proofs.Keeping.{two_kept, three_kept, each_step}
+use Rattle.oz_scope.proofs.Naming.{faults_head}
 use Rattle.oz_scope.proofs.checker.Checker.+phrases.Goals as goal
 
-pub parts-returns-in_ok-phrase-in-Equal-clause-found : goal.parts-returns-in_ok-phrase-in-Equal-clause-found
+pub parts-returns-in_ok-phrase-in-Binary-clause-found : goal.parts-returns-in_ok-phrase-in-Binary-clause-found
 unfolding Rattle.oz_syntax.specs.declared.phrase.Phrase.TheViews.roll-Phrase denote.Hole.Carrier.roll
-parts-returns-in_ok-phrase-in-Equal-clause-found t c =
-    let seen : view c.args.phrase.now ≡ equal (view c.deref-in-Equal.result.now) (view c.deref-in-Equal-2.result.now) =
-    rw (c.deref-in-Equal.ensures, c.deref-in-Equal-2.ensures) (ap view c.in-Equal.is ∙ fold-roll-Phrase Phrase view_step (Phrase-F.Equal c.in-Equal.left c.in-Equal.right)) in
+parts-returns-in_ok-phrase-in-Binary-clause-found t c =
+    let seen : view c.args.phrase.now ≡ binary c.in-Binary.operator (view c.deref-in-Binary.result.now) (view c.deref-in-Binary-2.result.now) =
+    rw (c.deref-in-Binary.ensures, c.deref-in-Binary-2.ensures) (ap view c.in-Binary.is ∙ fold-roll-Phrase Phrase view_step (Phrase-F.Binary c.in-Binary.operator c.in-Binary.left c.in-Binary.right)) in
     rw seen
-    (two_kept c.phrase-in-Equal-2.result (faults c.args.self.now.scope (view c.deref-in-Equal.result.now)) (faults c.args.self.now.scope (view c.deref-in-Equal-2.result.now))
-    c.args.self.now.found c.phrase-in-Equal.new.self.found c.phrase-in-Equal-2.new.self.found
-    c.in_ok-phrase-in-Equal.ensures.found (rw c.in_ok-phrase-in-Equal.ensures.scope at c.phrase-in-Equal-2.ensures.found))
+    (two_kept c.phrase-in-Binary-2.result (faults c.args.self.now.scope (view c.deref-in-Binary.result.now)) (faults c.args.self.now.scope (view c.deref-in-Binary-2.result.now))
+    c.args.self.now.found c.phrase-in-Binary.new.self.found c.phrase-in-Binary-2.new.self.found
+    c.in_ok-phrase-in-Binary.ensures.found (rw c.in_ok-phrase-in-Binary.ensures.scope at c.phrase-in-Binary-2.ensures.found))
 
-pub parts-returns-in_ok-phrase-in-When-clause-found : goal.parts-returns-in_ok-phrase-in-When-clause-found
+pub parts-returns-in_ok-phrase-in-Select-clause-found : goal.parts-returns-in_ok-phrase-in-Select-clause-found
 unfolding Rattle.oz_syntax.specs.declared.phrase.Phrase.TheViews.roll-Phrase denote.Hole.Carrier.roll
-parts-returns-in_ok-phrase-in-When-clause-found t c =
-    let seen : view c.args.phrase.now ≡ when (view c.deref-in-When.result.now) (view c.deref-in-When-2.result.now) =
-    rw (c.deref-in-When.ensures, c.deref-in-When-2.ensures) (ap view c.in-When.is ∙ fold-roll-Phrase Phrase view_step (Phrase-F.When c.in-When.condition c.in-When.body)) in
+parts-returns-in_ok-phrase-in-Select-clause-found t c =
+    let seen : view c.args.phrase.now ≡ select (view c.deref-in-Select.result.now) (view c.deref-in-Select-2.result.now) =
+    rw (c.deref-in-Select.ensures, c.deref-in-Select-2.ensures) (ap view c.in-Select.is ∙ fold-roll-Phrase Phrase view_step (Phrase-F.Select c.in-Select.record c.in-Select.feature)) in
     rw seen
-    (two_kept c.phrase-in-When-2.result (faults c.args.self.now.scope (view c.deref-in-When.result.now)) (faults c.args.self.now.scope (view c.deref-in-When-2.result.now))
-    c.args.self.now.found c.phrase-in-When.new.self.found c.phrase-in-When-2.new.self.found
-    c.in_ok-phrase-in-When.ensures.found (rw c.in_ok-phrase-in-When.ensures.scope at c.phrase-in-When-2.ensures.found))
+    (two_kept c.phrase-in-Select-2.result (faults c.args.self.now.scope (view c.deref-in-Select.result.now)) (faults c.args.self.now.scope (view c.deref-in-Select-2.result.now))
+    c.args.self.now.found c.phrase-in-Select.new.self.found c.phrase-in-Select-2.new.self.found
+    c.in_ok-phrase-in-Select.ensures.found (rw c.in_ok-phrase-in-Select.ensures.scope at c.phrase-in-Select-2.ensures.found))
+
+pub parts-returns-in_ok-phrase-in-Connected-clause-found : goal.parts-returns-in_ok-phrase-in-Connected-clause-found
+unfolding Rattle.oz_syntax.specs.declared.phrase.Phrase.TheViews.roll-Phrase denote.Hole.Carrier.roll
+parts-returns-in_ok-phrase-in-Connected-clause-found t c =
+    let seen : view c.args.phrase.now ≡ connected c.in-Connected.connective (view c.deref-in-Connected.result.now) (view c.deref-in-Connected-2.result.now) =
+    rw (c.deref-in-Connected.ensures, c.deref-in-Connected-2.ensures) (ap view c.in-Connected.is ∙ fold-roll-Phrase Phrase view_step (Phrase-F.Connected c.in-Connected.connective c.in-Connected.left c.in-Connected.right)) in
+    rw seen
+    (two_kept c.phrase-in-Connected-2.result (faults c.args.self.now.scope (view c.deref-in-Connected.result.now)) (faults c.args.self.now.scope (view c.deref-in-Connected-2.result.now))
+    c.args.self.now.found c.phrase-in-Connected.new.self.found c.phrase-in-Connected-2.new.self.found
+    c.in_ok-phrase-in-Connected.ensures.found (rw c.in_ok-phrase-in-Connected.ensures.scope at c.phrase-in-Connected-2.ensures.found))
+
+pub parts-returns-in_ok-phrase-in-Relate-clause-found : goal.parts-returns-in_ok-phrase-in-Relate-clause-found
+unfolding Rattle.oz_syntax.specs.declared.phrase.Phrase.TheViews.roll-Phrase denote.Hole.Carrier.roll
+parts-returns-in_ok-phrase-in-Relate-clause-found t c =
+    let seen : view c.args.phrase.now ≡ relate c.in-Relate.comparison (view c.deref-in-Relate.result.now) (view c.deref-in-Relate-2.result.now) =
+    rw (c.deref-in-Relate.ensures, c.deref-in-Relate-2.ensures) (ap view c.in-Relate.is ∙ fold-roll-Phrase Phrase view_step (Phrase-F.Relate c.in-Relate.comparison c.in-Relate.left c.in-Relate.right)) in
+    rw seen
+    (two_kept c.phrase-in-Relate-2.result (faults c.args.self.now.scope (view c.deref-in-Relate.result.now)) (faults c.args.self.now.scope (view c.deref-in-Relate-2.result.now))
+    c.args.self.now.found c.phrase-in-Relate.new.self.found c.phrase-in-Relate-2.new.self.found
+    c.in_ok-phrase-in-Relate.ensures.found (rw c.in_ok-phrase-in-Relate.ensures.scope at c.phrase-in-Relate-2.ensures.found))
+
+pub parts-returns-in_ok-phrase-in-Arm-clause-found : goal.parts-returns-in_ok-phrase-in-Arm-clause-found
+unfolding Rattle.oz_syntax.specs.declared.phrase.Phrase.TheViews.roll-Phrase denote.Hole.Carrier.roll
+parts-returns-in_ok-phrase-in-Arm-clause-found t c =
+    let seen : view c.args.phrase.now ≡ arm (view c.deref-in-Arm.result.now) (view c.deref-in-Arm-2.result.now) =
+    rw (c.deref-in-Arm.ensures, c.deref-in-Arm-2.ensures) (ap view c.in-Arm.is ∙ fold-roll-Phrase Phrase view_step (Phrase-F.Arm c.in-Arm.condition c.in-Arm.body)) in
+    rw seen
+    (two_kept c.phrase-in-Arm-2.result (faults c.args.self.now.scope (view c.deref-in-Arm.result.now)) (faults c.args.self.now.scope (view c.deref-in-Arm-2.result.now))
+    c.args.self.now.found c.phrase-in-Arm.new.self.found c.phrase-in-Arm-2.new.self.found
+    c.in_ok-phrase-in-Arm.ensures.found (rw c.in_ok-phrase-in-Arm.ensures.scope at c.phrase-in-Arm-2.ensures.found))
+
+pub parts-returns-in_ok-phrase-in-Cases-clause-found : goal.parts-returns-in_ok-phrase-in-Cases-clause-found
+unfolding Rattle.oz_syntax.specs.declared.phrase.Phrase.TheViews.roll-Phrase denote.Hole.Carrier.roll
+parts-returns-in_ok-phrase-in-Cases-clause-found t c =
+    let seen : view c.args.phrase.now ≡ cases c.in-Cases.at (view c.deref-in-Cases.result.now) (of_list (views c.deref-in-Cases-2.result.now)) =
+    rw (c.deref-in-Cases.ensures, c.deref-in-Cases-2.ensures.value) (ap view c.in-Cases.is ∙ fold-roll-Phrase Phrase view_step (Phrase-F.Cases c.in-Cases.at c.in-Cases.subject c.in-Cases.clauses)) in
+    rw seen
+    (two_kept c.each-in-Cases.result (faults c.args.self.now.scope (view c.deref-in-Cases.result.now)) (faults_each c.args.self.now.scope (of_list (views c.deref-in-Cases-2.result.now)))
+    c.args.self.now.found c.phrase-in-Cases.new.self.found c.each-in-Cases.new.self.found
+    c.in_ok-phrase-in-Cases.ensures.found (rw c.in_ok-phrase-in-Cases.ensures.scope at c.each-in-Cases.ensures.found))
+
+pub parts-returns-in_ok-phrase-in-Try-clause-found : goal.parts-returns-in_ok-phrase-in-Try-clause-found
+unfolding Rattle.oz_syntax.specs.declared.phrase.Phrase.TheViews.roll-Phrase denote.Hole.Carrier.roll
+parts-returns-in_ok-phrase-in-Try-clause-found t c =
+    let seen : view c.args.phrase.now ≡ attempt (view c.deref-in-Try.result.now) (of_list (views c.deref-in-Try-2.result.now)) =
+    rw (c.deref-in-Try.ensures, c.deref-in-Try-2.ensures.value) (ap view c.in-Try.is ∙ fold-roll-Phrase Phrase view_step (Phrase-F.Try c.in-Try.body c.in-Try.clauses)) in
+    rw seen
+    (two_kept c.each-in-Try.result (faults c.args.self.now.scope (view c.deref-in-Try.result.now)) (faults_each c.args.self.now.scope (of_list (views c.deref-in-Try-2.result.now)))
+    c.args.self.now.found c.phrase-in-Try.new.self.found c.each-in-Try.new.self.found
+    c.in_ok-phrase-in-Try.ensures.found (rw c.in_ok-phrase-in-Try.ensures.scope at c.each-in-Try.ensures.found))
+
+pub parts-returns-in_ok-each-in-Choose-clause-found : goal.parts-returns-in_ok-each-in-Choose-clause-found
+unfolding Rattle.oz_syntax.specs.declared.phrase.Phrase.TheViews.roll-Phrase denote.Hole.Carrier.roll
+parts-returns-in_ok-each-in-Choose-clause-found t c =
+    let seen : view c.args.phrase.now ≡ choose c.in-Choose.at (of_list (views c.deref-in-Choose.result.now)) (view c.deref-in-Choose-2.result.now) =
+    rw (c.deref-in-Choose.ensures.value, c.deref-in-Choose-2.ensures) (ap view c.in-Choose.is ∙ fold-roll-Phrase Phrase view_step (Phrase-F.Choose c.in-Choose.at c.in-Choose.arms c.in-Choose.otherwise)) in
+    rw seen
+    (two_kept c.phrase-in-Choose.result (faults_each c.args.self.now.scope (of_list (views c.deref-in-Choose.result.now))) (faults c.args.self.now.scope (view c.deref-in-Choose-2.result.now))
+    c.args.self.now.found c.each-in-Choose.new.self.found c.phrase-in-Choose.new.self.found
+    c.in_ok-each-in-Choose.ensures.found (rw c.in_ok-each-in-Choose.ensures.scope at c.phrase-in-Choose.ensures.found))
+
+pub parts-returns-in_ok-declarations-in-Local-clause-found : goal.parts-returns-in_ok-declarations-in-Local-clause-found
+unfolding Rattle.oz_syntax.specs.declared.phrase.Phrase.TheViews.roll-Phrase denote.Hole.Carrier.roll
+parts-returns-in_ok-declarations-in-Local-clause-found t c =
+    let seen : view c.args.phrase.now ≡ local c.in-Local.at (of_list (views c.deref-in-Local.result.now)) (view c.deref-in-Local-2.result.now) =
+    rw (c.deref-in-Local.ensures.value, c.deref-in-Local-2.ensures) (ap view c.in-Local.is ∙ fold-roll-Phrase Phrase view_step (Phrase-F.Local c.in-Local.at c.in-Local.declarations c.in-Local.body)) in
+    rw seen
+    (two_kept c.phrase-in-Local.result (faults_each (declaring (of_list (views c.deref-in-Local.result.now)) c.args.self.now.scope) (of_list (views c.deref-in-Local.result.now))) (faults (declaring (of_list (views c.deref-in-Local.result.now)) c.args.self.now.scope) (view c.deref-in-Local-2.result.now))
+    c.args.self.now.found c.declarations.new.self.found c.phrase-in-Local.new.self.found
+    c.in_ok-declarations-in-Local.ensures.found (rw c.in_ok-declarations-in-Local.ensures.scope at c.phrase-in-Local.ensures.found))
+
+pub parts-returns-in_ok-declarations-in-Body-clause-found : goal.parts-returns-in_ok-declarations-in-Body-clause-found
+unfolding Rattle.oz_syntax.specs.declared.phrase.Phrase.TheViews.roll-Phrase denote.Hole.Carrier.roll
+parts-returns-in_ok-declarations-in-Body-clause-found t c =
+    let seen : view c.args.phrase.now ≡ body (of_list (views c.deref-in-Body.result.now)) (of_list (views c.deref-in-Body-2.result.now)) =
+    rw (c.deref-in-Body.ensures.value, c.deref-in-Body-2.ensures.value) (ap view c.in-Body.is ∙ fold-roll-Phrase Phrase view_step (Phrase-F.Body c.in-Body.declarations c.in-Body.phrases)) in
+    rw seen
+    (two_kept c.each-in-Body.result (faults_each (declaring (of_list (views c.deref-in-Body.result.now)) c.args.self.now.scope) (of_list (views c.deref-in-Body.result.now))) (faults_each (declaring (of_list (views c.deref-in-Body.result.now)) c.args.self.now.scope) (of_list (views c.deref-in-Body-2.result.now)))
+    c.args.self.now.found c.declarations-in-Body.new.self.found c.each-in-Body.new.self.found
+    c.in_ok-declarations-in-Body.ensures.found (rw c.in_ok-declarations-in-Body.ensures.scope at c.each-in-Body.ensures.found))
 
 pub parts-returns-in_ok-features-in-Record-clause-found : goal.parts-returns-in_ok-features-in-Record-clause-found
 unfolding Rattle.oz_syntax.specs.declared.phrase.Phrase.TheViews.roll-Phrase denote.Hole.Carrier.roll
@@ -38,65 +119,47 @@ parts-returns-in_ok-features-in-Record-clause-found t c =
     c.args.self.now.found c.features.new.self.found c.each.new.self.found
     c.in_ok-features-in-Record.ensures.found (rw (c.in_ok-features-in-Record.ensures.scope, again) at c.each.ensures.found))
 
-pub parts-returns-in_ok-head-in-Proc-clause-found : goal.parts-returns-in_ok-head-in-Proc-clause-found
+pub parts-returns-in-Head-clause-found : goal.parts-returns-in-Head-clause-found
 unfolding Rattle.oz_syntax.specs.declared.phrase.Phrase.TheViews.roll-Phrase denote.Hole.Carrier.roll
-parts-returns-in_ok-head-in-Proc-clause-found t c =
-    let seen : view c.args.phrase.now ≡ proc (of_list (views c.deref-in-Proc.result.now)) (view c.deref-in-Proc-2.result.now) =
-    rw (c.deref-in-Proc.ensures.value, c.deref-in-Proc-2.ensures) (ap view c.in-Proc.is ∙ fold-roll-Phrase Phrase view_step (Phrase-F.Proc c.in-Proc.head c.in-Proc.body)) in
-    rw seen
-    (two_kept c.phrase-in-Proc.result (head_faults c.args.self.now.scope (of_list (views c.deref-in-Proc.result.now))) (faults (parameters (of_list (views c.deref-in-Proc.result.now)) c.args.self.now.scope) (view c.deref-in-Proc-2.result.now))
-    c.args.self.now.found c.head.new.self.found c.phrase-in-Proc.new.self.found
-    c.in_ok-head-in-Proc.ensures.found (rw c.in_ok-head-in-Proc.ensures.scope at c.phrase-in-Proc.ensures.found))
+parts-returns-in-Head-clause-found t c =
+    let seen : view c.args.phrase.now ≡ head c.in-Head.at (of_list (views c.deref-in-Head.result.now)) =
+    rw c.deref-in-Head.ensures.value (ap view c.in-Head.is ∙ fold-roll-Phrase Phrase view_step (Phrase-F.Head c.in-Head.at c.in-Head.names)) in
+    rw (seen, faults_head c.args.self.now.scope c.in-Head.at (of_list (views c.deref-in-Head.result.now))) c.head.ensures.found
 
-pub parts-returns-in_ok-declarations-in-Local-clause-found : goal.parts-returns-in_ok-declarations-in-Local-clause-found
+pub parts-returns-in_ok-enter_parameters-in-Proc-clause-found : goal.parts-returns-in_ok-enter_parameters-in-Proc-clause-found
 unfolding Rattle.oz_syntax.specs.declared.phrase.Phrase.TheViews.roll-Phrase denote.Hole.Carrier.roll
-parts-returns-in_ok-declarations-in-Local-clause-found t c =
-    let seen : view c.args.phrase.now ≡ local (of_list (views c.deref-in-Local.result.now)) (view c.deref-in-Local-2.result.now) =
-    rw (c.deref-in-Local.ensures.value, c.deref-in-Local-2.ensures) (ap view c.in-Local.is ∙ fold-roll-Phrase Phrase view_step (Phrase-F.Local c.in-Local.declarations c.in-Local.body)) in
+parts-returns-in_ok-enter_parameters-in-Proc-clause-found t c =
+    let seen : view c.args.phrase.now ≡ proc c.in-Proc.at (view c.deref-in-Proc.result.now) (view c.deref-in-Proc-3.result.now) =
+    rw (c.deref-in-Proc.ensures, c.deref-in-Proc-3.ensures) (ap view c.in-Proc.is ∙ fold-roll-Phrase Phrase view_step (Phrase-F.Proc c.in-Proc.at c.in-Proc.head c.in-Proc.body)) in
+    let again : c.deref-in-Proc-2.result.now ≡ c.deref-in-Proc.result.now = c.deref-in-Proc-2.ensures ∙ sym c.deref-in-Proc.ensures in
     rw seen
-    (two_kept c.phrase-in-Local.result (faults_each (declaring (of_list (views c.deref-in-Local.result.now)) c.args.self.now.scope) (of_list (views c.deref-in-Local.result.now))) (faults (declaring (of_list (views c.deref-in-Local.result.now)) c.args.self.now.scope) (view c.deref-in-Local-2.result.now))
-    c.args.self.now.found c.declarations.new.self.found c.phrase-in-Local.new.self.found
-    c.in_ok-declarations-in-Local.ensures.found (rw c.in_ok-declarations-in-Local.ensures.scope at c.phrase-in-Local.ensures.found))
+    (two_kept c.phrase-in-Proc-2.result (faults c.args.self.now.scope (view c.deref-in-Proc.result.now)) (faults (with_names (parameters_in (view c.deref-in-Proc.result.now)) c.args.self.now.scope) (view c.deref-in-Proc-3.result.now))
+    c.args.self.now.found c.enter_parameters.new.self.found c.phrase-in-Proc-2.new.self.found
+    (c.in_ok-enter_parameters-in-Proc.ensures.found ∙ c.in_ok-phrase-in-Proc.ensures.found)
+    (rw (c.in_ok-enter_parameters-in-Proc.ensures.scope, c.in_ok-phrase-in-Proc.ensures.scope, again) at c.phrase-in-Proc-2.ensures.found))
 
-pub parts-returns-in_ok-declarations-in-Body-clause-found : goal.parts-returns-in_ok-declarations-in-Body-clause-found
+pub parts-returns-in_ok-enter_parameters-in-Fun-clause-found : goal.parts-returns-in_ok-enter_parameters-in-Fun-clause-found
 unfolding Rattle.oz_syntax.specs.declared.phrase.Phrase.TheViews.roll-Phrase denote.Hole.Carrier.roll
-parts-returns-in_ok-declarations-in-Body-clause-found t c =
-    let seen : view c.args.phrase.now ≡ body (of_list (views c.deref-in-Body.result.now)) (of_list (views c.deref-in-Body-2.result.now)) =
-    rw (c.deref-in-Body.ensures.value, c.deref-in-Body-2.ensures.value) (ap view c.in-Body.is ∙ fold-roll-Phrase Phrase view_step (Phrase-F.Body c.in-Body.declarations c.in-Body.statements)) in
+parts-returns-in_ok-enter_parameters-in-Fun-clause-found t c =
+    let seen : view c.args.phrase.now ≡ fun c.in-Fun.at c.in-Fun.lazy (view c.deref-in-Fun.result.now) (view c.deref-in-Fun-3.result.now) =
+    rw (c.deref-in-Fun.ensures, c.deref-in-Fun-3.ensures) (ap view c.in-Fun.is ∙ fold-roll-Phrase Phrase view_step (Phrase-F.Fun c.in-Fun.at c.in-Fun.lazy c.in-Fun.head c.in-Fun.body)) in
+    let again : c.deref-in-Fun-2.result.now ≡ c.deref-in-Fun.result.now = c.deref-in-Fun-2.ensures ∙ sym c.deref-in-Fun.ensures in
     rw seen
-    (two_kept c.each-in-Body.result (faults_each (declaring (of_list (views c.deref-in-Body.result.now)) c.args.self.now.scope) (of_list (views c.deref-in-Body.result.now))) (faults_each (declaring (of_list (views c.deref-in-Body.result.now)) c.args.self.now.scope) (of_list (views c.deref-in-Body-2.result.now)))
-    c.args.self.now.found c.declarations-in-Body.new.self.found c.each-in-Body.new.self.found
-    c.in_ok-declarations-in-Body.ensures.found (rw c.in_ok-declarations-in-Body.ensures.scope at c.each-in-Body.ensures.found))
-
-pub parts-returns-in_ok-phrase-in-Cases-clause-found : goal.parts-returns-in_ok-phrase-in-Cases-clause-found
-unfolding Rattle.oz_syntax.specs.declared.phrase.Phrase.TheViews.roll-Phrase denote.Hole.Carrier.roll
-parts-returns-in_ok-phrase-in-Cases-clause-found t c =
-    let seen : view c.args.phrase.now ≡ cases (view c.deref-in-Cases.result.now) (of_list (views c.deref-in-Cases-2.result.now)) =
-    rw (c.deref-in-Cases.ensures, c.deref-in-Cases-2.ensures.value) (ap view c.in-Cases.is ∙ fold-roll-Phrase Phrase view_step (Phrase-F.Cases c.in-Cases.subject c.in-Cases.clauses)) in
-    rw seen
-    (two_kept c.each-in-Cases.result (faults c.args.self.now.scope (view c.deref-in-Cases.result.now)) (faults_each c.args.self.now.scope (of_list (views c.deref-in-Cases-2.result.now)))
-    c.args.self.now.found c.phrase-in-Cases.new.self.found c.each-in-Cases.new.self.found
-    c.in_ok-phrase-in-Cases.ensures.found (rw c.in_ok-phrase-in-Cases.ensures.scope at c.each-in-Cases.ensures.found))
+    (two_kept c.phrase-in-Fun-2.result (faults c.args.self.now.scope (view c.deref-in-Fun.result.now)) (faults (with_names (parameters_in (view c.deref-in-Fun.result.now)) c.args.self.now.scope) (view c.deref-in-Fun-3.result.now))
+    c.args.self.now.found c.enter_parameters-in-Fun.new.self.found c.phrase-in-Fun-2.new.self.found
+    (c.in_ok-enter_parameters-in-Fun.ensures.found ∙ c.in_ok-phrase-in-Fun.ensures.found)
+    (rw (c.in_ok-enter_parameters-in-Fun.ensures.scope, c.in_ok-phrase-in-Fun.ensures.scope, again) at c.phrase-in-Fun-2.ensures.found))
 
 pub parts-returns-in_ok-each-in-CasesOr-clause-found : goal.parts-returns-in_ok-each-in-CasesOr-clause-found
 unfolding Rattle.oz_syntax.specs.declared.phrase.Phrase.TheViews.roll-Phrase denote.Hole.Carrier.roll
 parts-returns-in_ok-each-in-CasesOr-clause-found t c =
-    let seen : view c.args.phrase.now ≡ cases_or (view c.deref-in-CasesOr.result.now) (of_list (views c.deref-in-CasesOr-2.result.now)) (view c.deref-in-CasesOr-3.result.now) =
-    rw (c.deref-in-CasesOr.ensures, c.deref-in-CasesOr-2.ensures.value, c.deref-in-CasesOr-3.ensures) (ap view c.in-CasesOr.is ∙ fold-roll-Phrase Phrase view_step (Phrase-F.CasesOr c.in-CasesOr.subject c.in-CasesOr.clauses c.in-CasesOr.otherwise)) in
+    let seen : view c.args.phrase.now ≡ cases_or c.in-CasesOr.at (view c.deref-in-CasesOr.result.now) (of_list (views c.deref-in-CasesOr-2.result.now)) (view c.deref-in-CasesOr-3.result.now) =
+    rw (c.deref-in-CasesOr.ensures, c.deref-in-CasesOr-2.ensures.value, c.deref-in-CasesOr-3.ensures) (ap view c.in-CasesOr.is ∙ fold-roll-Phrase Phrase view_step (Phrase-F.CasesOr c.in-CasesOr.at c.in-CasesOr.subject c.in-CasesOr.clauses c.in-CasesOr.otherwise)) in
     rw seen
     (three_kept c.phrase-in-CasesOr-2.result (faults c.args.self.now.scope (view c.deref-in-CasesOr.result.now)) (faults_each c.args.self.now.scope (of_list (views c.deref-in-CasesOr-2.result.now))) (faults c.args.self.now.scope (view c.deref-in-CasesOr-3.result.now))
     c.args.self.now.found c.phrase-in-CasesOr.new.self.found c.each-in-CasesOr.new.self.found c.phrase-in-CasesOr-2.new.self.found
-    c.in_ok-phrase-in-CasesOr.ensures.found (rw c.in_ok-phrase-in-CasesOr.ensures.scope at c.in_ok-each-in-CasesOr.ensures.found) (rw (c.in_ok-each-in-CasesOr.ensures.scope, c.in_ok-phrase-in-CasesOr.ensures.scope) at c.phrase-in-CasesOr-2.ensures.found))
-
-pub parts-returns-in_ok-phrase-in-Choose-2-clause-found : goal.parts-returns-in_ok-phrase-in-Choose-2-clause-found
-unfolding Rattle.oz_syntax.specs.declared.phrase.Phrase.TheViews.roll-Phrase denote.Hole.Carrier.roll
-parts-returns-in_ok-phrase-in-Choose-2-clause-found t c =
-    let seen : view c.args.phrase.now ≡ choose (view c.deref-in-Choose.result.now) (view c.deref-in-Choose-2.result.now) (view c.deref-in-Choose-3.result.now) =
-    rw (c.deref-in-Choose.ensures, c.deref-in-Choose-2.ensures, c.deref-in-Choose-3.ensures) (ap view c.in-Choose.is ∙ fold-roll-Phrase Phrase view_step (Phrase-F.Choose c.in-Choose.condition c.in-Choose.body c.in-Choose.otherwise)) in
-    rw seen
-    (three_kept c.phrase-in-Choose-3.result (faults c.args.self.now.scope (view c.deref-in-Choose.result.now)) (faults c.args.self.now.scope (view c.deref-in-Choose-2.result.now)) (faults c.args.self.now.scope (view c.deref-in-Choose-3.result.now))
-    c.args.self.now.found c.phrase-in-Choose.new.self.found c.phrase-in-Choose-2.new.self.found c.phrase-in-Choose-3.new.self.found
-    c.in_ok-phrase-in-Choose.ensures.found (rw c.in_ok-phrase-in-Choose.ensures.scope at c.in_ok-phrase-in-Choose-2.ensures.found) (rw (c.in_ok-phrase-in-Choose-2.ensures.scope, c.in_ok-phrase-in-Choose.ensures.scope) at c.phrase-in-Choose-3.ensures.found))
+    c.in_ok-phrase-in-CasesOr.ensures.found (rw c.in_ok-phrase-in-CasesOr.ensures.scope at c.in_ok-each-in-CasesOr.ensures.found)
+    (rw (c.in_ok-each-in-CasesOr.ensures.scope, c.in_ok-phrase-in-CasesOr.ensures.scope) at c.phrase-in-CasesOr-2.ensures.found))
 
 pub parts-returns-in_ok-phrase-in-Clause-clause-found : goal.parts-returns-in_ok-phrase-in-Clause-clause-found
 unfolding Rattle.oz_syntax.specs.declared.phrase.Phrase.TheViews.roll-Phrase denote.Hole.Carrier.roll
@@ -107,7 +170,8 @@ parts-returns-in_ok-phrase-in-Clause-clause-found t c =
     rw seen
     (three_kept c.phrase-in-Clause-2.result (name_faults (variables_in (view c.deref-in-Clause.result.now))) (faults (with_names (variables_in (view c.deref-in-Clause.result.now)) c.args.self.now.scope) (view c.deref-in-Clause.result.now)) (faults (with_names (variables_in (view c.deref-in-Clause.result.now)) c.args.self.now.scope) (view c.deref-in-Clause-3.result.now))
     c.args.self.now.found c.pattern.new.self.found c.phrase-in-Clause.new.self.found c.phrase-in-Clause-2.new.self.found
-    c.in_ok-pattern-in-Clause.ensures.found (rw (c.in_ok-pattern-in-Clause.ensures.scope, again) at c.in_ok-phrase-in-Clause.ensures.found) (rw (c.in_ok-phrase-in-Clause.ensures.scope, c.in_ok-pattern-in-Clause.ensures.scope) at c.phrase-in-Clause-2.ensures.found))
+    c.in_ok-pattern-in-Clause.ensures.found (rw (c.in_ok-pattern-in-Clause.ensures.scope, again) at c.in_ok-phrase-in-Clause.ensures.found)
+    (rw (c.in_ok-phrase-in-Clause.ensures.scope, c.in_ok-pattern-in-Clause.ensures.scope) at c.phrase-in-Clause-2.ensures.found))
 
 pub each-phrases-preserved : goal.each-phrases-preserved
 each-phrases-preserved t c = (

@@ -1,15 +1,27 @@
-use Rattle.std.proofs.Common.{◌∙◌, ◌++◌, ◌∷◌, Some, codes, ap, refl}
+use Rattle.std.proofs.Common.{◌∙◌, ◌++◌, ap, refl}
+use Rattle.oz_semantics.specs.Texts.{form_of}
+use Rattle.term_text.specs.Operands.{opening, keyed}
 use Rattle.term_text.specs.Pending.{after_node}
 use Rattle.term_text.proofs.Printing.{opens}
 use Rattle.term_text.proofs.printer.Printer.open_record.Goals as goal
 
 pub returns-clause-written : goal.returns-clause-written
-returns-clause-written c view =
-    opens c.next_field.result c.args.words.now view c.args.self.now.opened
-    (record { variable = c.args.variable; features = c.as_slice.result; fields = c.as_slice-2.result; next = 1; bound = c.args.bound })
-    c.args.record.now c.args.self.now.bytes.items c.push.new.self.items c.next_field.new.self.bytes.items (after_node c.args.words.now view c.next_field.new.self.opened)
-    (c.in_ok-push.ensures.items ∙ ap (λ bs. bs ++ codes "(") (c.in_ok-extend_from_slice.ensures.items ∙ ap (λ bs. c.args.self.now.bytes.items ++ bs) c.literal_text.ensures))
-    refl c.as_slice.ensures c.as_slice-2.ensures (c.next_field.ensures.written view)
-
-pub returns-clause-placed : goal.returns-clause-placed
-returns-clause-placed c view h place = c.next_field.ensures.placed view (rw (place, c.in_ok-push-2.ensures) (ap (λ ps. Some c.args.place ∷ ps) h))
+returns-clause-written c =
+    let words = c.args.words.now in
+    let v = c.args.record.now in
+    let form = c.form_of-form.ensures ∙ ap (λ fs. form_of words v.label fs) c.as_slice-features.ensures in
+    opens c.next_field.result words c.args.seen.now c.args.self.now.opened
+    (record {
+      variable = c.args.term.now.variable;
+      form = c.form_of-form.result;
+      owed = c.args.term.now.owed;
+      features = c.keyed.result;
+      fields = c.as_slice.result;
+      next = 1;
+      bound = c.args.term.now.bound;
+    })
+    c.args.term.now v c.args.self.now.bytes.items c.add_opening.new.out.items c.next_field.new.self.bytes.items (after_node words c.args.seen.now c.next_field.new.self.opened)
+    (c.in_ok-add_opening.ensures ∙ ap (λ g. c.args.self.now.bytes.items ++ opening words g v.label) form)
+    refl form refl refl refl
+    (c.keyed.ensures ∙ ap (λ fs. keyed c.form_of-form.result fs) c.as_slice-features.ensures ∙ ap (λ g. keyed g v.features) form)
+    c.as_slice.ensures c.next_field.ensures.written

@@ -1,0 +1,8 @@
+use Rattle.std.proofs.Common.{◌≡◌, ◌++◌, drop, map, codes}
+use Rattle.oz_semantics.specs.Texts.{gapped}
+use Rattle.oz_semantics.specs.KernelTexts.{linear_text}
+use Rattle.kernel_form.proofs.sums.add_further_terms.Given as goal
+
+abbrev pub invariant-terms : goal.invariant-terms
+invariant-terms l =
+    l.out.items ++ gapped (codes " ") (map (linear_text l.words) (drop l.term-index l.terms)) ≡ l.initial.out.items ++ gapped (codes " ") (map (linear_text l.words) l.terms)

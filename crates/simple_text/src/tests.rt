@@ -1,0 +1,65 @@
+use crate::{add_key, add_simple, form_of};
+use oz_base::Sequence;
+use oz_semantics::{Constant, Form, Literal};
+use std::alloc::{AllocError, Global};
+use std::test::Fail;
+
+/// This text as the only word.
+fn one_word(alloc: Global, text: &[u8]) -> Result<Vec<Sequence<u8>>, AllocError> {
+    Ok(vec![in alloc; Sequence::from_vec(text.to_vec(alloc)?)]?)
+}
+
+/// Whether the atom of this text is written so.
+fn is_written(alloc: Global, text: &[u8], written: &[u8]) -> Result<bool, AllocError> {
+    let words = one_word(alloc, text)?;
+    let mut out = Vec::new(alloc);
+    let atom = Constant::Literal(Literal::Atom(0));
+    add_simple(alloc, words.as_slice(), atom, &mut out)?;
+    Ok(out.as_slice() == written)
+}
+
+#[test]
+fn atoms_with_and_without_quotes(rt: HostRuntime) -> Result<(), Fail> {
+    let alloc = rt.alloc();
+    assert!(rt; is_written(alloc, b"aB_1", b"aB_1")?);
+    assert!(rt; is_written(alloc, b"If", b"'If'")?);
+    assert!(rt; is_written(alloc, b"if", b"'if'")?);
+    assert!(rt; is_written(alloc, b"unit", b"'unit'")?);
+    assert!(rt; is_written(alloc, b"", b"''")?);
+    assert!(rt; is_written(alloc, b"fail", b"fail")?);
+    Ok(())
+}
+
+#[test]
+fn escapes_in_quotes(rt: HostRuntime) -> Result<(), Fail> {
+    let alloc = rt.alloc();
+    assert!(rt; is_written(alloc, b"it's \\\t\n.", b"'it\\'s \\\\\\t\\n.'")?);
+    Ok(())
+}
+
+#[test]
+fn the_key_of_the_atom_fail(rt: HostRuntime) -> Result<(), Fail> {
+    let alloc = rt.alloc();
+    let words = one_word(alloc, b"fail")?;
+    let mut out = Vec::new(alloc);
+    let atom = Constant::Literal(Literal::Atom(0));
+    let next = add_key(alloc, words.as_slice(), atom, 3, &mut out)?;
+    assert!(rt; next == 3);
+    assert!(rt; out.as_slice() == b"'fail':".as_slice());
+    Ok(())
+}
+
+#[test]
+fn forms_of_records(rt: HostRuntime) -> Result<(), Fail> {
+    let alloc = rt.alloc();
+    let features = [Constant::Int(1), Constant::Int(2), Constant::Int(3)];
+    let bar = one_word(alloc, b"|")?;
+    let hash = one_word(alloc, b"#")?;
+    let label = Literal::Atom(0);
+    assert!(rt; form_of(bar.as_slice(), label, &features[..2]) == Form::Bars);
+    assert!(rt; form_of(bar.as_slice(), label, &features) == Form::Other);
+    assert!(rt; form_of(hash.as_slice(), label, &features) == Form::Hashes);
+    assert!(rt; form_of(hash.as_slice(), label, &features[..1]) == Form::Other);
+    assert!(rt; form_of(hash.as_slice(), label, &features[1..]) == Form::Other);
+    Ok(())
+}

@@ -1,0 +1,9 @@
+% The greater of two numbers. No program may run with `>` and `+` yet, but kernel writes what they become.
+proc {Script Result}
+   fun {Greater X Y}
+      if X>Y then X else Y end
+   end
+in
+   Result={Greater 1+2 4}
+end
+{Show ready}
