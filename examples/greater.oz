@@ -1,4 +1,4 @@
-% The greater of two numbers. No program may run with `>` and `+` yet, but kernel writes what they become.
+% The greater of two numbers.
 proc {Script Result}
    fun {Greater X Y}
       if X>Y then X else Y end

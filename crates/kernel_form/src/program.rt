@@ -12,9 +12,8 @@ use oz_base::{Sequence, Stack};
 use oz_semantics::Kernel;
 use std::alloc::{AllocError, Global};
 
-/// The text of a kernel program: a line for each statement of the program itself. It refuses where there is no memory, and where
-/// the statements are no numbered program: a number that is out of range, a statement that stands in more than one body, or a
-/// record with more fields than features.
+/// The text of a kernel program: a line for each statement of the program itself. It refuses where there is no memory. Of
+/// statements that are no numbered program nothing is said; it may refuse them too.
 ///
 /// The time goes with the length of the text. The depth of statements and of patterns takes memory, but no stack.
 pub fn kernel_text(alloc: Global, kernel: &Kernel) -> Result<Sequence<u8>, AllocError>

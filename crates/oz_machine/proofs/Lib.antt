@@ -2,9 +2,11 @@ mod Firsts
 mod Edits
 mod Sights
 mod Readies
+mod Held
 mod PlanLaws
 mod StateLaws
 mod RunLaws
 mod TurnLaws
 mod TextLaws
 mod Quiet
+mod KeptLaws

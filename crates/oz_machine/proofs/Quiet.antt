@@ -3,13 +3,13 @@ use Rattle.std.proofs.Common.{◌≡◌, ℕ, Bool, false, if◌then◌else◌, 
 use Rattle.std.specs.List.{flat_map}
 use Rattle.std.proofs.Math.Seq.{map-set_same}
 use Rattle.std.proofs.lemmas.Bool.{false≢true}
-use Rattle.std.proofs.lemmas.List.{set-get_or}
+use Rattle.std.proofs.lemmas.List.{append-nil, set-get_or}
 use Rattle.oz_semantics.specs.Names.{is_below}
 use Rattle.oz_semantics.specs.Configurations.{view, with_frames, without_gone}
 use Rattle.oz_semantics.specs.declared.configuration.Tell.{Tell}
 use Rattle.oz_semantics.specs.declared.configuration.Layer.{Layer}
 use Rattle.oz_machine.specs.Places.{IsFirst}
-use Rattle.oz_machine.specs.Moves.{rest_of, moved, is_telling}
+use Rattle.oz_machine.specs.Moves.{rest_of, moved, is_telling, tells_of}
 use Rattle.oz_machine.specs.Views.{views_of}
 use Rattle.oz_machine.specs.declared.moves.Move.{Move}
 use Rattle.oz_machine.specs.declared.moves.Move.TheVariants as move
@@ -49,11 +49,25 @@ pub views_kept : (layers : List Layer) (views : List (List Tell)) → views ≡ 
     → (m : Layer) → outline m ≡ outline l → views ≡ views_of (slice_set layers place m)
 views_kept layers views e {test} {place} {l} h m o = e ∙ sym (same_views (slice_set layers place m) layers (map-set_same outline layers place m l (o ∙ ap outline (sym h.item))))
 
--- a move that tells nothing keeps what views depend on
-pub quiet_keeps : (number : ℕ) (m : Move) (l : Layer) → is_telling m ≡ false → outline (without_gone (moved number m (with_frames number rest_of l))) ≡ outline l
-quiet_keeps number move.Stays l e = refl
-quiet_keeps number (move.Enters environment body) l e = refl
-quiet_keeps number (move.Opens fresh environment body) l e = refl
-quiet_keeps number (move.Fails raise) l e = refl
-quiet_keeps number (move.Tells t) l e = absurd (false≢true (sym e))
-quiet_keeps number (move.Makes t) l e = absurd (false≢true (sym e))
+nothing_more : (l : Layer) → outline l ≡ (l.space, l.tells ++ [])
+nothing_more l = ap (λ (ts : List Tell). (l.space, ts)) (sym (append-nil l.tells))
+
+-- what views depend on, after a move
+pub moved_outline : (number : ℕ) (m : Move) (l : Layer) → outline (without_gone (moved number m (with_frames number rest_of l))) ≡ (l.space, l.tells ++ tells_of m)
+moved_outline number move.Stays l = nothing_more l
+moved_outline number (move.Enters environment body) l = nothing_more l
+moved_outline number (move.Opens fresh environment body) l = nothing_more l
+moved_outline number (move.Fails raise) l = nothing_more l
+moved_outline number (move.Tells t) l = refl
+moved_outline number (move.Makes t) l = refl
+moved_outline number (move.TellsAll fresh ts) l = refl
+
+-- a move that tells nothing
+pub quiet_tells : (m : Move) → is_telling m ≡ false → tells_of m ≡ []
+quiet_tells move.Stays e = refl
+quiet_tells (move.Enters environment body) e = refl
+quiet_tells (move.Opens fresh environment body) e = refl
+quiet_tells (move.Fails raise) e = refl
+quiet_tells (move.Tells t) e = absurd (false≢true (sym e))
+quiet_tells (move.Makes t) e = absurd (false≢true (sym e))
+quiet_tells (move.TellsAll fresh ts) e = absurd (false≢true (sym e))

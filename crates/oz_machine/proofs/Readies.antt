@@ -1,17 +1,22 @@
 -- What a call waits for, by whether its procedure is determined; and offers, in which what is seen has no part.
-use Rattle.std.proofs.Common.{◌≡◌, ℕ, ◌&&◌, Bool, true, false, not, List, [], ◌∷◌, Option, Some, None, refl, sym, ap, ◌∙◌, if◌then◌else◌}
+use Rattle.std.proofs.Common.{◌≡◌, ℕ, ◌&&◌, Bool, true, false, not, List, [], ◌∷◌, map, Option, Some, None, refl, sym, ap, ◌∙◌, if◌then◌else◌}
 use Rattle.std.specs.Prelude.{is_some}
 use Rattle.std.specs.List.{list_any, filter_map}
 use Rattle.oz_base.specs.Lists.{first, edit_first}
 use Rattle.oz_base.specs.declared.names.Ident.{Ident}
-use Rattle.oz_semantics.specs.Store.{same, is_determined}
+use Rattle.oz_semantics.specs.Store.{same, value_of, is_determined}
 use Rattle.oz_semantics.specs.Matching.{Match, Matches, Differs, MatchWaits}
-use Rattle.oz_semantics.specs.Configurations.{view}
-use Rattle.oz_semantics.specs.Statements.{Steps, Waits, awaits, match_ready, statement_ready, code_ready, top_ready, thread_ready, steps, waits_of, offer_of}
+use Rattle.oz_semantics.specs.Configurations.{view, bound}
+use Rattle.oz_semantics.specs.Builtins.{Answer, Gives, GivesField, GivesList, Awaits, Refuses}
+use Rattle.oz_semantics.specs.Statements.{Steps, Waits, awaits, match_ready, answer_ready, builtin_ready, call_ready, statement_ready, code_ready, top_ready, thread_ready, steps, waits_of, offer_of}
 use Rattle.oz_semantics.specs.Spaces.{is_held, chosen, offers, committing, offer_in}
 use Rattle.oz_semantics.specs.declared.kernel.Statement.{Statement}
 use Rattle.oz_semantics.specs.declared.kernel.Statement.TheVariants.{Skip, Fail, Local, Equate, Bind, BindRecord, BindProcedure, Call, Choice, If, Case, NoMatch, Apply, Thread, Try, Raise, Post, PostTimes}
 use Rattle.oz_semantics.specs.declared.configuration.Binding.{Binding}
+use Rattle.oz_semantics.specs.declared.configuration.Builtin.{Builtin}
+use Rattle.oz_semantics.specs.declared.configuration.Builtin.TheVariants as builtin
+use Rattle.oz_semantics.specs.declared.configuration.Value.{Value}
+use Rattle.oz_semantics.specs.declared.configuration.Value.TheVariants as value
 use Rattle.oz_semantics.specs.declared.configuration.Code.{Code}
 use Rattle.oz_semantics.specs.declared.configuration.Code.TheVariants as code
 use Rattle.oz_semantics.specs.declared.configuration.Frame.{Frame}
@@ -45,8 +50,34 @@ match_offers (Matches environment) = refl
 match_offers Differs = refl
 match_offers (MatchWaits x) = refl
 
+-- nor does a call
+answer_offers : (a : Answer) → offer_of (answer_ready a) ≡ None
+answer_offers (Gives v) = refl
+answer_offers (GivesField x) = refl
+answer_offers (GivesList cs) = refl
+answer_offers (Awaits xs) = refl
+answer_offers (Refuses raise) = refl
+
+pub builtin_offers : (view : List Tell) (b : Builtin) (arguments : List Ident) → offer_of (builtin_ready view b arguments) ≡ None
+builtin_offers view (builtin.Operation op) arguments = answer_offers _
+builtin_offers view builtin.Label arguments = answer_offers _
+builtin_offers view builtin.Width arguments = answer_offers _
+builtin_offers view builtin.Arity arguments = answer_offers _
+builtin_offers view builtin.Show arguments = refl
+
+pub call_offers : (view : List Tell) (procedure : Ident) (v : Option Value) (arguments : List Ident) → offer_of (call_ready view procedure v arguments) ≡ None
+call_offers view procedure None arguments = refl
+call_offers view procedure (Some (value.Builtin b)) arguments = builtin_offers view b arguments
+call_offers view procedure (Some (value.Constant c)) arguments = refl
+call_offers view procedure (Some (value.Record r)) arguments = refl
+call_offers view procedure (Some (value.Procedure q)) arguments = refl
+
+called_anywhere : (view : List Tell) (procedure : Ident) (arguments : List Ident)
+    → offer_of (call_ready view procedure (value_of view procedure) arguments) ≡ offer_of (call_ready [] procedure (value_of [] procedure) arguments)
+called_anywhere view procedure arguments = call_offers view procedure (value_of view procedure) arguments ∙ sym (call_offers [] procedure (value_of [] procedure) arguments)
+
 offer_of_statement : (view : List Tell) (environment : List Binding) (s : Option Statement) → offer_of (statement_ready view environment s) ≡ offer_of (statement_ready [] environment s)
-offer_of_statement view environment (Some (Call procedure arguments)) = no_offer (is_determined view _) _
+offer_of_statement view environment (Some (Call procedure arguments)) = called_anywhere view (bound environment procedure) (map (bound environment) arguments)
 offer_of_statement view environment (Some Skip) = refl
 offer_of_statement view environment (Some Fail) = refl
 offer_of_statement view environment (Some (Local names body)) = refl
@@ -58,7 +89,8 @@ offer_of_statement view environment (Some (Choice alternatives)) = refl
 offer_of_statement view environment (Some (If condition accepted otherwise)) = no_offer (is_determined view _) _
 offer_of_statement view environment (Some (Case subject pattern accepted otherwise)) = match_offers _ ∙ sym (match_offers _)
 offer_of_statement view environment (Some NoMatch) = refl
-offer_of_statement view environment (Some (Apply operation arguments)) = refl
+offer_of_statement view environment (Some (Apply operation arguments)) =
+    builtin_offers view (builtin.Operation operation) (map (bound environment) arguments) ∙ sym (builtin_offers [] (builtin.Operation operation) (map (bound environment) arguments))
 offer_of_statement view environment (Some (Thread body)) = refl
 offer_of_statement view environment (Some (Try body exception handler)) = refl
 offer_of_statement view environment (Some (Raise name)) = refl
@@ -68,7 +100,7 @@ offer_of_statement view environment None = refl
 
 offer_of_code : (statements : List Statement) (view : List Tell) (environment : List Binding) (k : Code) → offer_of (code_ready statements view environment k) ≡ offer_of (code_ready statements [] environment k)
 offer_of_code statements view environment (code.Statement n) = offer_of_statement view environment _
-offer_of_code statements view environment (code.Apply procedure argument) = no_offer (is_determined view procedure) _
+offer_of_code statements view environment (code.Apply procedure argument) = called_anywhere view procedure (argument ∷ [])
 
 offer_of_top : (statements : List Statement) (view : List Tell) (top : Option Frame) → offer_of (top_ready statements view top) ≡ offer_of (top_ready statements [] top)
 offer_of_top statements view (Some frame) = offer_of_code statements view frame.environment frame.code

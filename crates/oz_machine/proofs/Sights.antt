@@ -1,15 +1,17 @@
 -- Layers beside their views.
-use Rattle.std.proofs.Common.{◌≡◌, ℕ, ◌<◌, ◌||◌, Bool, true, false, cond, List, [], ◌∷◌, ◌++◌, map, filter, length, get_or, slice_index_or, refl, sym, ap, ◌∙◌, arith, inl, inr, ◌⊎◌}
+use Rattle.std.proofs.Common.{◌≡◌, ℕ, ◌<◌, ◌&&◌, ◌||◌, Bool, true, false, cond, List, [], ◌∷◌, ◌++◌, map, filter, length, get_or, slice_index_or, refl, sym, ap, ◌∙◌, arith, inl, inr, ◌⊎◌}
 use Rattle.std.proofs.lemmas.List.{append-nil, get_or-map}
 use Rattle.std.specs.List.{list_any, flat_map, fold, zip}
 use Rattle.oz_base.specs.declared.names.Ident.{Ident}
+use Rattle.oz_semantics.specs.Names.{is_below}
 use Rattle.oz_semantics.specs.Configurations.{view}
+use Rattle.oz_semantics.specs.Spaces.{goes_on}
 use Rattle.oz_semantics.specs.Schedule.{is_broken, broken_spaces, failing, without_broken, able_in, able}
 use Rattle.oz_semantics.specs.declared.kernel.Statement.{Statement}
 use Rattle.oz_semantics.specs.declared.configuration.Tell.{Tell}
 use Rattle.oz_semantics.specs.declared.configuration.Layer.{Layer}
 use Rattle.oz_machine.specs.Places.{IsFirst}
-use Rattle.oz_machine.specs.Views.{views_of, broken_by, able_by}
+use Rattle.oz_machine.specs.Views.{views_of, broken_by, able_by, goes_on_by, waits_by, waits_for}
 
 any_viewed : (test : List Tell → Layer → Bool) (all ls : List Layer)
     → list_any (λ (p : Layer × List Tell). test p.1 p.0) (zip ls (map (λ (l : Layer). view all l.space) ls)) ≡ list_any (λ (l : Layer). test (view all l.space) l) ls
@@ -61,6 +63,31 @@ broken_first false l v ps ls h = h
 broken_viewed : (all ls : List Layer) → brokens ls (map (λ (l : Layer). view all l.space) ls) ≡ map (λ (m : Layer). m.space) (filter (is_broken all) ls)
 broken_viewed all [] = refl
 broken_viewed all (l ∷ ls) = broken_first (is_broken all l) l (view all l.space) _ _ (broken_viewed all ls)
+
+-- Tests of layers with their views, until one passes
+
+abbrev pub any_among : (List Tell → Layer → Bool) → List Layer → List (List Tell) → Bool
+any_among test layers views = list_any (λ (p : Layer × List Tell). test p.1 p.0) (zip layers views)
+
+abbrev pub goes_among : List Statement → List ℕ → List Layer → List (List Tell) → Bool
+goes_among statements space = any_among (λ v l. is_below space l.space && goes_on_by statements v l)
+
+abbrev pub waits_among : List Statement → List ℕ → List Ident → List Layer → List (List Tell) → Bool
+waits_among statements space held = any_among (λ v l. is_below space l.space && waits_by statements held v l)
+
+none_left : {A B : Type 0} (test : A × B → Bool) (whole : Bool) (xs : List A) (ys : List B) → (length xs ≡ 0) ⊎ (length ys ≡ 0) → list_any test (zip xs ys) ≡ whole → false ≡ whole
+none_left test whole xs ys h e = sym (ap (list_any test) (ended xs ys h)) ∙ e
+
+-- where all are passed
+pub goes_end : (statements : List Statement) (space : List ℕ) (layers : List Layer) (views : List (List Tell)) → views ≡ views_of layers → (ls : List Layer) (vs : List (List Tell))
+    → (length ls ≡ 0) ⊎ (length vs ≡ 0) → goes_among statements space ls vs ≡ goes_among statements space layers views → false ≡ goes_on statements layers space
+goes_end statements space layers views e ls vs h k =
+    none_left _ _ ls vs h k ∙ any_of_views (λ v l. is_below space l.space && goes_on_by statements v l) layers views e
+
+pub waits_end : (statements : List Statement) (space : List ℕ) (held : List Ident) (layers : List Layer) (views : List (List Tell)) → views ≡ views_of layers → (ls : List Layer) (vs : List (List Tell))
+    → (length ls ≡ 0) ⊎ (length vs ≡ 0) → waits_among statements space held ls vs ≡ waits_among statements space held layers views → false ≡ waits_for statements layers space held
+waits_end statements space held layers views e ls vs h k =
+    none_left _ _ ls vs h k ∙ any_of_views (λ v l. is_below space l.space && waits_by statements held v l) layers views e
 
 at_end : {A B X : Type 0} (f : List (A × B) → List X) → f [] ≡ [] → (made whole : List X) (xs : List A) (ys : List B) → (length xs ≡ 0) ⊎ (length ys ≡ 0) → made ++ f (zip xs ys) ≡ whole → made ≡ whole
 at_end f none made whole xs ys h e = sym (append-nil made) ∙ ap (λ zs. made ++ zs) (sym (ap f (ended xs ys h) ∙ none)) ∙ e

@@ -2,8 +2,8 @@
 use Rattle.std.specs.Prelude.{ℕ, ◌≡◌, Bool, true, false, List, [], ◌∷◌, ◌++◌, Option, Some, None}
 use Rattle.oz_base.specs.declared.names.Ident.{Ident}
 use Rattle.oz_semantics.specs.Store.{is_consistent}
-use Rattle.oz_semantics.specs.Configurations.{nowhere, is_of, thread_at, view, with_frames, telling, giving_out, frames_of}
-use Rattle.oz_semantics.specs.Statements.{Effect, Becomes, Shows, Raises, Place, tells, tells_then, counting_procedure, code_effect}
+use Rattle.oz_semantics.specs.Configurations.{nowhere, is_of, thread_at, view, with_frames, telling, telling_all, giving_out, frames_of}
+use Rattle.oz_semantics.specs.Statements.{Effect, Becomes, Shows, Raises, Place, tells, tells_then, tells_all_then, counting_procedure, code_effect}
 use Rattle.oz_semantics.specs.Schedule.{frames_in}
 use Rattle.oz_semantics.specs.declared.kernel.Statement.{Statement}
 use Rattle.oz_semantics.specs.declared.configuration.Binding.{Binding}
@@ -29,6 +29,7 @@ abbrev pub moved : ℕ → Move → Layer → Layer
 moved number move.Stays l = l
 moved number (move.Tells t) l = telling t l
 moved number (move.Makes t) l = counting_procedure (telling t l)
+moved number (move.TellsAll fresh ts) l = giving_out fresh (telling_all ts l)
 moved number (move.Enters environment body) l = with_frames number (λ frames. frames_of environment body ++ frames) l
 moved number (move.Opens fresh environment body) l = with_frames number (λ frames. frames_of environment body ++ frames) (giving_out fresh l)
 moved number (move.Fails raise) l = l
@@ -38,6 +39,7 @@ abbrev pub effect_of : Place → Move → Effect
 effect_of p (move.Fails raise) = Raises raise
 effect_of p (move.Tells t) = tells p t
 effect_of p (move.Makes t) = tells_then p t counting_procedure
+effect_of p (move.TellsAll fresh ts) = tells_all_then p ts (giving_out fresh)
 effect_of p move.Stays = Becomes (moved p.thread move.Stays p.layer)
 effect_of p (move.Enters environment body) = Becomes (moved p.thread (move.Enters environment body) p.layer)
 effect_of p (move.Opens fresh environment body) = Becomes (moved p.thread (move.Opens fresh environment body) p.layer)
@@ -61,15 +63,26 @@ variable_in (Some b) = b.variable
 abbrev pub is_telling : Move → Bool
 is_telling (move.Tells t) = true
 is_telling (move.Makes t) = true
+is_telling (move.TellsAll fresh ts) = true
 is_telling move.Stays = false
 is_telling (move.Enters environment body) = false
 is_telling (move.Opens fresh environment body) = false
 is_telling (move.Fails raise) = false
 
--- the exception that a tell raises, if it does
-abbrev pub RefusesTell : List Tell → Tell → Option Raise → Type 0
-RefusesTell view t (Some raise) = (raise ≡ FailureTell) × (is_consistent (view ++ t ∷ []) ≡ false)
-RefusesTell view t None = is_consistent (view ++ t ∷ []) ≡ true
+-- what a move tells
+abbrev pub tells_of : Move → List Tell
+tells_of (move.Tells t) = t ∷ []
+tells_of (move.Makes t) = t ∷ []
+tells_of (move.TellsAll fresh ts) = ts
+tells_of move.Stays = []
+tells_of (move.Enters environment body) = []
+tells_of (move.Opens fresh environment body) = []
+tells_of (move.Fails raise) = []
+
+-- the exception that tells raise, if they do
+abbrev pub RefusesTells : List Tell → List Tell → Option Raise → Type 0
+RefusesTells view ts (Some raise) = (raise ≡ FailureTell) × (is_consistent (view ++ ts) ≡ false)
+RefusesTells view ts None = is_consistent (view ++ ts) ≡ true
 
 -- the exception that a move raises, if it does
 abbrev pub Refuses : List Tell → Move → Option Raise → Type 0

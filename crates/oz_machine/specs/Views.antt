@@ -1,6 +1,6 @@
 -- What the spaces of a configuration see, layer by layer, and what this decides of a layer.
-use Rattle.std.specs.Prelude.{ℕ, Bool, not, ◌&&◌, if◌then◌else◌, List, [], map, filter}
-use Rattle.std.specs.List.{list_any}
+use Rattle.std.specs.Prelude.{ℕ, Bool, false, not, ◌&&◌, if◌then◌else◌, List, [], ◌∷◌, map, filter}
+use Rattle.std.specs.List.{list_any, list_all}
 use Rattle.oz_base.specs.declared.names.Ident.{Ident}
 use Rattle.oz_semantics.specs.Names.{is_below, named}
 use Rattle.oz_semantics.specs.Store.{is_consistent}
@@ -33,6 +33,19 @@ able_by statements view l =
     if is_open l.status
     then map (λ (t : Thread). named l.space t.number) (filter (λ t. steps (thread_ready statements view t)) l.threads)
     else []
+
+-- the layer's space does not see what a space is told
+abbrev pub is_unseen : List ℕ → Layer → Bool
+is_unseen space l = not (is_below space l.space)
+
+-- nor is that space told what the layer is
+abbrev pub is_apart : List ℕ → Layer → Bool
+is_apart space l = not (is_below space l.space) && not (is_below l.space space)
+
+-- what the space of the first of the later layers is told stands at the end of what it sees, and no other space sees it
+abbrev pub is_last_told : List Layer → List Layer → Bool
+is_last_told earlier [] = false
+is_last_told earlier (l ∷ later) = list_all (is_unseen l.space) earlier && list_all (is_apart l.space) later
 
 -- something of the subtree waits for one of these variables
 abbrev pub waits_for : List Statement → List Layer → List ℕ → List Ident → Bool

@@ -1,15 +1,23 @@
 //! What calls are to do.
-ghost use Rattle.std.specs.Prelude.{◌≡◌, ◌++◌, ◌∷◌, [], length, map, Some, IfOk, option_copied};
+ghost use Rattle.std.specs.Prelude.{◌≡◌, ◌+◌, ◌++◌, ◌∷◌, List, [], length, map, Some, IfOk, option_copied};
 ghost use Rattle.oz_semantics.specs.Store.{value_of};
 ghost use Rattle.oz_semantics.specs.Configurations.{bound, bindings};
-ghost use Rattle.oz_semantics.specs.Statements.{Place, show_effect, call_effect};
+ghost use Rattle.oz_semantics.specs.Builtins as builtins;
+ghost use Rattle.oz_semantics.specs.Builtins.{answer};
+ghost use Rattle.oz_semantics.specs.Statements.{Place, show_effect, list_tells, answer_effect, output_of, builtin_effect, call_effect};
+ghost use Rattle.oz_semantics.specs.declared.configuration.Tell.{Tell};
+ghost use Rattle.builtins.specs.Answers.{IsAnswer};
 ghost use Rattle.oz_machine.specs.Moves.{planned, IsPlaceIn};
 
 use crate::environments::{all_bound, bound, extended, nowhere};
+use crate::lists::list_tells;
 use crate::moves::{Move, Plan};
 use crate::spaces::is_top;
+use builtins::Answer;
 use oz_base::{Copies, Ident, Sequence};
-use oz_semantics::{Builtin, Environment, Layer, Name, Procedure, Raise, Value};
+use oz_semantics::{
+    Builtin, Constant, Environment, Layer, Name, Operation, Procedure, Raise, Tell, Value,
+};
 use oz_store::Seen;
 use std::alloc::{AllocError, Global};
 use std::slice;
@@ -58,21 +66,128 @@ fn plan_show(alloc: Global, layer: &Layer, arguments: &[Ident]) -> Result<Plan, 
     }
 }
 
+/// The last argument.
+fn output_of(alloc: Global, arguments: &[Ident]) -> Result<Ident, AllocError>
+    ensures { IfOk result (λ output. output ≡ output_of arguments.now) }
+{
+    match arguments.last() {
+        None => Ok(nowhere(alloc)),
+        Some(output) => output.copied(alloc),
+    }
+}
+
+/// How many variables the list of so many needs: one for each element, and one for each tail.
+fn list_variables(count: usize) -> Result<u32, AllocError>
+    ensures { IfOk result (λ fresh. fresh ≡ count + count) }
+{
+    let count = u32::try_from(count).map_err(|_| AllocError)?;
+    count.checked_add(count).ok_or(AllocError)
+}
+
+/// Makes a variable the list of these.
+fn plan_list(
+    alloc: Global,
+    layer: &Layer,
+    output: Ident,
+    items: &[Constant],
+) -> Result<Plan, AllocError>
+    ensures { IfOk result (λ plan. plan ≡ Plan.Moves (Move.TellsAll (length items.now + length items.now) (list_tells layer.now.space layer.now.next.variable output items.now))) }
+{
+    let fresh = list_variables(items.len())?;
+    let tells = list_tells(alloc, layer, output, items)?;
+    Ok(Plan::Moves(Move::TellsAll { fresh, tells }))
+}
+
+/// Goes on by what a built-in answers.
+fn plan_answer(
+    alloc: Global,
+    layer: &Layer,
+    output: Ident,
+    answer: Answer,
+) -> Result<Plan, AllocError>
+    ensures { IfOk result (λ plan. (p : Place) (view : List Tell) (given : builtins.Answer) → IsPlaceIn view layer.now p → IsAnswer view given answer → answer_effect p output given ≡ planned p plan) }
+{
+    match answer {
+        Answer::Gives(value) => Ok(Plan::Moves(Move::Tells(Tell::Is {
+            variable: output,
+            value,
+        }))),
+        Answer::GivesField(field) => Ok(Plan::Moves(Move::Tells(Tell::Equal {
+            left: output,
+            right: field,
+        }))),
+        Answer::GivesList(items) => plan_list(alloc, layer, output, items.as_slice()),
+        Answer::Awaits(_) => Ok(Plan::Moves(Move::Stays)),
+        Answer::Refuses(raise) => Ok(Plan::Moves(Move::Fails(raise))),
+    }
+}
+
+/// The call of a built-in other than `Show`.
+fn plan_pure(
+    alloc: Global,
+    seen: &Seen,
+    layer: &Layer,
+    builtin: Builtin,
+    arguments: &[Ident],
+) -> Result<Plan, AllocError>
+    ensures { IfOk result (λ plan. (p : Place) → IsPlaceIn seen.now layer.now p → answer_effect p (output_of arguments.now) (answer p.view builtin arguments.now) ≡ planned p plan) }
+{
+    let answer = builtins::pure(alloc, seen, builtin, arguments)?;
+    let output = output_of(alloc, arguments)?;
+    plan_answer(alloc, layer, output, answer)
+}
+
+/// The call of a built-in.
+fn plan_builtin(
+    alloc: Global,
+    seen: &Seen,
+    layer: &Layer,
+    builtin: Builtin,
+    arguments: &[Ident],
+) -> Result<Plan, AllocError>
+    ensures { IfOk result (λ plan. (p : Place) → IsPlaceIn seen.now layer.now p → builtin_effect p builtin arguments.now ≡ planned p plan) }
+{
+    match builtin {
+        Builtin::Operation(_) => plan_pure(alloc, seen, layer, builtin, arguments),
+        Builtin::Label => plan_pure(alloc, seen, layer, builtin, arguments),
+        Builtin::Width => plan_pure(alloc, seen, layer, builtin, arguments),
+        Builtin::Arity => plan_pure(alloc, seen, layer, builtin, arguments),
+        Builtin::Show => plan_show(alloc, layer, arguments),
+    }
+}
+
+/// `{'op' X ..}`.
+pub fn plan_operation(
+    alloc: Global,
+    seen: &Seen,
+    layer: &Layer,
+    environment: &Environment,
+    operation: Operation,
+    arguments: &Sequence<Name>,
+) -> Result<Plan, AllocError>
+    ensures { IfOk result (λ plan. (p : Place) → IsPlaceIn seen.now layer.now p → builtin_effect p (Builtin.Operation operation) (map (bound environment.now) arguments.now) ≡ planned p plan) }
+{
+    let arguments = all_bound(alloc, environment, arguments.as_slice())?;
+    let builtin = Builtin::Operation(operation);
+    plan_builtin(alloc, seen, layer, builtin, arguments.as_slice())
+}
+
 /// The call of what has this value, in a layer.
 fn plan_apply(
     alloc: Global,
+    seen: &Seen,
     layer: &Layer,
     procedure: Option<&Value>,
     arguments: &[Ident],
 ) -> Result<Plan, AllocError>
-    ensures { IfOk result (λ plan. (p : Place) → p.layer.space ≡ layer.now.space → call_effect p (option_copied procedure.entry) arguments.now ≡ planned p plan) }
+    ensures { IfOk result (λ plan. (p : Place) → IsPlaceIn seen.now layer.now p → call_effect p (option_copied procedure.entry) arguments.now ≡ planned p plan) }
 {
     match procedure {
         None => Ok(Plan::Moves(Move::Stays)),
         Some(Value::Constant(_)) => Ok(Plan::Moves(Move::Fails(Raise::Apply))),
         Some(Value::Record(_)) => Ok(Plan::Moves(Move::Fails(Raise::Apply))),
         Some(Value::Procedure(procedure)) => plan_body(alloc, procedure, arguments),
-        Some(Value::Builtin(Builtin::Show)) => plan_show(alloc, layer, arguments),
+        Some(Value::Builtin(builtin)) => plan_builtin(alloc, seen, layer, *builtin, arguments),
     }
 }
 
@@ -90,7 +205,7 @@ pub fn plan_call(
     let arguments = all_bound(alloc, environment, arguments.as_slice())?;
     let absent = nowhere(alloc);
     let value = seen.value(bound(environment.get(), procedure, &absent));
-    plan_apply(alloc, layer, value, arguments.as_slice())
+    plan_apply(alloc, seen, layer, value, arguments.as_slice())
 }
 
 /// The call that the machine itself put on a stack, of a procedure with one argument.
@@ -105,6 +220,7 @@ pub fn plan_applied(
 {
     plan_apply(
         alloc,
+        seen,
         layer,
         seen.value(procedure),
         slice::from_ref(argument),

@@ -69,21 +69,43 @@ fn opening_environment(alloc: Global) -> Result<Environment, AllocError>
     ensures { IfOk result (λ environment. environment ≡ opening_environment) }
 {
     let mut environment = Stack::new(alloc);
+    environment.push(word_binding(alloc, 5))?;
+    environment.push(word_binding(alloc, 4))?;
+    environment.push(word_binding(alloc, 3))?;
     environment.push(word_binding(alloc, 1))?;
     environment.push(word_binding(alloc, 0))?;
     Shared::new(alloc, environment)
 }
 
-/// The top, which was told what `Show` is.
+/// What the top's variable with this number is.
+fn built_in(alloc: Global, number: u32, builtin: Builtin) -> Tell
+    ensures { result ≡ Tell.Is (named [] number) (Value.Builtin builtin) }
+{
+    Tell::Is {
+        variable: top_variable(alloc, number),
+        value: Value::Builtin(builtin),
+    }
+}
+
+/// What the built-ins that have names are.
+fn built_ins(alloc: Global) -> Result<Sequence<Tell>, AllocError>
+    ensures { IfOk result (λ tells. tells ≡ top_layer.tells) }
+{
+    let mut tells = Sequence::new(alloc);
+    tells.push(built_in(alloc, 1, Builtin::Show))?;
+    tells.push(built_in(alloc, 3, Builtin::Label))?;
+    tells.push(built_in(alloc, 4, Builtin::Width))?;
+    tells.push(built_in(alloc, 5, Builtin::Arity))?;
+    Ok(tells)
+}
+
+/// The top, which was told what the built-ins are.
 fn top_layer(alloc: Global) -> Result<Layer, AllocError>
     ensures { IfOk result (λ layer. layer ≡ top_layer) }
 {
     let mut layer = new_layer(alloc, Sequence::new(alloc));
-    layer.next.variable = 2;
-    layer.tells.push(Tell::Is {
-        variable: top_variable(alloc, 1),
-        value: Value::Builtin(Builtin::Show),
-    })?;
+    layer.next.variable = 6;
+    layer.tells = built_ins(alloc)?;
     Ok(layer)
 }
 

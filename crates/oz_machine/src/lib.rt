@@ -5,6 +5,8 @@ mod branches;
 mod calls;
 mod creation;
 mod environments;
+mod keeping;
+mod lists;
 mod machine;
 mod moves;
 mod places;

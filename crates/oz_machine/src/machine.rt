@@ -6,7 +6,7 @@ ghost use Rattle.oz_semantics.specs.Store.{value_of};
 ghost use Rattle.oz_semantics.specs.Configurations.{view};
 ghost use Rattle.oz_semantics.specs.Spaces.{goes_on};
 ghost use Rattle.oz_semantics.specs.Schedule.{turn};
-ghost use Rattle.oz_semantics.specs.Texts.{raise_text};
+ghost use Rattle.oz_semantics.specs.Builtins.{arguments_of};
 ghost use Rattle.oz_semantics.specs.Runs.{opening, run};
 ghost use Rattle.oz_semantics.specs.Search.{is_script, with_root, search_space, chosen_in, state_text};
 ghost use Rattle.oz_machine.specs.Turns.{cost_of, CostsWithin, IsTurn};
@@ -22,7 +22,7 @@ use crate::turn::step;
 use crate::views::views_of;
 use oz_base::{Copies, Ident, Sequence};
 use oz_semantics::{
-    Builtin, Configuration, Kernel, Layer, Raise, State, Statement, Stepped, Value,
+    Builtin, Configuration, Kernel, Layer, Operation, Raise, State, Statement, Stepped, Value,
 };
 use oz_store::{Seen, seen_by};
 use std::alloc::{AllocError, Global};
@@ -207,12 +207,44 @@ fn opening_of(alloc: Global, kernel: &Kernel) -> Result<Configuration, AllocErro
     Ok(configuration)
 }
 
+/// How many arguments a built-in takes.
+fn arguments_of(builtin: Builtin) -> usize
+    ensures { result ≡ arguments_of builtin }
+{
+    match builtin {
+        Builtin::Operation(operation) => operands_of(operation),
+        Builtin::Label | Builtin::Width | Builtin::Arity => 2,
+        Builtin::Show => 1,
+    }
+}
+
+/// How many arguments an operation takes, with its output.
+fn operands_of(operation: Operation) -> usize
+    ensures { result ≡ arguments_of (Builtin.Operation operation) }
+{
+    match operation {
+        Operation::Bound | Operation::BoundEach => 2,
+        Operation::Same
+        | Operation::Differs
+        | Operation::Less
+        | Operation::AtMost
+        | Operation::Greater
+        | Operation::AtLeast
+        | Operation::Plus
+        | Operation::Minus
+        | Operation::Times
+        | Operation::Div
+        | Operation::Mod
+        | Operation::Select => 3,
+    }
+}
+
 fn is_script(value: Option<&Value>) -> bool
     ensures { result ≡ holds_of is_script (option_copied value.entry) }
 {
     match value {
         Some(Value::Procedure(procedure)) => procedure.parameters.len() == 1,
-        Some(Value::Builtin(Builtin::Show)) => true,
+        Some(Value::Builtin(builtin)) => arguments_of(*builtin) == 1,
         Some(Value::Constant(_)) | Some(Value::Record(_)) | None => false,
     }
 }
@@ -233,17 +265,18 @@ fn may_turn(
     configuration: &Configuration,
     views: &Sequence<Seen>,
     space: &Sequence<u32>,
-) -> bool
+) -> Result<bool, AllocError>
     requires { views.now ≡ views_of configuration.now.layers }
-    ensures { result ≡ (goes_on statements.now configuration.now.layers space.now && not (is_empty configuration.now.queue)) }
+    ensures { IfOk result (λ may. may ≡ (goes_on statements.now configuration.now.layers space.now && not (is_empty configuration.now.queue))) }
 {
-    goes_on(
+    let goes = goes_on(
         alloc,
         statements,
         configuration.layers.as_slice(),
         views.as_slice(),
         space,
-    ) && !is_empty(&configuration.queue)
+    )?;
+    Ok(goes && !is_empty(&configuration.queue))
 }
 
 fn is_empty(queue: &Sequence<Ident>) -> bool
@@ -274,7 +307,7 @@ fn run(
     let statements = kernel.statements.as_slice();
     let mut views = views_of(alloc, configuration.layers.as_slice())?;
     let mut left = fuel;
-    'turns: while may_turn(alloc, statements, configuration, &views, space) {
+    'turns: while may_turn(alloc, statements, configuration, &views, space)? {
         let Some(stepped) = step(alloc, kernel, configuration, &mut views, left)? else {
             return Ok(Ran::OutOfFuel);
         };

@@ -1,18 +1,17 @@
 //! What a step does with the layer of its thread.
-ghost use Rattle.std.specs.Prelude.{◌≡◌, ◌++◌, ◌∷◌, [], false, not, filter, IfOk, OnOk, option_copied};
+ghost use Rattle.std.specs.Prelude.{◌≡◌, ◌++◌, not, filter, IfOk, OnOk, option_copied};
 ghost use Rattle.oz_base.specs.Lists.{first, is_empty};
-ghost use Rattle.oz_semantics.specs.Store.{is_consistent};
 ghost use Rattle.oz_semantics.specs.Configurations.{thread_at, in_thread, with_frames, without_gone, frames_of};
 ghost use Rattle.oz_semantics.specs.Schedule.{frames_in};
 ghost use Rattle.oz_semantics.specs.declared.configuration.Thread.{Thread};
-ghost use Rattle.oz_machine.specs.Moves.{rest_of, moved, RefusesTell, Refuses, is_telling};
+ghost use Rattle.oz_machine.specs.Moves.{rest_of, moved, RefusesTells, Refuses, is_telling, tells_of};
 
 use crate::places::thread_place;
 use oz_base::{Copies, Ident, Sequence, Stack};
 use oz_semantics::{Code, Environment, Frame, Layer, Raise, Tell, Thread};
 use oz_store::Seen;
 use std::alloc::{AllocError, Global};
-use std::mem;
+use std::{mem, slice};
 
 /// What a step is to do with the layer of its thread.
 #[derive(Drop)]
@@ -22,6 +21,11 @@ pub enum Move {
     Tells(Tell),
     /// Tells a new procedure value, where that is consistent.
     Makes(Tell),
+    /// Tells several things at once, where they are consistent together, and gives out so many variables.
+    TellsAll {
+        fresh: u32,
+        tells: Sequence<Tell>,
+    },
     /// Goes on with a body.
     Enters {
         environment: Environment,
@@ -44,34 +48,43 @@ pub enum Plan {
     Shows(Ident),
 }
 
-/// Whether a tell is inconsistent with what a space sees. It is added to that.
-fn is_refused(alloc: Global, seen: &mut Seen, tell: &Tell) -> Result<bool, AllocError>
-    ensures { IfOk result (λ refused. refused ≡ not (is_consistent (seen.old ++ tell.now ∷ []))) }
+/// Tells a space all of a list in turn.
+fn tell_all(alloc: Global, seen: &mut Seen, tells: &[Tell]) -> Result<(), AllocError>
+    ensures { OnOk result (seen.new ≡ seen.old ++ tells.now) }
 {
-    seen.tell(alloc, tell)?;
-    Ok(!seen.is_consistent())
+    for tell in tells {
+        seen.tell(alloc, tell)?;
+    }
+    Ok(())
 }
 
-/// The exception that a tell raises, if it does.
-fn tell_refusal(alloc: Global, seen: &mut Seen, tell: &Tell) -> Result<Option<Raise>, AllocError>
-    ensures { IfOk result (RefusesTell seen.old tell.now) }
+/// The exception that tells raise, if they do. They are added to what a space sees.
+fn tells_refusal(
+    alloc: Global,
+    seen: &mut Seen,
+    tells: &[Tell],
+) -> Result<Option<Raise>, AllocError>
+    ensures refuses { IfOk result (RefusesTells seen.old tells.now) }
+    ensures told { OnOk result (seen.new ≡ seen.old ++ tells.now) }
 {
-    if is_refused(alloc, seen, tell)? {
-        Ok(Some(Raise::FailureTell))
-    } else {
+    tell_all(alloc, seen, tells)?;
+    if seen.is_consistent() {
         Ok(None)
+    } else {
+        Ok(Some(Raise::FailureTell))
     }
 }
 
 /// The exception that a move raises, if it does. What it tells is added to what its space sees.
 pub fn refusal(alloc: Global, seen: &mut Seen, plan: &Move) -> Result<Option<Raise>, AllocError>
     ensures refuses { IfOk result (Refuses seen.old plan.now) }
-    ensures kept { OnOk result (is_telling plan.now ≡ false → seen.new ≡ seen.old) }
+    ensures told { OnOk result (seen.new ≡ seen.old ++ tells_of plan.now) }
 {
     match plan {
         Move::Fails(raise) => Ok(Some(*raise)),
-        Move::Tells(tell) => tell_refusal(alloc, seen, tell),
-        Move::Makes(tell) => tell_refusal(alloc, seen, tell),
+        Move::Tells(tell) => tells_refusal(alloc, seen, slice::from_ref(tell)),
+        Move::Makes(tell) => tells_refusal(alloc, seen, slice::from_ref(tell)),
+        Move::TellsAll { tells, .. } => tells_refusal(alloc, seen, tells.as_slice()),
         Move::Stays | Move::Enters { .. } | Move::Opens { .. } => Ok(None),
     }
 }
@@ -81,7 +94,7 @@ pub fn is_telling(plan: &Move) -> bool
     ensures { result ≡ is_telling plan.now }
 {
     match plan {
-        Move::Tells(_) | Move::Makes(_) => true,
+        Move::Tells(_) | Move::Makes(_) | Move::TellsAll { .. } => true,
         Move::Stays | Move::Enters { .. } | Move::Opens { .. } | Move::Fails(_) => false,
     }
 }
@@ -176,6 +189,10 @@ pub fn make_move(
         Move::Makes(tell) => {
             layer.next.procedure = layer.next.procedure.checked_add(1).ok_or(AllocError)?;
             layer.tells.push(tell)?;
+        }
+        Move::TellsAll { fresh, tells } => {
+            layer.next.variable = layer.next.variable.checked_add(fresh).ok_or(AllocError)?;
+            layer.tells.append(tells.into_vec())?;
         }
         Move::Enters { environment, body } => {
             enter_body(alloc, &mut layer.threads, number, &environment, &body)?;

@@ -1,13 +1,12 @@
 //! What a thread's top statement is to do.
-ghost use Rattle.std.specs.Prelude.{◌≡◌, ◌++◌, ◌∷◌, [], length, map, Some, IfOk, option_copied};
+ghost use Rattle.std.specs.Prelude.{◌≡◌, ◌++◌, length, map, Some, IfOk, option_copied};
 ghost use Rattle.oz_semantics.specs.Names.{named};
-ghost use Rattle.oz_semantics.specs.Store.{value_of};
 ghost use Rattle.oz_semantics.specs.Configurations.{bound, bindings, fresh_variables};
-ghost use Rattle.oz_semantics.specs.Statements.{Place, statement_effect, call_effect, code_effect};
+ghost use Rattle.oz_semantics.specs.Statements.{Place, statement_effect, code_effect};
 ghost use Rattle.oz_machine.specs.Moves.{planned, IsPlaceIn};
 
 use crate::branches::{plan_case, plan_if};
-use crate::calls::{plan_applied, plan_call};
+use crate::calls::{plan_applied, plan_call, plan_operation};
 use crate::environments::{all_bound, bound_copy, extended};
 use crate::moves::{Move, Plan};
 use oz_base::{Copies, Ident, Sequence};
@@ -181,7 +180,6 @@ fn plan_statement(
     match statement {
         Statement::Skip
         | Statement::Choice { .. }
-        | Statement::Apply { .. }
         | Statement::Thread { .. }
         | Statement::Try { .. }
         | Statement::Raise { .. }
@@ -207,6 +205,10 @@ fn plan_statement(
             procedure,
             arguments,
         } => plan_call(alloc, seen, layer, environment, *procedure, arguments),
+        Statement::Apply {
+            operation,
+            arguments,
+        } => plan_operation(alloc, seen, layer, environment, *operation, arguments),
         Statement::If {
             condition,
             accepted,

@@ -21,7 +21,7 @@ fn add_able(
 {
     if layer.status == Status::Open {
         for thread in layer.threads.as_slice() {
-            if thread_steps(alloc, statements, seen, thread) {
+            if thread_steps(alloc, statements, seen, thread)? {
                 ids.push(Ident {
                     space: layer.space.copied(alloc)?,
                     number: thread.number,

@@ -1,18 +1,22 @@
 //! What threads can do where they stand: step, wait for a variable, or offer alternatives.
-ghost use Rattle.std.specs.Prelude.{◌≡◌, ◌∷◌, List, [], option_copied};
+ghost use Rattle.std.specs.Prelude.{◌≡◌, ◌∷◌, List, [], map, IfOk, option_copied};
 ghost use Rattle.std.specs.List.{list_any};
-ghost use Rattle.oz_semantics.specs.Store.{same, is_determined};
+ghost use Rattle.oz_semantics.specs.Store.{same, value_of, is_determined};
 ghost use Rattle.oz_semantics.specs.Configurations.{bound};
 ghost use Rattle.oz_semantics.specs.Matching.{matched};
-ghost use Rattle.oz_semantics.specs.Statements.{awaits, match_ready, statement_ready, code_ready, top_ready, thread_ready, steps, waits_of, offer_of};
+ghost use Rattle.oz_semantics.specs.Statements.{awaits, match_ready, builtin_ready, call_ready, statement_ready, code_ready, top_ready, thread_ready, steps, waits_of, offer_of};
 ghost use Rattle.oz_semantics.specs.Spaces.{is_held};
 
-use crate::environments::{bound, nowhere};
+use crate::environments::{all_bound, bound, nowhere};
+use builtins::{Answer, pure};
 use matching::{Verdict, decide};
 use oz_base::{Ident, Stack};
-use oz_semantics::{Binding, Code, Frame, Name, Piece, Statement, Thread};
+use oz_semantics::{
+    Binding, Builtin, Code, Environment, Frame, Name, Piece, Statement, Thread, Value,
+};
 use oz_store::Seen;
-use std::alloc::Global;
+use std::alloc::{AllocError, Global};
+use std::slice;
 
 /// Whether an identifier's variable has a value.
 fn is_bound_determined(alloc: Global, seen: &Seen, environment: &Stack<Binding>, name: Name) -> bool
@@ -40,29 +44,122 @@ fn is_match_decided(
     }
 }
 
+/// Whether a built-in with these arguments can step.
+fn builtin_steps(
+    alloc: Global,
+    seen: &Seen,
+    builtin: Builtin,
+    arguments: &[Ident],
+) -> Result<bool, AllocError>
+    ensures { IfOk result (λ can. can ≡ steps (builtin_ready seen.now builtin arguments.now)) }
+{
+    match pure(alloc, seen, builtin, arguments)? {
+        Answer::Awaits(_) => Ok(false),
+        _ => Ok(true),
+    }
+}
+
+fn bound_builtin_steps(
+    alloc: Global,
+    seen: &Seen,
+    environment: &Environment,
+    builtin: Builtin,
+    arguments: &[Name],
+) -> Result<bool, AllocError>
+    ensures { IfOk result (λ can. can ≡ steps (builtin_ready seen.now builtin (map (bound environment.now) arguments.now))) }
+{
+    let arguments = all_bound(alloc, environment, arguments)?;
+    builtin_steps(alloc, seen, builtin, arguments.as_slice())
+}
+
+/// Whether a call of this variable can step.
+fn call_steps(
+    alloc: Global,
+    seen: &Seen,
+    environment: &Environment,
+    procedure: &Ident,
+    arguments: &[Name],
+) -> Result<bool, AllocError>
+    ensures { IfOk result (λ can. can ≡ steps (call_ready seen.now procedure.now (value_of seen.now procedure.now) (map (bound environment.now) arguments.now))) }
+{
+    match seen.value(procedure) {
+        None => Ok(false),
+        Some(Value::Builtin(builtin)) => {
+            bound_builtin_steps(alloc, seen, environment, *builtin, arguments)
+        }
+        Some(_) => Ok(true),
+    }
+}
+
+fn bound_call_steps(
+    alloc: Global,
+    seen: &Seen,
+    environment: &Environment,
+    procedure: Name,
+    arguments: &[Name],
+) -> Result<bool, AllocError>
+    ensures { IfOk result (λ can. can ≡ steps (call_ready seen.now (bound environment.now procedure) (value_of seen.now (bound environment.now procedure)) (map (bound environment.now) arguments.now))) }
+{
+    let absent = nowhere(alloc);
+    let callee = bound(environment.get(), procedure, &absent);
+    call_steps(alloc, seen, environment, callee, arguments)
+}
+
+/// Whether a call with one argument can step.
+fn applied_steps(
+    alloc: Global,
+    seen: &Seen,
+    procedure: &Ident,
+    argument: &Ident,
+) -> Result<bool, AllocError>
+    ensures { IfOk result (λ can. can ≡ steps (call_ready seen.now procedure.now (value_of seen.now procedure.now) (argument.now ∷ []))) }
+{
+    match seen.value(procedure) {
+        None => Ok(false),
+        Some(Value::Builtin(builtin)) => {
+            builtin_steps(alloc, seen, *builtin, slice::from_ref(argument))
+        }
+        Some(_) => Ok(true),
+    }
+}
+
 #[tactic(auto, using(crate::proofs::Readies::steps_determined))]
 fn statement_steps(
     alloc: Global,
     seen: &Seen,
-    environment: &Stack<Binding>,
+    environment: &Environment,
     statement: Option<&Statement>,
-) -> bool
-    ensures { result ≡ steps (statement_ready seen.now environment.now (option_copied statement.entry)) }
+) -> Result<bool, AllocError>
+    ensures { IfOk result (λ can. can ≡ steps (statement_ready seen.now environment.now (option_copied statement.entry))) }
 {
     match statement {
         None
         | Some(Statement::Choice { .. })
-        | Some(Statement::Apply { .. })
         | Some(Statement::Thread { .. })
         | Some(Statement::Try { .. })
         | Some(Statement::Raise { .. })
         | Some(Statement::Post { .. })
-        | Some(Statement::PostTimes { .. }) => false,
-        Some(Statement::Call { procedure, .. }) => {
-            is_bound_determined(alloc, seen, environment, *procedure)
-        }
+        | Some(Statement::PostTimes { .. }) => Ok(false),
+        Some(
+            Statement::Call {
+                procedure,
+                arguments,
+            },
+        ) => bound_call_steps(alloc, seen, environment, *procedure, arguments.as_slice()),
+        Some(
+            Statement::Apply {
+                operation,
+                arguments,
+            },
+        ) => bound_builtin_steps(
+            alloc,
+            seen,
+            environment,
+            Builtin::Operation(*operation),
+            arguments.as_slice(),
+        ),
         Some(Statement::If { condition, .. }) => {
-            is_bound_determined(alloc, seen, environment, *condition)
+            Ok(is_bound_determined(alloc, seen, environment.get(), *condition))
         }
         Some(
             Statement::Case {
@@ -70,37 +167,55 @@ fn statement_steps(
                 pattern,
                 ..
             },
-        ) => is_match_decided(alloc, seen, environment, *subject, pattern.as_slice()),
-        Some(_) => true,
+        ) => Ok(is_match_decided(alloc, seen, environment.get(), *subject, pattern.as_slice())),
+        Some(_) => Ok(true),
     }
 }
 
-fn code_steps(alloc: Global, statements: &[Statement], seen: &Seen, frame: &Frame) -> bool
-    ensures { result ≡ steps (code_ready statements.now seen.now frame.now.environment frame.now.code) }
+fn code_steps(
+    alloc: Global,
+    statements: &[Statement],
+    seen: &Seen,
+    frame: &Frame,
+) -> Result<bool, AllocError>
+    ensures { IfOk result (λ can. can ≡ steps (code_ready statements.now seen.now frame.now.environment frame.now.code)) }
 {
     match &frame.code {
         Code::Statement(number) => statement_steps(
             alloc,
             seen,
-            frame.environment.get(),
+            &frame.environment,
             statements.get(*number as usize),
         ),
-        Code::Apply { procedure, .. } => seen.is_determined(procedure),
+        Code::Apply {
+            procedure,
+            argument,
+        } => applied_steps(alloc, seen, procedure, argument),
     }
 }
 
-fn top_steps(alloc: Global, statements: &[Statement], seen: &Seen, top: Option<&Frame>) -> bool
-    ensures { result ≡ steps (top_ready statements.now seen.now (option_copied top.entry)) }
+fn top_steps(
+    alloc: Global,
+    statements: &[Statement],
+    seen: &Seen,
+    top: Option<&Frame>,
+) -> Result<bool, AllocError>
+    ensures { IfOk result (λ can. can ≡ steps (top_ready statements.now seen.now (option_copied top.entry))) }
 {
     match top {
-        None => false,
+        None => Ok(false),
         Some(frame) => code_steps(alloc, statements, seen, frame),
     }
 }
 
 /// Whether a thread can step.
-pub fn thread_steps(alloc: Global, statements: &[Statement], seen: &Seen, thread: &Thread) -> bool
-    ensures { result ≡ steps (thread_ready statements.now seen.now thread.now) }
+pub fn thread_steps(
+    alloc: Global,
+    statements: &[Statement],
+    seen: &Seen,
+    thread: &Thread,
+) -> Result<bool, AllocError>
+    ensures { IfOk result (λ can. can ≡ steps (thread_ready statements.now seen.now thread.now)) }
 {
     top_steps(alloc, statements, seen, thread.frames.top())
 }
@@ -158,21 +273,137 @@ fn match_waits(
     }
 }
 
+/// Whether one of the variables that a built-in waits for is held.
+fn any_held(seen: &Seen, held: &[Ident], variables: &[Ident]) -> bool
+    ensures { result ≡ list_any (is_held seen.now held.now) variables.now }
+{
+    variables
+        .iter()
+        .any(|variable| is_held(seen, held, variable))
+}
+
+/// Whether a built-in with these arguments waits for one of those that are held.
+fn builtin_waits(
+    alloc: Global,
+    seen: &Seen,
+    held: &[Ident],
+    builtin: Builtin,
+    arguments: &[Ident],
+) -> Result<bool, AllocError>
+    ensures { IfOk result (λ waits. waits ≡ list_any (is_held seen.now held.now) (waits_of (builtin_ready seen.now builtin arguments.now))) }
+{
+    match pure(alloc, seen, builtin, arguments)? {
+        Answer::Awaits(variables) => Ok(any_held(seen, held, variables.as_slice())),
+        _ => Ok(false),
+    }
+}
+
+fn bound_builtin_waits(
+    alloc: Global,
+    seen: &Seen,
+    held: &[Ident],
+    environment: &Environment,
+    builtin: Builtin,
+    arguments: &[Name],
+) -> Result<bool, AllocError>
+    ensures { IfOk result (λ waits. waits ≡ list_any (is_held seen.now held.now) (waits_of (builtin_ready seen.now builtin (map (bound environment.now) arguments.now)))) }
+{
+    let arguments = all_bound(alloc, environment, arguments)?;
+    builtin_waits(alloc, seen, held, builtin, arguments.as_slice())
+}
+
+/// Whether a call of this variable waits for one of these.
+fn call_waits(
+    alloc: Global,
+    seen: &Seen,
+    held: &[Ident],
+    environment: &Environment,
+    procedure: &Ident,
+    arguments: &[Name],
+) -> Result<bool, AllocError>
+    ensures { IfOk result (λ waits. waits ≡ list_any (is_held seen.now held.now) (waits_of (call_ready seen.now procedure.now (value_of seen.now procedure.now) (map (bound environment.now) arguments.now)))) }
+{
+    match seen.value(procedure) {
+        None => Ok(is_held(seen, held, procedure)),
+        Some(Value::Builtin(builtin)) => {
+            bound_builtin_waits(alloc, seen, held, environment, *builtin, arguments)
+        }
+        Some(_) => Ok(false),
+    }
+}
+
+fn bound_call_waits(
+    alloc: Global,
+    seen: &Seen,
+    held: &[Ident],
+    environment: &Environment,
+    procedure: Name,
+    arguments: &[Name],
+) -> Result<bool, AllocError>
+    ensures { IfOk result (λ waits. waits ≡ list_any (is_held seen.now held.now) (waits_of (call_ready seen.now (bound environment.now procedure) (value_of seen.now (bound environment.now procedure)) (map (bound environment.now) arguments.now)))) }
+{
+    let absent = nowhere(alloc);
+    let callee = bound(environment.get(), procedure, &absent);
+    call_waits(alloc, seen, held, environment, callee, arguments)
+}
+
+/// Whether a call with one argument waits for one of these.
+fn applied_waits(
+    alloc: Global,
+    seen: &Seen,
+    held: &[Ident],
+    procedure: &Ident,
+    argument: &Ident,
+) -> Result<bool, AllocError>
+    ensures { IfOk result (λ waits. waits ≡ list_any (is_held seen.now held.now) (waits_of (call_ready seen.now procedure.now (value_of seen.now procedure.now) (argument.now ∷ [])))) }
+{
+    match seen.value(procedure) {
+        None => Ok(is_held(seen, held, procedure)),
+        Some(Value::Builtin(builtin)) => {
+            builtin_waits(alloc, seen, held, *builtin, slice::from_ref(argument))
+        }
+        Some(_) => Ok(false),
+    }
+}
+
 fn statement_waits(
     alloc: Global,
     seen: &Seen,
     held: &[Ident],
-    environment: &Stack<Binding>,
+    environment: &Environment,
     statement: Option<&Statement>,
-) -> bool
-    ensures { result ≡ list_any (is_held seen.now held.now) (waits_of (statement_ready seen.now environment.now (option_copied statement.entry))) }
+) -> Result<bool, AllocError>
+    ensures { IfOk result (λ waits. waits ≡ list_any (is_held seen.now held.now) (waits_of (statement_ready seen.now environment.now (option_copied statement.entry)))) }
 {
     match statement {
-        Some(Statement::Call { procedure, .. }) => {
-            bound_awaits(alloc, seen, held, environment, *procedure)
-        }
+        Some(
+            Statement::Call {
+                procedure,
+                arguments,
+            },
+        ) => bound_call_waits(
+            alloc,
+            seen,
+            held,
+            environment,
+            *procedure,
+            arguments.as_slice(),
+        ),
+        Some(
+            Statement::Apply {
+                operation,
+                arguments,
+            },
+        ) => bound_builtin_waits(
+            alloc,
+            seen,
+            held,
+            environment,
+            Builtin::Operation(*operation),
+            arguments.as_slice(),
+        ),
         Some(Statement::If { condition, .. }) => {
-            bound_awaits(alloc, seen, held, environment, *condition)
+            Ok(bound_awaits(alloc, seen, held, environment.get(), *condition))
         }
         Some(
             Statement::Case {
@@ -180,8 +411,15 @@ fn statement_waits(
                 pattern,
                 ..
             },
-        ) => match_waits(alloc, seen, held, environment, *subject, pattern.as_slice()),
-        _ => false,
+        ) => Ok(match_waits(
+            alloc,
+            seen,
+            held,
+            environment.get(),
+            *subject,
+            pattern.as_slice(),
+        )),
+        _ => Ok(false),
     }
 }
 
@@ -191,18 +429,21 @@ fn code_waits(
     seen: &Seen,
     held: &[Ident],
     frame: &Frame,
-) -> bool
-    ensures { result ≡ list_any (is_held seen.now held.now) (waits_of (code_ready statements.now seen.now frame.now.environment frame.now.code)) }
+) -> Result<bool, AllocError>
+    ensures { IfOk result (λ waits. waits ≡ list_any (is_held seen.now held.now) (waits_of (code_ready statements.now seen.now frame.now.environment frame.now.code))) }
 {
     match &frame.code {
         Code::Statement(number) => statement_waits(
             alloc,
             seen,
             held,
-            frame.environment.get(),
+            &frame.environment,
             statements.get(*number as usize),
         ),
-        Code::Apply { procedure, .. } => awaits_held(seen, held, procedure),
+        Code::Apply {
+            procedure,
+            argument,
+        } => applied_waits(alloc, seen, held, procedure, argument),
     }
 }
 
@@ -212,11 +453,11 @@ fn top_waits(
     seen: &Seen,
     held: &[Ident],
     top: Option<&Frame>,
-) -> bool
-    ensures { result ≡ list_any (is_held seen.now held.now) (waits_of (top_ready statements.now seen.now (option_copied top.entry))) }
+) -> Result<bool, AllocError>
+    ensures { IfOk result (λ waits. waits ≡ list_any (is_held seen.now held.now) (waits_of (top_ready statements.now seen.now (option_copied top.entry)))) }
 {
     match top {
-        None => false,
+        None => Ok(false),
         Some(frame) => code_waits(alloc, statements, seen, held, frame),
     }
 }
@@ -228,19 +469,21 @@ pub fn thread_waits(
     seen: &Seen,
     held: &[Ident],
     thread: &Thread,
-) -> bool
-    ensures { result ≡ list_any (is_held seen.now held.now) (waits_of (thread_ready statements.now seen.now thread.now)) }
+) -> Result<bool, AllocError>
+    ensures { IfOk result (λ waits. waits ≡ list_any (is_held seen.now held.now) (waits_of (thread_ready statements.now seen.now thread.now))) }
 {
     top_waits(alloc, statements, seen, held, thread.frames.top())
 }
 
-#[tactic(auto, using(crate::proofs::Readies::match_offers))]
+#[tactic(auto, using(crate::proofs::Readies::match_offers, crate::proofs::Readies::call_offers, crate::proofs::Readies::builtin_offers))]
 fn statement_offer(statement: Option<&Statement>) -> Option<u64>
     ensures { (environment : List Binding) → result ≡ offer_of (statement_ready [] environment (option_copied statement.entry)) }
 {
     match statement {
         Some(Statement::Choice { alternatives }) => Some(alternatives.len() as u64),
         Some(Statement::Case { .. }) => None,
+        Some(Statement::Call { .. }) => None,
+        Some(Statement::Apply { .. }) => None,
         _ => None,
     }
 }

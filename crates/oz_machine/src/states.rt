@@ -18,12 +18,20 @@ use oz_semantics::{Layer, State, Statement, Status, Thread, Value};
 use oz_store::{Seen, is_like, seen_by};
 use std::alloc::{AllocError, Global};
 
-fn any_steps(alloc: Global, statements: &[Statement], seen: &Seen, threads: &[Thread]) -> bool
-    ensures { result ≡ list_any (λ t. steps (thread_ready statements.now seen.now t)) threads.now }
+fn any_steps(
+    alloc: Global,
+    statements: &[Statement],
+    seen: &Seen,
+    threads: &[Thread],
+) -> Result<bool, AllocError>
+    ensures { IfOk result (λ any. any ≡ list_any (λ t. steps (thread_ready statements.now seen.now t)) threads.now) }
 {
-    threads
-        .iter()
-        .any(|thread| thread_steps(alloc, statements, seen, thread))
+    for thread in threads {
+        if thread_steps(alloc, statements, seen, thread)? {
+            return Ok(true);
+        }
+    }
+    Ok(false)
 }
 
 fn is_open(status: Status) -> bool
@@ -35,10 +43,19 @@ fn is_open(status: Status) -> bool
     }
 }
 
-fn layer_goes_on(alloc: Global, statements: &[Statement], layer: &Layer, seen: &Seen) -> bool
-    ensures { result ≡ goes_on_by statements.now seen.now layer.now }
+fn layer_goes_on(
+    alloc: Global,
+    statements: &[Statement],
+    layer: &Layer,
+    seen: &Seen,
+) -> Result<bool, AllocError>
+    ensures { IfOk result (λ goes. goes ≡ goes_on_by statements.now seen.now layer.now) }
 {
-    is_open(layer.status) && any_steps(alloc, statements, seen, layer.threads.as_slice())
+    if is_open(layer.status) {
+        any_steps(alloc, statements, seen, layer.threads.as_slice())
+    } else {
+        Ok(false)
+    }
 }
 
 fn goes_on_below(
@@ -47,10 +64,14 @@ fn goes_on_below(
     space: &Sequence<u32>,
     layer: &Layer,
     seen: &Seen,
-) -> bool
-    ensures { result ≡ (is_below space.now layer.now.space && goes_on_by statements.now seen.now layer.now) }
+) -> Result<bool, AllocError>
+    ensures { IfOk result (λ goes. goes ≡ (is_below space.now layer.now.space && goes_on_by statements.now seen.now layer.now)) }
 {
-    is_below(space, &layer.space) && layer_goes_on(alloc, statements, layer, seen)
+    if is_below(space, &layer.space) {
+        layer_goes_on(alloc, statements, layer, seen)
+    } else {
+        Ok(false)
+    }
 }
 
 /// Whether something of the subtree can step. The views are those of the layers.
@@ -60,13 +81,16 @@ pub fn goes_on(
     layers: &[Layer],
     views: &[Seen],
     space: &Sequence<u32>,
-) -> bool
+) -> Result<bool, AllocError>
     requires { views.now ≡ views_of layers.now }
-    ensures { result ≡ goes_on statements.now layers.now space.now }
+    ensures { IfOk result (λ goes. goes ≡ goes_on statements.now layers.now space.now) }
 {
-    layers.iter().zip(views).any(|(layer, seen)| goes_on_below(
-        alloc, statements, space, layer, seen,
-    ))
+    for (layer, seen) in layers.iter().zip(views) {
+        if goes_on_below(alloc, statements, space, layer, seen)? {
+            return Ok(true);
+        }
+    }
+    Ok(false)
 }
 
 /// Adds the variables that a layer gave out.
@@ -105,10 +129,15 @@ fn any_waits(
     seen: &Seen,
     held: &[Ident],
     threads: &[Thread],
-) -> bool
-    ensures { result ≡ list_any (λ t. list_any (is_held seen.now held.now) (waits_of (thread_ready statements.now seen.now t))) threads.now }
+) -> Result<bool, AllocError>
+    ensures { IfOk result (λ any. any ≡ list_any (λ t. list_any (is_held seen.now held.now) (waits_of (thread_ready statements.now seen.now t))) threads.now) }
 {
-    threads.iter().any(|thread| thread_waits(alloc, statements, seen, held, thread))
+    for thread in threads {
+        if thread_waits(alloc, statements, seen, held, thread)? {
+            return Ok(true);
+        }
+    }
+    Ok(false)
 }
 
 fn layer_waits(
@@ -117,10 +146,14 @@ fn layer_waits(
     held: &[Ident],
     layer: &Layer,
     seen: &Seen,
-) -> bool
-    ensures { result ≡ waits_by statements.now held.now seen.now layer.now }
+) -> Result<bool, AllocError>
+    ensures { IfOk result (λ waits. waits ≡ waits_by statements.now held.now seen.now layer.now) }
 {
-    is_open(layer.status) && any_waits(alloc, statements, seen, held, layer.threads.as_slice())
+    if is_open(layer.status) {
+        any_waits(alloc, statements, seen, held, layer.threads.as_slice())
+    } else {
+        Ok(false)
+    }
 }
 
 fn waits_below(
@@ -130,10 +163,14 @@ fn waits_below(
     held: &[Ident],
     layer: &Layer,
     seen: &Seen,
-) -> bool
-    ensures { result ≡ (is_below space.now layer.now.space && waits_by statements.now held.now seen.now layer.now) }
+) -> Result<bool, AllocError>
+    ensures { IfOk result (λ waits. waits ≡ (is_below space.now layer.now.space && waits_by statements.now held.now seen.now layer.now)) }
 {
-    is_below(space, &layer.space) && layer_waits(alloc, statements, held, layer, seen)
+    if is_below(space, &layer.space) {
+        layer_waits(alloc, statements, held, layer, seen)
+    } else {
+        Ok(false)
+    }
 }
 
 /// Whether something of the subtree waits for one of these variables.
@@ -144,13 +181,16 @@ fn waits_for(
     views: &[Seen],
     space: &Sequence<u32>,
     held: &[Ident],
-) -> bool
+) -> Result<bool, AllocError>
     requires { views.now ≡ views_of layers.now }
-    ensures { result ≡ waits_for statements.now layers.now space.now held.now }
+    ensures { IfOk result (λ waits. waits ≡ waits_for statements.now layers.now space.now held.now) }
 {
-    layers.iter().zip(views).any(|(layer, seen)| waits_below(
-        alloc, statements, space, held, layer, seen,
-    ))
+    for (layer, seen) in layers.iter().zip(views) {
+        if waits_below(alloc, statements, space, held, layer, seen)? {
+            return Ok(true);
+        }
+    }
+    Ok(false)
 }
 
 fn values_eq(left: Option<&Value>, right: Option<&Value>) -> bool
@@ -235,7 +275,7 @@ fn is_stable(
 {
     let held = ancestor_variables(alloc, layers, space)?;
     let above = seen_by(alloc, layers, &parent_of(alloc, space)?)?;
-    let waits = waits_for(alloc, statements, layers, views, space, held.as_slice());
+    let waits = waits_for(alloc, statements, layers, views, space, held.as_slice())?;
     Ok(is_apart(waits, alike_on(held.as_slice(), here, &above)))
 }
 
@@ -284,7 +324,7 @@ fn open_state(
     requires here { here.now ≡ view layers.now layer.now.space }
     ensures { IfOk result (λ state. state ≡ open_state statements.now layers.now layer.now) }
 {
-    if goes_on(alloc, statements, layers, views, &layer.space) {
+    if goes_on(alloc, statements, layers, views, &layer.space)? {
         return Ok(State::Running);
     }
     if is_stable(alloc, statements, layers, views, &layer.space, here)? {

@@ -47,6 +47,10 @@ fn raise_text(alloc: Global, raise: Raise) -> Result<Text, AllocError>
         Raise::Boolean => make_text(alloc, b"error(kernel(boolean))", 3),
         Raise::NoElse => make_text(alloc, b"error(kernel(noElse))", 3),
         Raise::GlobalIo => make_text(alloc, b"error(kernel(globalState io))", 4),
+        Raise::BadKind => make_text(alloc, b"error(kernel(type))", 3),
+        Raise::Overflow => make_text(alloc, b"error(kernel(overflow))", 3),
+        Raise::DivZero => make_text(alloc, b"error(kernel(div0))", 3),
+        Raise::Feature => make_text(alloc, b"error(kernel(feature))", 3),
     }
 }
 

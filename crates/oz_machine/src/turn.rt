@@ -10,7 +10,8 @@ ghost use Rattle.oz_machine.specs.Settling.{is_settled};
 ghost use Rattle.oz_machine.specs.Turns.{cost_of, CostsWithin, IsTurn};
 ghost use Rattle.oz_machine.specs.Views.{views_of};
 
-use crate::moves::{Move, Plan, drop_gone, is_telling, make_move, refusal, top_frame};
+use crate::keeping::keeps_views;
+use crate::moves::{Move, Plan, drop_gone, make_move, refusal, top_frame};
 use crate::places::{layer_place, thread_place};
 use crate::plans::plan;
 use crate::settling::{end_space, settle};
@@ -27,9 +28,15 @@ fn status_by(raise: Raise) -> Status
 {
     match raise {
         Raise::FailureTell | Raise::FailureFail | Raise::FailureTop => Status::Failed,
-        Raise::Apply | Raise::Arity | Raise::Boolean | Raise::NoElse | Raise::GlobalIo => {
-            Status::Raised(raise)
-        }
+        Raise::Apply
+        | Raise::Arity
+        | Raise::Boolean
+        | Raise::NoElse
+        | Raise::GlobalIo
+        | Raise::BadKind
+        | Raise::Overflow
+        | Raise::DivZero
+        | Raise::Feature => Status::Raised(raise),
     }
 }
 
@@ -48,8 +55,8 @@ fn outcome(broken: bool, cost: u64) -> Stepped
     }
 }
 
-/// What follows a step of the mover that told nothing, and cost so much.
-fn follow_quietly(
+/// What follows a step of the mover that cost so much.
+fn follow(
     alloc: Global,
     statements: &[Statement],
     mover: &Ident,
@@ -66,8 +73,8 @@ fn follow_quietly(
     Ok(outcome(broken, cost))
 }
 
-/// What follows a step of the mover that cost 1.
-fn follow(
+/// What follows a step of the mover that cost 1, with all views made anew.
+fn follow_anew(
     alloc: Global,
     statements: &[Statement],
     mover: &Ident,
@@ -79,7 +86,7 @@ fn follow(
     ensures views { OnOk result (views.new ≡ views_of configuration.new.layers) }
 {
     *views = views_of(alloc, configuration.layers.as_slice())?;
-    follow_quietly(alloc, statements, mover, 1, configuration, views)
+    follow(alloc, statements, mover, 1, configuration, views)
 }
 
 fn clear_thread(threads: &mut Sequence<Thread>, number: u32)
@@ -130,7 +137,7 @@ fn raise(
         &id.space,
         status_by(raise),
     );
-    follow(alloc, statements, id, configuration, views)
+    follow_anew(alloc, statements, id, configuration, views)
 }
 
 /// What the top statement of a thread of the layer does. None where the thread has no statement.
@@ -188,13 +195,13 @@ fn act(
     match refused {
         Some(cause) => raise(alloc, statements, id, cause, configuration, views),
         None => {
-            let telling = is_telling(&plan);
+            let kept = keeps_views(&plan, configuration.layers.as_slice(), place);
             let layer = configuration.layers.get_mut(place);
             make_move(alloc, layer, id.number, plan)?;
-            if telling {
-                return follow(alloc, statements, id, configuration, views);
+            if kept {
+                return follow(alloc, statements, id, 1, configuration, views);
             }
-            follow_quietly(alloc, statements, id, 1, configuration, views)
+            follow_anew(alloc, statements, id, configuration, views)
         }
     }
 }
@@ -226,7 +233,7 @@ fn show(
             make_move(alloc, layer, id.number, Move::Stays)?;
             configuration.shown.push(text.bytes)?;
             let statements = kernel.statements.as_slice();
-            let stepped = follow_quietly(alloc, statements, id, cost, configuration, views)?;
+            let stepped = follow(alloc, statements, id, cost, configuration, views)?;
             Ok(Some(stepped))
         }
     }
@@ -240,12 +247,13 @@ fn idle(
     configuration: &mut Configuration,
     views: &mut Sequence<Seen>,
 ) -> Result<Stepped, AllocError>
+    requires { views.old ≡ views_of configuration.old.layers }
     ensures turn { IfOk result (λ outcome. settled kernel.now.statements (Some id.now) 1 configuration.old ≡ (outcome, configuration.new)) }
     ensures cost { IfOk result (λ outcome. cost_of outcome ≡ 1) }
     ensures views { OnOk result (views.new ≡ views_of configuration.new.layers) }
 {
     let statements = kernel.statements.as_slice();
-    follow(alloc, statements, id, configuration, views)
+    follow(alloc, statements, id, 1, configuration, views)
 }
 
 /// The step of a thread whose layer is at a place. None where it costs more than the fuel.

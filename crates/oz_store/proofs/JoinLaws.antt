@@ -1,8 +1,8 @@
 -- Two variables joined: what a join makes due is taken in place by place.
-use Rattle.std.proofs.Common.{ℕ, ◌≡◌, ◌≢◌, ◌∙◌, ◌+◌, ◌<◌, inl, inr, Bool, true, List, [], ◌∷◌, ◌++◌, map, length, take, drop, Result, Ok, Err, Option, Some, None, refl, sym, ap, subst, arith, slice_get, position}
+use Rattle.std.proofs.Common.{ℕ, ◌≡◌, ◌≢◌, ◌∙◌, ◌+◌, ◌<◌, inl, inr, Bool, true, List, [], ◌∷◌, ◌++◌, length, take, drop, Result, Ok, Err, Option, Some, None, refl, sym, ap, subst, arith, slice_get, position}
 use Rattle.std.specs.Prelude.{Contains, OnOk}
-use Rattle.std.proofs.Math.ListN.{get_or, set}
-use Rattle.std.proofs.lemmas.List.{take_more, drop_more, set_at, map-append, append_assoc, length-map, length-take-le, get_or_at}
+use Rattle.std.proofs.Math.ListN.{get_or}
+use Rattle.std.proofs.lemmas.List.{take_more, drop_more}
 use Rattle.std.proofs.lemmas.List.Elements.{Contains-push}
 use Rattle.oz_base.specs.IdentLaws.{ident_eq-equal, ident_eq-itself}
 use Rattle.oz_base.specs.Names.{ident_eq}
@@ -12,8 +12,10 @@ use Rattle.oz_semantics.specs.declared.configuration.Value.{Value}
 use Rattle.oz_semantics.specs.declared.configuration.Tell.{Tell}
 use Rattle.oz_semantics.specs.declared.configuration.Tell.TheVariants.{Equal, Is}
 use Rattle.oz_store.specs.Classes.{Class, numbered, Table, number_in, class_or, class_of, values_at, looked_at, number_at, renumbered, with_values}
-use Rattle.oz_store.specs.Closing.{Joins, Going, Gives, TakesIn, IsLast, width_of, width, weight}
-use Rattle.oz_store.proofs.ClosingLaws.{closing_skip, closing_told, none_in, head_in, cons_cases, last_at}
+use Rattle.oz_store.specs.Closing.{Joins, Going, Merging, Gives, TakesIn, IsLast, width_of, width, weight}
+use Rattle.oz_store.proofs.ClosingLaws.{closing_skip, closing_swap, closing_told, none_in, head_in, cons_cases, last_at}
+use Rattle.oz_store.specs.Places.{Unlike}
+use Rattle.oz_store.proofs.UnlikeLaws.{unlike_told}
 use Rattle.oz_store.proofs.TableLaws.{Shape, looks, look_keeps, class_within, width_push, alone_inj, going_look, going_merge, weight_taken}
 
 -- Variables that were never looked at
@@ -23,26 +25,6 @@ alone_one t x y b eb ex ey = (
   λ e. ap (class_of t) (ident_eq-equal x y (sym eb ∙ e)),
   λ e. eb ∙ ap (ident_eq x) (sym (alone_inj x y (sym (ap (class_or x) ex) ∙ e ∙ ap (class_or y) ey))) ∙ ident_eq-itself x,
 )
-
--- One more item of a list is changed
-
-pub moved_more : (f : ℕ → ℕ) (xs old : List ℕ) (i y : ℕ) → i < length old → xs ≡ map f (take i old) ++ drop i old → y ≡ f (get_or old i 0) → set xs i y ≡ map f (take (i + 1) old) ++ drop (i + 1) old
-moved_more f xs old i y l e ey =
-    let x = get_or old i 0 in
-    let d = drop_more old i 0 l in
-    let n : length (map f (take i old)) ≡ i = length-map (take i old) f ∙ length-take-le i old (omega arith) in
-    let s = set_at (map f (take i old)) x (drop (i + 1) old) y i n in
-    let t = ap (map f) (take_more old i 0 l) ∙ map-append f (take i old) (x ∷ []) in
-    let a = append_assoc (map f (take i old)) (f x ∷ []) (drop (i + 1) old) in
-    cc
-
-pub moved_next : (f : ℕ → ℕ) (xs old : List ℕ) (i d : ℕ) → i < length old → xs ≡ map f (take i old) ++ drop i old → get_or xs i d ≡ get_or old i 0
-moved_next f xs old i d l e =
-    let x = get_or old i 0 in
-    let dm = drop_more old i 0 l in
-    let n : length (map f (take i old)) ≡ i = length-map (take i old) f ∙ length-take-le i old (omega arith) in
-    let s = get_or_at (map f (take i old)) x (drop (i + 1) old) d i n in
-    cc
 
 -- One more place is taken in
 
@@ -91,6 +73,9 @@ joined_already ts t t2 a b m n ps l e = record {
     labelled = l.going.labelled;
     valued = l.going.valued;
     inside = l.going.inside;
+    found = l.going.found;
+    named = l.going.named;
+    unlike = l.going.unlike;
     closing = closing_skip ts (class_of t2) (λ k r. Contains (values_at t2 k) r) (Contains []) ps a b l.going.closing (l.left ∙ ap (λ k. numbered k) (sym e) ∙ sym l.right);
   };
   kept = omega (arith, l.stays);
@@ -98,32 +83,65 @@ joined_already ts t t2 a b m n ps l e = record {
 
 -- Or of two, which become one
 
-pub joined_now : (ts : List Tell) (t t2 t3 t4 : Table) (a b : Ident) (m n : ℕ) (ps : List (Ident × Ident)) (places places' : List ℕ) → LookedAtTwo ts t t2 a b m n (ps ++ (a, b) ∷ []) → n ≢ m
-    → t3 ≡ with_values t2 n [] → places ≡ values_at t2 n → t4 ≡ renumbered t3 n m → places' ≡ places → Going ts t4 places' ps
-joined_now ts t t2 t3 t4 a b m n ps places places' l ne e3 ep e4 eq =
-    let g = going_merge ts t2 ps a b n m l.going l.left l.right ne in
-    subst (λ vs. Going ts t4 vs ps) (sym (eq ∙ ep)) (subst (λ u. Going ts u (values_at t2 n) ps) (sym (e4 ∙ ap (λ u. renumbered u n m) e3)) g)
+pub left_stays : (ts : List Tell) (t t2 : Table) (a b : Ident) (m n : ℕ) (ps : List (Ident × Ident)) → LookedAtTwo ts t t2 a b m n (ps ++ (a, b) ∷ []) → n ≢ m → Merging ts t2 n m ps
+left_stays ts t t2 a b m n ps l ne = record { left = a; right = b; going = l.going; stays = l.left; goes = l.right; apart = ne }
 
-pub joined_weight : (ts : List Tell) (t t2 t3 t4 t5 : Table) (a b : Ident) (m n : ℕ) (ps ps' : List (Ident × Ident)) (places places' : List ℕ) → LookedAtTwo ts t t2 a b m n (ps ++ (a, b) ∷ [])
-    → t3 ≡ with_values t2 n [] → places ≡ values_at t2 n → t4 ≡ renumbered t3 n m → places' ≡ places → TakesIn ts t4 t5 [] ps ps' (width ts places') → TakesIn ts t t5 [] ps ps' 0
-joined_weight ts t t2 t3 t4 t5 a b m n ps ps' places places' l e3 ep e4 eq h =
-    let s : Shape t2 = record { labelled = l.going.labelled; inside = l.going.inside } in
-    let within : n < length t2.values = omega (arith, class_within t2 b n s l.right, l.going.valued) in
-    let w = weight_taken ts t2 n within in
-    let w4 : weight ts t4.values ≡ weight ts (with_values t2 n []).values = ap (λ (u : Table). weight ts u.values) e4 ∙ ap (λ (u : Table). weight ts u.values) e3 in
-    let wp : width ts places' ≡ width ts (values_at t2 n) = ap (width ts) (eq ∙ ep) in
+pub right_stays : (ts : List Tell) (t t2 : Table) (a b : Ident) (m n : ℕ) (ps : List (Ident × Ident)) → LookedAtTwo ts t t2 a b m n (ps ++ (a, b) ∷ []) → n ≢ m → Merging ts t2 m n ps
+right_stays ts t t2 a b m n ps l ne = record {
+  left = b;
+  right = a;
+  going = record {
+    labelled = l.going.labelled;
+    valued = l.going.valued;
+    inside = l.going.inside;
+    found = l.going.found;
+    named = l.going.named;
+    unlike = l.going.unlike;
+    closing = closing_swap ts (class_of t2) (λ k r. Contains (values_at t2 k) r) (Contains []) ps a b l.going.closing;
+  };
+  stays = l.right;
+  goes = l.left;
+  apart = λ e. ne (sym e);
+}
+
+pub joined_by : (ts : List Tell) (t t2 t3 : Table) (a b : Ident) (m n : ℕ) (ps ps' qs : List (Ident × Ident)) → LookedAtTwo ts t t2 a b m n qs → TakesIn ts t2 t3 [] ps ps' 0 → TakesIn ts t t3 [] ps ps' 0
+joined_by ts t t2 t3 a b m n ps ps' qs l h = record {
+  going = h.going;
+  kept = omega (arith, h.kept, l.stays);
+}
+
+pub merged_now : (ts : List Tell) (t t1 t2 : Table) (from to : ℕ) (ps : List (Ident × Ident)) (places places' : List ℕ) → Merging ts t from to ps → t1 ≡ with_values t from [] → places ≡ values_at t from → t2 ≡ renumbered t1 from to → places' ≡ places
+    → Going ts t2 places' ps
+merged_now ts t t1 t2 from to ps places places' l e1 ep e2 eq =
+    let g = going_merge ts t ps l.left l.right from to l.going l.stays l.goes l.apart in
+    subst (λ vs. Going ts t2 vs ps) (sym (eq ∙ ep)) (subst (λ u. Going ts u (values_at t from) ps) (sym (e2 ∙ ap (λ u. renumbered u from to) e1)) g)
+
+pub merged_weight : (ts : List Tell) (t t1 t2 t3 : Table) (from to : ℕ) (ps ps' : List (Ident × Ident)) (places places' : List ℕ) → Merging ts t from to ps → t1 ≡ with_values t from [] → places ≡ values_at t from → t2 ≡ renumbered t1 from to → places' ≡ places
+    → TakesIn ts t2 t3 [] ps ps' (width ts places') → TakesIn ts t t3 [] ps ps' 0
+merged_weight ts t t1 t2 t3 from to ps ps' places places' l e1 ep e2 eq h =
+    let s : Shape t = record { labelled = l.going.labelled; inside = l.going.inside } in
+    let within : from < length t.values = omega (arith, class_within t l.right from s l.goes, l.going.valued) in
+    let w = weight_taken ts t from within in
+    let w2 : weight ts t2.values ≡ weight ts (with_values t from []).values = ap (λ (u : Table). weight ts u.values) e2 ∙ ap (λ (u : Table). weight ts u.values) e1 in
+    let wp : width ts places' ≡ width ts (values_at t from) = ap (width ts) (eq ∙ ep) in
     record {
       going = h.going;
-      kept = omega (arith, h.kept, w, w4, wp, l.stays);
+      kept = omega (arith, h.kept, w, w2, wp);
     }
 
 -- One thing more is told
+
+unlike_front : (ts : List Tell) (t : Table) (tell : Tell) → Going ts t [] [] → (n : ℕ) → Unlike (ts ++ tell ∷ []) (values_at t n)
+unlike_front ts t tell h n = unlike_told ts tell (values_at t n) (h.unlike n) (λ p c. (h.closing.reps n p c).gives)
 
 pub told_equal : (ts : List Tell) (t : Table) (x y : Ident) (place : ℕ) → IsLast ts t (Equal x y) place → Going ts t [] ((x, y) ∷ [])
 told_equal ts t x y place l = subst (λ us. Going us t [] ((x, y) ∷ [])) (sym l.whole) (record {
   labelled = l.closed.labelled;
   valued = l.closed.valued;
   inside = l.closed.inside;
+  found = l.closed.found;
+  named = l.closed.named;
+  unlike = unlike_front l.front t (Equal x y) l.closed;
   closing = closing_told l.front (Equal x y) (class_of t) (λ n r. Contains (values_at t n) r) (Contains []) [] ((x, y) ∷ []) l.closed.closing (λ g j a b c. none_in (a, b) c) due equal
       (λ r c. none_in r c) (λ z w e. absurd (cc));
 })
@@ -150,6 +168,9 @@ told_is ts t x v place l = subst (λ us. Going us t (place ∷ []) []) (sym l.wh
   labelled = l.closed.labelled;
   valued = l.closed.valued;
   inside = l.closed.inside;
+  found = l.closed.found;
+  named = l.closed.named;
+  unlike = unlike_front l.front t (Is x v) l.closed;
   closing = closing_told l.front (Is x v) (class_of t) (λ n r. Contains (values_at t n) r) (Contains (place ∷ [])) [] [] l.closed.closing (λ g j. j) (λ a b c. none_in (a, b) c) (λ a b e. absurd (cc))
       (λ r c. gives r (elim (cons_cases place r [] c) [ inl e ↦ e | inr d ↦ none_in r d ])) (λ y w e. subst (Contains (place ∷ [])) l.at (head_in place []));
 })

@@ -14,14 +14,16 @@ use Rattle.std.proofs.lemmas.Option.{slice_get-get_or, slice_get-map}
 use Rattle.oz_base.specs.IdentLaws.{ident_eq-equal, ident_eq-itself}
 use Rattle.oz_base.specs.Names.{ident_eq}
 use Rattle.oz_base.specs.declared.names.Ident.{Ident}
+use Rattle.oz_laws.proofs.AlikeLaws.{alike-refl, alike-sym}
 use Rattle.oz_semantics.specs.Values.{is_like, fields_of}
 use Rattle.oz_semantics.specs.declared.configuration.Value.{Value}
 use Rattle.oz_semantics.specs.declared.configuration.Tell.{Tell}
 use Rattle.oz_semantics.specs.declared.configuration.Tell.TheVariants.{Equal, Is}
 use Rattle.oz_store.specs.Classes.{Class, numbered, alone, Table, no_classes, class_or, class_of, values_at, with_key, looked_at, number_at, moved, renumbered, with_values}
 use Rattle.oz_store.specs.Closing.{Closing, Going, TakesIn, width_of, width, weight}
-use Rattle.oz_store.specs.Places.{like_at, fields_at, joined_places, pairs_with}
+use Rattle.oz_store.specs.Places.{alike, Unlike, like_at, fields_at, joined_places, pairs_with}
 use Rattle.oz_store.proofs.ClosingLaws.{closing_none, closing_by, closing_merge, closing_added, closing_joined, like_length, none_in, head_in, tail_in, cons_cases, more_at, push_at, last_at}
+use Rattle.oz_store.proofs.UnlikeLaws.{like_is, not_true, unlike_none, unlike_push, unlike_set}
 
 -- Where a name stands
 
@@ -125,7 +127,7 @@ look_keeps t x y n (numbered_before m l p q) e = q ∙ sym p ∙ e
 look_keeps t x y n (numbered_now k p q) e = apart n x (sym e ∙ p)
 look_keeps t x y n (not_yet p q) e = apart n y (sym e ∙ p)
 
-push_values : (vs : List (List ℕ)) (n : ℕ) → get_or (vs ++ [] ∷ []) n [] ≡ get_or vs n []
+pub push_values : (vs : List (List ℕ)) (n : ℕ) → get_or (vs ++ [] ∷ []) n [] ≡ get_or vs n []
 push_values [] zero = refl
 push_values [] (suc n) = refl
 push_values (v ∷ vs) zero = refl
@@ -142,6 +144,16 @@ going_key ts t x rest ps absent h =
         | inl k ↦ omega (arith, h.inside i n k, length-append t.labels (length t.labels ∷ []))
         | inr k ↦ omega (arith, k.1, length-append t.labels (length t.labels ∷ []))
       ];
+      found = λ i y e. elim (push_at t.keys x i y e) [
+        | inl k ↦ place_push (ident_eq y) t.keys x ∙ ap (λ o. after o (ident_eq y x) (length t.keys)) (h.found i y k)
+        | inr k ↦ subst (λ z. position (ident_eq z) (t.keys ++ x ∷ []) ≡ Some i) k.1
+            (place_push (ident_eq x) t.keys x ∙ ap₂ (λ o b. after o b (length t.keys)) absent (ident_eq-itself x) ∙ ap (λ n. Some n) (sym k.0))
+      ];
+      named = λ i n e. elim (push_at t.labels (length t.labels) i n e) [
+        | inl k ↦ more_at t.labels (length t.labels ∷ []) n n (h.named i n k)
+        | inr k ↦ subst (λ m. slice_get (t.labels ++ length t.labels ∷ []) m ≡ Some m) k.1 (last_at t.labels (length t.labels))
+      ];
+      unlike = λ n. subst (Unlike ts) (sym (push_values t.values n)) (h.unlike n);
       closing = closing_by ts (class_of t) (class_of (with_key t x)) (λ n r. Contains (values_at t n) r) (λ n r. Contains (values_at (with_key t x) n) r) (Contains rest) ps h.closing
           (λ a b e. look_to t x a b (l a) (l b) e) (λ a b e. look_back t x a b (l a) (l b) e) (λ n y e. look_keeps t x y n (l y) e)
           (λ n r c. subst (λ (vs : List ℕ). Contains vs r) (sym (push_values t.values n)) c) (λ n r c. subst (λ (vs : List ℕ). Contains vs r) (push_values t.values n) c);
@@ -152,6 +164,9 @@ going_none = record {
   labelled = refl;
   valued = refl;
   inside = λ i n e. absurd (cc);
+  found = λ i x e. absurd (cc);
+  named = λ i n e. absurd (cc);
+  unlike = λ n. unlike_none [];
   closing = closing_none (class_of no_classes) (λ n r. Contains (values_at no_classes n) r) (λ x y e. alone_inj x y e) (λ n r c. none_in r c);
 }
 
@@ -161,16 +176,16 @@ abbrev moved_class : ℕ → ℕ → Class → Class
 moved_class from to (numbered n) = numbered (moved from to n)
 moved_class from to (alone x) = alone x
 
-number_equal : (m n : ℕ) → (m == n) ≡ true → m ≡ n
+pub number_equal : (m n : ℕ) → (m == n) ≡ true → m ≡ n
 number_equal m n e = grind (arith, nat_tests, e)
 
-number_apart : (m n : ℕ) → (m == n) ≡ false → m ≡ n → ⊥
+pub number_apart : (m n : ℕ) → (m == n) ≡ false → m ≡ n → ⊥
 number_apart m n e k = grind (arith, nat_tests, e, k)
 
-moved_to : (from to n : ℕ) → (n == from) ≡ true → moved from to n ≡ to
+pub moved_to : (from to n : ℕ) → (n == from) ≡ true → moved from to n ≡ to
 moved_to from to n e = ap (λ (b : Bool). if b then to else n) e
 
-moved_not : (from to n : ℕ) → (n == from) ≡ false → moved from to n ≡ n
+pub moved_not : (from to n : ℕ) → (n == from) ≡ false → moved from to n ≡ n
 moved_not from to n e = ap (λ (b : Bool). if b then to else n) e
 
 renumbered_class : (t : Table) (from to : ℕ) (y : Ident) → class_of (renumbered t from to) y ≡ moved_class from to (class_of t y)
@@ -199,6 +214,17 @@ moved_cases from to (numbered m) (numbered n) e = by (m == from) (n == from) ref
     by false true f g = inr (inl (ap (λ k. numbered k) (sym (moved_not from to m f)) ∙ e ∙ ap (λ k. numbered k) (moved_to from to n g), ap (λ k. numbered k) (number_equal n from g)))
     by false false f g = inl (ap (λ k. numbered k) (sym (moved_not from to m f)) ∙ e ∙ ap (λ k. numbered k) (moved_not from to n g))
 
+pub class_label : (t : Table) (y : Ident) (n : ℕ) → class_of t y ≡ numbered n → (i : ℕ) × (slice_get t.labels i ≡ Some n)
+class_label t y n e = by_place (position (ident_eq y) t.keys) e
+  where
+    by_label : (i : ℕ) (o : Option ℕ) → slice_get t.labels i ≡ o → class_or y o ≡ numbered n → (i : ℕ) × (slice_get t.labels i ≡ Some n)
+    by_label i None f g = apart n y (sym g)
+    by_label i (Some m) f g = (i, f ∙ ap (λ k. Some k) (number_inj m n g))
+
+    by_place : (o : Option ℕ) → class_or y (option_and_then (slice_get t.labels) o) ≡ numbered n → (i : ℕ) × (slice_get t.labels i ≡ Some n)
+    by_place None g = apart n y (sym g)
+    by_place (Some i) g = by_label i (slice_get t.labels i) refl g
+
 pub class_within : (t : Table) (y : Ident) (n : ℕ) → Shape t → class_of t y ≡ numbered n → n < length t.labels
 class_within t y n s e = by_place (position (ident_eq y) t.keys) e
   where
@@ -225,6 +251,9 @@ going_merge ts t ps a b from to h ea eb ne =
       labelled = length-map t.labels (moved from to) ∙ h.labelled;
       valued = length-set t.values from [] ∙ h.valued ∙ sym (length-map t.labels (moved from to));
       inside = λ i n e. within i n (slice_get t.labels i) refl (sym (slice_get-map (moved from to) t.labels i) ∙ e);
+      found = h.found;
+      named = λ i n e. slice_get-map (moved from to) t.labels n ∙ own i n (slice_get t.labels i) refl (sym (slice_get-map (moved from to) t.labels i) ∙ e);
+      unlike = λ n. unlike n (n == from) refl;
       closing = closing_merge ts (class_of t) (class_of t') (λ n r. Contains (values_at t n) r) (λ n r. Contains (values_at t' n) r) (Contains (values_at t from)) ps a b h.closing
           (record {
             keeps = λ x y e. is x ∙ ap (moved_class from to) e ∙ sym (is y);
@@ -264,6 +293,28 @@ going_merge ts t ps a b from to h ea eb ne =
         by : (b : Bool) → (m == from) ≡ b → n < length (map (moved from to) t.labels)
         by true f = omega (arith, to_small, is_n, moved_to from to m f, length-map t.labels (moved from to))
         by false f = omega (arith, small, is_n, moved_not from to m f, length-map t.labels (moved from to))
+
+    unlike : (n : ℕ) (b : Bool) → (n == from) ≡ b → Unlike ts (get_or (set t.values from []) n [])
+    unlike n true e = subst (Unlike ts) (sym (ap (λ k. get_or (set t.values from []) k []) (number_equal n from e) ∙ emptied t.values from)) (unlike_none ts)
+    unlike n false e = subst (Unlike ts) (sym (get_or-set_other t.values from n [] [] (number_apart n from e))) (h.unlike n)
+
+    own : (i n : ℕ) (o : Option ℕ) → slice_get t.labels i ≡ o → option_map (moved from to) o ≡ Some n → option_map (moved from to) (slice_get t.labels n) ≡ Some n
+    own i n None e k = absurd (cc)
+    own i n (Some m) e k = by (m == from) refl
+      where
+        is_n : moved from to m ≡ n
+        is_n = cc
+
+        to_own : slice_get t.labels to ≡ Some to
+        to_own = let l = class_label t a to ea in h.named l.0 to l.1
+
+        by : (b : Bool) → (m == from) ≡ b → option_map (moved from to) (slice_get t.labels n) ≡ Some n
+        by true f =
+            let n_is : to ≡ n = sym (moved_to from to m f) ∙ is_n in
+            subst (λ j. option_map (moved from to) (slice_get t.labels j) ≡ Some j) n_is (ap (option_map (moved from to)) to_own ∙ ap (λ j. Some j) to_stays)
+        by false f =
+            let n_is : m ≡ n = sym (moved_not from to m f) ∙ is_n in
+            subst (λ j. option_map (moved from to) (slice_get t.labels j) ≡ Some j) n_is (ap (option_map (moved from to)) (h.named i m e) ∙ ap (λ j. Some j) (moved_not from to m f))
 
     rep : (n r : ℕ) (b : Bool) → (n == from) ≡ b → Contains (values_at t n) r → Contains (get_or (set t.values from []) n []) r ⊎ Contains (values_at t from) r
     rep n r true e c = inr (subst (λ k. Contains (values_at t k) r) (number_equal n from e) c)
@@ -330,11 +381,18 @@ module _ (ts : List Tell) (t : Table) (c r : ℕ) (y : Ident) (w : Value) (rest 
   waits : (q : ℕ) → Contains (r ∷ rest) q → (r ≡ q) ⊎ Contains rest q
   waits q d = cons_cases r q rest d
 
-  put_shape : (new : List ℕ) (ps' : List (Ident × Ident)) → Closing ts (class_of t) (λ n q. Contains (values_at (put t c new) n) q) (Contains rest) ps' → Going ts (put t c new) rest ps'
-  put_shape new ps' cl = record {
+  put_unlike : (new : List ℕ) → Unlike ts new → (n : ℕ) (b : Bool) → (n == c) ≡ b → Unlike ts (values_at (put t c new) n)
+  put_unlike new u n true e = subst (Unlike ts) (sym (ap (values_at (put t c new)) (number_equal n c e) ∙ put_here t c new within)) u
+  put_unlike new u n false e = subst (Unlike ts) (sym (put_other t c n new (number_apart n c e))) (h.unlike n)
+
+  put_shape : (new : List ℕ) (ps' : List (Ident × Ident)) → Unlike ts new → Closing ts (class_of t) (λ n q. Contains (values_at (put t c new) n) q) (Contains rest) ps' → Going ts (put t c new) rest ps'
+  put_shape new ps' u cl = record {
     labelled = h.labelled;
     valued = length-set (set t.values c []) c new ∙ length-set t.values c [] ∙ h.valued;
     inside = h.inside;
+    found = h.found;
+    named = h.named;
+    unlike = λ n. put_unlike new u n (n == c) refl;
     closing = cl;
   }
 
@@ -344,10 +402,13 @@ module _ (ts : List Tell) (t : Table) (c r : ℕ) (y : Ident) (w : Value) (rest 
   pub going_added : position (λ p. like_at w (slice_get ts p)) (values_at t c) ≡ None → Going ts (put t c (values_at t c ++ r ∷ [])) rest ps
   going_added none =
       let new = values_at t c ++ r ∷ [] in
-      put_shape new ps (closing_added ts (class_of t) (λ n q. Contains (values_at t n) q) (λ n q. Contains (values_at (put t c new) n) q) (Contains (r ∷ rest)) (Contains rest) ps c r y w h.closing at class
-      (λ q z v d e l. from_none (λ p. like_at w (slice_get ts p)) 0 (values_at t c) q (sym (position_from-zero (λ p. like_at w (slice_get ts p)) (values_at t c)) ∙ none) d (ap (like_at w) e ∙ l))
+      put_shape new ps (unlike_push ts (values_at t c) r (h.unlike c) (λ p d. not_true (alike (slice_get ts p) (slice_get ts r)) (λ l. unlike p d (sym (like_is w (slice_get ts p)) ∙ sym (ap (alike (slice_get ts p)) at) ∙ l)))) (closing_added ts (class_of t) (λ n q. Contains (values_at t n) q) (λ n q. Contains (values_at (put t c new) n) q) (Contains (r ∷ rest)) (Contains rest) ps c r y w h.closing at class
+      (λ q z v d e l. unlike q d (ap (like_at w) e ∙ l))
       (λ n q d. rep n q (n == c) refl d) (subst (λ (vs : List ℕ). Contains vs r) (sym (put_here t c new within)) (Contains-push (values_at t c) r)) (λ n q d. back n q (n == c) refl d) waits (λ q d. tail_in r q rest d))
     where
+      unlike : (q : ℕ) → Contains (values_at t c) q → like_at w (slice_get ts q) ≡ true → ⊥
+      unlike q d l = from_none (λ p. like_at w (slice_get ts p)) 0 (values_at t c) q (sym (position_from-zero (λ p. like_at w (slice_get ts p)) (values_at t c)) ∙ none) d l
+
       rep : (n q : ℕ) (b : Bool) → (n == c) ≡ b → Contains (values_at t n) q → Contains (values_at (put t c grown) n) q
       rep n q true e d =
           let k = number_equal n c e in
@@ -380,6 +441,7 @@ module _ (ts : List Tell) (t : Table) (c r : ℕ) (y : Ident) (w : Value) (rest 
       let like : is_like o.value w ≡ true = sym (ap (like_at w) o.told) ∙ there.1 in
       subst (λ (fs : List Ident). Going ts (put t c (changed i)) rest (ps ++ zip fs (fields_of w))) (sym (ap fields_at o.told))
       (put_shape (changed i) (ps ++ zip (fields_of o.value) (fields_of w))
+      (unlike_set ts (values_at t c) i (least i) (reached i) (h.unlike c) (slice_get-get_or (values_at t c) i 0 there.0) (least_like o.variable o.value o.told like m_which))
       (closing_joined ts (class_of t) (λ n q. Contains (values_at t n) q) (λ n q. Contains (values_at (put t c (changed i)) n) q) (Contains (r ∷ rest)) (Contains rest) ps c (reached i) r (least i) o.variable y o.value w h.closing q_in o.told at class like
       m_left m_right m_which (λ n p d. rep n p (n == c) refl d) (subst (λ (vs : List ℕ). Contains vs (least i)) (sym (put_here t c (changed i) within)) (set_here (values_at t c) i (least i) there.0)) (λ n p d. back n p (n == c) refl d) waits (λ p d. tail_in r p rest d)))
     where
@@ -388,6 +450,10 @@ module _ (ts : List Tell) (t : Table) (c r : ℕ) (y : Ident) (w : Value) (rest 
 
       q_in : Contains (values_at t c) (get_or (values_at t c) i 0)
       q_in = Contains-get_or (values_at t c) i 0 there.0
+
+      least_like : (x : Ident) (v : Value) → slice_get ts (reached i) ≡ Some (Is x v) → is_like v w ≡ true → (least i ≡ reached i) ⊎ (least i ≡ r) → alike (slice_get ts (least i)) (slice_get ts (reached i)) ≡ true
+      least_like x v told l (inl e) = ap₂ (λ a b. alike a b) (ap (slice_get ts) e ∙ told) told ∙ alike-refl v
+      least_like x v told l (inr e) = ap₂ (λ a b. alike a b) (ap (slice_get ts) e ∙ at) told ∙ alike-sym v w l
 
       same_q : get_or (values_at t c) i r ≡ get_or (values_at t c) i 0
       same_q = get_or_default (values_at t c) i r 0 there.0

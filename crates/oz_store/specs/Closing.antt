@@ -1,6 +1,7 @@
 -- What the closing of a list of tells keeps: a class f of each variable, places of values that stand for their classes, places
 -- that wait to be looked at, and pairs that wait to be joined.
-use Rattle.std.specs.Prelude.{ℕ, ◌≡◌, ◌+◌, ◌<◌, ◌≤◌, ◌⊎◌, IsTrue, List, [], ◌∷◌, ◌++◌, length, map, Contains, Option, Some, None, slice_get}
+use Rattle.std.specs.Prelude.{ℕ, ◌≡◌, ◌≢◌, ◌+◌, ◌<◌, ◌≤◌, ◌⊎◌, IsTrue, List, [], ◌∷◌, ◌++◌, length, map, Contains, Option, Some, None, position, slice_get}
+use Rattle.oz_base.specs.Names.{ident_eq}
 use Rattle.oz_base.specs.declared.names.Ident.{Ident}
 use Rattle.oz_semantics.specs.Store.{Same}
 use Rattle.oz_semantics.specs.Values.{is_like, fields_of}
@@ -8,6 +9,7 @@ use Rattle.oz_semantics.specs.declared.configuration.Value.{Value}
 use Rattle.oz_semantics.specs.declared.configuration.Tell.{Tell}
 use Rattle.oz_semantics.specs.declared.configuration.Tell.TheVariants.{Equal, Is}
 use Rattle.oz_store.specs.Classes.{Class, numbered, Table, class_of, values_at}
+use Rattle.oz_store.specs.Places.{Unlike}
 
 -- g joins all that f joins
 abbrev pub Coarser : (Ident → Class) → (Ident → Class) → Type 0
@@ -56,7 +58,21 @@ pub record Going (ts : List Tell) (t : Table) (rest : List ℕ) (ps : List (Iden
   pub labelled : length t.labels ≡ length t.keys
   pub valued : length t.values ≡ length t.labels
   pub inside : (i n : ℕ) → slice_get t.labels i ≡ Some n → n < length t.labels
+  -- the place of each variable is the one that is found, and a number is that of its own place
+  pub found : (i : ℕ) (x : Ident) → slice_get t.keys i ≡ Some x → position (ident_eq x) t.keys ≡ Some i
+  pub named : (i n : ℕ) → slice_get t.labels i ≡ Some n → slice_get t.labels n ≡ Some n
+  -- a place comes to those of its class only where its value is like none of theirs
+  pub unlike : (n : ℕ) → Unlike ts (values_at t n)
   pub closing : Closing ts (class_of t) (λ n r. Contains (values_at t n) r) (Contains rest) ps
+
+-- a pair that waits is of two classes, one of which is to become a part of the other
+pub record Merging (ts : List Tell) (t : Table) (from to : ℕ) (ps : List (Ident × Ident)) : Type 0 where
+  pub left : Ident
+  pub right : Ident
+  pub going : Going ts t [] (ps ++ (left, right) ∷ [])
+  pub stays : class_of t left ≡ numbered to
+  pub goes : class_of t right ≡ numbered from
+  pub apart : from ≢ to
 
 -- how many fields the value at a place has
 abbrev pub width_of : Option Tell → ℕ

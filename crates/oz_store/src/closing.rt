@@ -5,7 +5,7 @@ ghost use Rattle.oz_semantics.specs.Values.{fields_of};
 ghost use Rattle.oz_semantics.specs.declared.configuration.Tell.{Tell};
 ghost use Rattle.oz_semantics.specs.declared.configuration.Tell.TheVariants.{Is};
 ghost use Rattle.oz_store.specs.Classes.{Table, no_classes};
-ghost use Rattle.oz_store.specs.Closing.{Going, TakesIn, IsLast, width_of, width};
+ghost use Rattle.oz_store.specs.Closing.{Going, Merging, TakesIn, IsLast, width_of, width};
 ghost use Rattle.oz_store.specs.Places.{fields_at, like_at, joined_places, pairs_with};
 
 use crate::classes::Classes;
@@ -184,8 +184,27 @@ fn join(
     if from == to {
         return Ok(());
     }
+    if classes.size(from) <= classes.size(to) {
+        merge(alloc, tells, classes, pending, from, to)
+    } else {
+        merge(alloc, tells, classes, pending, to, from)
+    }
+}
+
+/// Makes one class a part of another.
+fn merge(
+    alloc: Global,
+    tells: &[Tell],
+    classes: &mut Classes,
+    pending: &mut Vec<(Ident, Ident)>,
+    from: usize,
+    to: usize,
+) -> Result<(), AllocError>
+    requires { Merging tells.now classes.old from to pending.old.items }
+    ensures { OnOk result (TakesIn tells.now classes.old classes.new [] pending.old.items pending.new.items 0) }
+{
     let places = classes.take_values(alloc, from);
-    classes.renumber(from, to);
+    classes.renumber(alloc, from, to)?;
     take_all_in(alloc, tells, classes, pending, places.as_slice())
 }
 

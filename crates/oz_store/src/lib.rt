@@ -8,6 +8,7 @@ mod places;
 mod seen;
 mod values;
 
+pub use classes::Classes;
 pub use places::place_law;
 pub use seen::{Seen, seen_by};
 pub use values::{constant_eq, fields_of, is_like, literal_eq, same_arity};

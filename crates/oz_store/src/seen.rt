@@ -4,11 +4,11 @@ ghost use Rattle.std.specs.List.{starts_with, list_all};
 ghost use Rattle.oz_semantics.specs.Names.{is_below};
 ghost use Rattle.oz_semantics.specs.Store.{same, value_of, is_determined, is_consistent};
 ghost use Rattle.oz_semantics.specs.Configurations.{view};
-ghost use Rattle.oz_store.specs.Places.{value_told, value_place, alike, are_alike};
+ghost use Rattle.oz_store.specs.Classes.{IsPartition};
+ghost use Rattle.oz_store.specs.Places.{value_told, value_place};
 
 use crate::classes::Classes;
 use crate::closing::close_last;
-use crate::values::is_like;
 use oz_base::{Copies, Ident, Sequence};
 use oz_semantics::{Layer, Tell, Value};
 use std::alloc::{AllocError, Global};
@@ -79,6 +79,14 @@ impl Seen {
         self.tells.len()
     }
 
+    /// The classes of the variables that the tells make equal.
+    pub fn classes(&self) -> &Classes
+        ensures { IsPartition self.now result.now }
+    {
+        oz_laws::tests_same();
+        &self.classes
+    }
+
     /// Whether the tells make two variables equal.
     pub fn same(&self, left: &Ident, right: &Ident) -> bool
         ensures { result ≡ same self.now left.now right.now }
@@ -118,7 +126,7 @@ impl Seen {
     {
         oz_laws::tests_same();
         oz_laws::tests_consistent();
-        all_alike(self.tells.as_slice(), self.classes.all_values())
+        !self.classes.is_crowded()
     }
 }
 
@@ -136,44 +144,6 @@ fn value_at(tells: &[Tell], place: usize) -> Option<&Value>
         Some(Tell::Is { value, .. }) => Some(value),
         _ => None,
     }
-}
-
-/// Whether the values at two places are alike.
-fn alike(tells: &[Tell], left: usize, right: usize) -> bool
-    ensures { result ≡ alike (slice_get tells.now left) (slice_get tells.now right) }
-{
-    let Some(Tell::Is { value: v, .. }) = tells.get(left) else {
-        return false;
-    };
-    let Some(Tell::Is { value: w, .. }) = tells.get(right) else {
-        return false;
-    };
-    is_like(v, w)
-}
-
-/// Whether the values at all places are like that at the first.
-fn are_alike(tells: &[Tell], places: &[usize]) -> bool
-    ensures { result ≡ are_alike tells.now places.now }
-{
-    match places.first() {
-        None => true,
-        Some(first) => are_like(tells, *first, places),
-    }
-}
-
-/// Whether the values at all places are like that at one.
-fn are_like(tells: &[Tell], place: usize, places: &[usize]) -> bool
-    ensures { result ≡ list_all (λ q. alike (slice_get tells.now place) (slice_get tells.now q)) places.now }
-{
-    places.iter().all(|other| alike(tells, place, *other))
-}
-
-fn all_alike(tells: &[Tell], classes: &[Sequence<usize>]) -> bool
-    ensures { result ≡ list_all (are_alike tells.now) classes.now }
-{
-    classes
-        .iter()
-        .all(|places| are_alike(tells, places.as_slice()))
 }
 
 fn begins_with(whole: &[u32], front: &[u32]) -> bool

@@ -12,17 +12,13 @@ use oz_semantics::{Lexeme, Sort};
 use std::alloc::{AllocError, Global};
 
 /// Symbols and reserved words.
-static TOKENS: [&[u8]; 27] = [
-    b"==", b"\\=", b"<", b"=<", b">", b">=", b"+", b"-", b"*", b".", b"div", b"mod", b"andthen",
-    b"orelse", b"thread", b"try", b"raise", b"@", b":=", b"::", b":::", b"=:", b"\\=:", b"<:",
-    b"=<:", b">:", b">=:",
+static TOKENS: [&[u8]; 13] = [
+    b"thread", b"try", b"raise", b"@", b":=", b"::", b":::", b"=:", b"\\=:", b"<:", b"=<:", b">:",
+    b">=:",
 ];
 
 /// Variables, whether the text binds them itself or not.
-static NAMES: [&[u8]; 20] = [
-    b"Label",
-    b"Width",
-    b"Arity",
+static NAMES: [&[u8]; 17] = [
     b"Wait",
     b"NewName",
     b"NewCell",

@@ -14,7 +14,7 @@ returns-in_default c =
     let space = c.args.space.now in
     let here = c.turns.configuration in
     let may : MayTurn k space here true
-    = ap (λ (st : List Statement). goes_on st here.layers space && not (is_empty here.queue)) (sym c.as_slice-statements.ensures) ∙ sym c.may_turn.ensures ∙ c.turns-test.true in
+    = ap (λ (st : List Statement). goes_on st here.layers space && not (is_empty here.queue)) (sym c.as_slice-statements.ensures) ∙ sym c.in_ok-may_turn.ensures ∙ c.if-branch.true in
     let over = not_made (turn k here) c.turns.left here c.step.new.configuration c.in_ok-stepped.field-0 c.in_ok-stepped.ensures.turn c.in_default.not-Some in
     sym c.turns.invariant.same ∙ run_out k space here c.turns.left may over.0 ∙ ap Over (sym over.1)
 
@@ -33,7 +33,7 @@ turns-preserved c =
     let left = c.turns.left in
     let s = c.in-Some.stepped in
     let may : MayTurn k space here true
-    = ap (λ (st : List Statement). goes_on st here.layers space && not (is_empty here.queue)) (sym c.as_slice-statements.ensures) ∙ sym c.may_turn.ensures ∙ c.turns-test.true in
+    = ap (λ (st : List Statement). goes_on st here.layers space && not (is_empty here.queue)) (sym c.as_slice-statements.ensures) ∙ sym c.in_ok-may_turn.ensures ∙ c.if-branch.true in
     let turned = was_made (turn k here) left here there c.in_ok-stepped.field-0 s c.in_ok-stepped.ensures.turn c.in-Some.is in
     let within = made_within left c.in_ok-stepped.field-0 s c.in_ok-stepped.ensures.cost c.in-Some.is in
     record {
@@ -53,7 +53,7 @@ turns-smaller c =
     let left = c.turns.left in
     let s = c.in-Some.stepped in
     let may : MayTurn k space here true
-    = ap (λ (st : List Statement). goes_on st here.layers space && not (is_empty here.queue)) (sym c.as_slice-statements.ensures) ∙ sym c.may_turn.ensures ∙ c.turns-test.true in
+    = ap (λ (st : List Statement). goes_on st here.layers space && not (is_empty here.queue)) (sym c.as_slice-statements.ensures) ∙ sym c.in_ok-may_turn.ensures ∙ c.if-branch.true in
     let turned = was_made (turn k here) left here there c.in_ok-stepped.field-0 s c.in_ok-stepped.ensures.turn c.in-Some.is in
     let within = made_within left c.in_ok-stepped.field-0 s c.in_ok-stepped.ensures.cost c.in-Some.is in
     let some = turn_costs k space here there s may turned in
@@ -71,7 +71,7 @@ returns-in-TopEnded c =
     let raise = c.in-TopEnded.raise in
     let spent = c.in-TopEnded.cost in
     let may : MayTurn k space here true
-    = ap (λ (st : List Statement). goes_on st here.layers space && not (is_empty here.queue)) (sym c.as_slice-statements.ensures) ∙ sym c.may_turn.ensures ∙ c.turns-test.true in
+    = ap (λ (st : List Statement). goes_on st here.layers space && not (is_empty here.queue)) (sym c.as_slice-statements.ensures) ∙ sym c.in_ok-may_turn.ensures ∙ c.if-branch.true in
     let turned = was_made (turn k here) left here there c.in_ok-stepped.field-0 s c.in_ok-stepped.ensures.turn c.in-Some.is in
     let all : spent ≡ cost_of s = sym (ap cost_of c.in-TopEnded.is) in
     let paid : c.cost_of-left.result ≡ spent = c.cost_of-left.ensures ∙ sym all in
@@ -90,7 +90,7 @@ returns c =
     let space = c.args.space.now in
     let here = c.turns.configuration in
     let done : MayTurn k space here false
-    = ap (λ (st : List Statement). goes_on st here.layers space && not (is_empty here.queue)) (sym c.as_slice-statements.ensures) ∙ sym c.may_turn.ensures ∙ c.turns-test.false in
+    = ap (λ (st : List Statement). goes_on st here.layers space && not (is_empty here.queue)) (sym c.as_slice-statements.ensures) ∙ sym c.in_ok-may_turn.ensures ∙ c.if-branch.false in
     let within = c.turns.invariant.within in
     let left : c.turns.left ≡ c.args.fuel - (c.args.fuel - c.turns.left) = omega arith in (
       omega arith,

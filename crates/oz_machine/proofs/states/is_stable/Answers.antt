@@ -17,7 +17,7 @@ returns c =
     let held-2 : c.as_slice-2.result.now ≡ ancestor_variables layers space = c.as_slice-2.ensures.value ∙ c.in_ok-held.ensures in
     let above : c.in_ok-above.above ≡ view layers (parent_of space) = c.in_ok-above.ensures ∙ ap (λ (s : List ℕ). view layers s) c.in_ok-parent_of.ensures in
     λ quiet. c.is_apart.ensures
-    ∙ ap₂ (λ w a. not w && a) (c.waits_for-waits.ensures ∙ ap (waits_for statements layers space) held)
+    ∙ ap₂ (λ w a. not w && a) (c.in_ok-waits.ensures ∙ ap (waits_for statements layers space) held)
     (c.alike_on.ensures ∙ ap (λ (xs : List Ident). alike_on xs c.args.here.now c.in_ok-above.above) held-2
     ∙ ap₂ (λ (one other : List Tell). alike_on (ancestor_variables layers space) one other) c.requires.here above)
     ∙ stable_by _ _ _ quiet

@@ -1,15 +1,8 @@
-use Rattle.std.proofs.Common.{◌∙◌, ◌&&◌, List, rules, tests}
-use Rattle.std.proofs.lemmas.Iterator.{YieldsList-from_slice, YieldsList-from_zip}
-use Rattle.std.proofs.lemmas.Iterator.Search.{any_from_yields_List}
-use Rattle.oz_semantics.specs.Names.{is_below}
-use Rattle.oz_semantics.specs.declared.configuration.Tell.{Tell}
-use Rattle.oz_semantics.specs.declared.configuration.Layer.{Layer}
-use Rattle.oz_machine.specs.Views.{waits_by}
-use Rattle.oz_machine.proofs.Sights.{any_of_views}
+use Rattle.std.proofs.Common.{inl, inr}
+use Rattle.oz_machine.proofs.Sights.{waits_end}
 use Rattle.oz_machine.proofs.states.waits_for.Goals as goal
 
 pub returns : goal.returns
 returns c =
-    any_from_yields_List (λ (p : Layer × List Tell). is_below c.args.space.now p.0.space && waits_by c.args.statements.now c.args.held.now p.1 p.0) c.any.new.self _ _ c.any.ensures.ran
-    (YieldsList-from_zip (YieldsList-from_slice c.args.layers.now cc) (YieldsList-from_slice c.args.views.now cc)) (λ x b q k. search (rules, tests))
-    ∙ any_of_views (λ v l. is_below c.args.space.now l.space && waits_by c.args.statements.now c.args.held.now v l) _ _ c.requires
+    waits_end c.args.statements.now c.args.space.now c.args.held.now c.args.layers.now c.args.views.now c.requires c.loop-layer.layer-iterator.a.rest.now c.loop-layer.layer-iterator.b.rest.now
+    (elim c.in-None.ensures.steps [ inl h ↦ inl h.1.0 | inr h ↦ inr h.1.0 ]) c.loop-layer.invariant

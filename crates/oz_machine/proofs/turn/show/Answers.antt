@@ -9,20 +9,20 @@ use Rattle.term_text.specs.declared.terms.Text as terms
 use Rattle.oz_machine.specs.Moves.{rest_of, moved}
 use Rattle.oz_machine.specs.declared.moves.Move.TheVariants as move
 use Rattle.oz_machine.proofs.Edits.{read_at}
-use Rattle.oz_machine.proofs.Quiet.{outline, views_kept, quiet_keeps}
+use Rattle.oz_machine.proofs.Quiet.{outline, views_kept, moved_outline}
 use Rattle.oz_machine.proofs.Sights.{viewed_place}
 use Rattle.oz_machine.proofs.TextLaws.{text_as}
 use Rattle.oz_machine.proofs.TurnLaws.{shows_as, shows_over}
 use Rattle.oz_machine.proofs.turn.show.Goals as goal
 
-pub follow_quietly-requires : goal.follow_quietly-requires
-follow_quietly-requires c =
+pub follow-requires : goal.follow-requires
+follow-requires c =
     let number = c.args.id.now.number in
     let p = c.requires.planned in
     views_kept c.args.configuration.now.layers c.args.views.now c.requires.views p.first c.make_move.new.layer
     (ap outline (c.in_ok-make_move-in-Some.ensures
     ∙ ap (λ (l : Layer). without_gone (moved number move.Stays (with_frames number rest_of l))) (read_at p.first c.get_mut-layer.result.now c.get_mut-layer.ensures.value))
-    ∙ quiet_keeps number move.Stays p.layer refl)
+    ∙ moved_outline number move.Stays p.layer ∙ sym (moved_outline number move.Stays p.layer))
 
 pub returns-in-None-clause-turn : goal.returns-in-None-clause-turn
 returns-in-None-clause-turn c =

@@ -1,6 +1,6 @@
-use Rattle.oz_store.proofs.JoinLaws.{looked_at_two, joined_already, joined_now, joined_weight, on_ok}
-use Rattle.oz_store.proofs.closing.join.Goals as goal
 use Rattle.std.proofs.Common.{◌++◌, ◌∷◌, []}
+use Rattle.oz_store.proofs.JoinLaws.{looked_at_two, joined_already, left_stays, right_stays, joined_by, on_ok}
+use Rattle.oz_store.proofs.closing.join.Goals as goal
 
 pub returns-then-from-to : goal.returns-then-from-to
 returns-then-from-to c =
@@ -10,21 +10,34 @@ returns-then-from-to c =
     let l = looked_at_two c.args.tells.now c.args.classes.now c.look.new.self c.look-2.new.self a b c.in_ok-to.to c.in_ok-from.from (ps ++ (a, b) ∷ []) c.in_ok-to.ensures.table c.in_ok-to.ensures.number c.in_ok-from.ensures.table c.in_ok-from.ensures.number c.requires in
     joined_already c.args.tells.now c.args.classes.now c.look-2.new.self a b c.in_ok-to.to c.in_ok-from.from ps l c.if-from-to.true
 
-pub take_all_in-requires : goal.take_all_in-requires
-take_all_in-requires c =
+pub merge-requires : goal.merge-requires
+merge-requires c =
     let a = c.args.left.now in
     let b = c.args.right.now in
     let ps = c.args.pending.now.items in
     let l = looked_at_two c.args.tells.now c.args.classes.now c.look.new.self c.look-2.new.self a b c.in_ok-to.to c.in_ok-from.from (ps ++ (a, b) ∷ []) c.in_ok-to.ensures.table c.in_ok-to.ensures.number c.in_ok-from.ensures.table c.in_ok-from.ensures.number c.requires in
-    joined_now c.args.tells.now c.args.classes.now c.look-2.new.self c.take_values-places.new.self c.renumber.new.self a b c.in_ok-to.to c.in_ok-from.from ps c.take_values-places.result.items c.as_slice.result.now l c.if-from-to.false
-    c.take_values-places.ensures.table c.take_values-places.ensures.taken c.renumber.ensures c.as_slice.ensures.value
+    left_stays c.args.tells.now c.args.classes.now c.look-2.new.self a b c.in_ok-to.to c.in_ok-from.from ps l c.if-from-to.false
 
-pub returns : goal.returns
-returns c =
+pub merge-requires-else-size : goal.merge-requires-else-size
+merge-requires-else-size c =
     let a = c.args.left.now in
     let b = c.args.right.now in
     let ps = c.args.pending.now.items in
     let l = looked_at_two c.args.tells.now c.args.classes.now c.look.new.self c.look-2.new.self a b c.in_ok-to.to c.in_ok-from.from (ps ++ (a, b) ∷ []) c.in_ok-to.ensures.table c.in_ok-to.ensures.number c.in_ok-from.ensures.table c.in_ok-from.ensures.number c.requires in
-    on_ok c.take_all_in.result
-    (λ h. joined_weight c.args.tells.now c.args.classes.now c.look-2.new.self c.take_values-places.new.self c.renumber.new.self c.take_all_in.new.classes a b c.in_ok-to.to c.in_ok-from.from ps c.take_all_in.new.pending.items c.take_values-places.result.items c.as_slice.result.now l
-    c.take_values-places.ensures.table c.take_values-places.ensures.taken c.renumber.ensures c.as_slice.ensures.value h) c.take_all_in.ensures
+    right_stays c.args.tells.now c.args.classes.now c.look-2.new.self a b c.in_ok-to.to c.in_ok-from.from ps l c.if-from-to.false
+
+pub returns-then-size : goal.returns-then-size
+returns-then-size c =
+    let a = c.args.left.now in
+    let b = c.args.right.now in
+    let ps = c.args.pending.now.items in
+    let l = looked_at_two c.args.tells.now c.args.classes.now c.look.new.self c.look-2.new.self a b c.in_ok-to.to c.in_ok-from.from (ps ++ (a, b) ∷ []) c.in_ok-to.ensures.table c.in_ok-to.ensures.number c.in_ok-from.ensures.table c.in_ok-from.ensures.number c.requires in
+    on_ok c.merge.result (joined_by c.args.tells.now c.args.classes.now c.look-2.new.self c.merge.new.classes a b c.in_ok-to.to c.in_ok-from.from ps c.merge.new.pending.items (ps ++ (a, b) ∷ []) l) c.merge.ensures
+
+pub returns-else-size : goal.returns-else-size
+returns-else-size c =
+    let a = c.args.left.now in
+    let b = c.args.right.now in
+    let ps = c.args.pending.now.items in
+    let l = looked_at_two c.args.tells.now c.args.classes.now c.look.new.self c.look-2.new.self a b c.in_ok-to.to c.in_ok-from.from (ps ++ (a, b) ∷ []) c.in_ok-to.ensures.table c.in_ok-to.ensures.number c.in_ok-from.ensures.table c.in_ok-from.ensures.number c.requires in
+    on_ok c.merge-else-size.result (joined_by c.args.tells.now c.args.classes.now c.look-2.new.self c.merge-else-size.new.classes a b c.in_ok-to.to c.in_ok-from.from ps c.merge-else-size.new.pending.items (ps ++ (a, b) ∷ []) l) c.merge-else-size.ensures
