@@ -1,11 +1,13 @@
 -- Two workers become one, and one becomes two.
+use Rattle.oz_search.specs.Histories.{History}
+use Rattle.oz_search.specs.declared.leaf.Outcome.{Outcome}
 use Rattle.std.proofs.Common.{cond, ◌≡◌, ℕ, ◌+◌, ◌<◌, Bool, true, false, not, ◌&&◌, ◌||◌, nat_eq, List, [], ◌∷◌, ◌++◌, length, Option, Some, None, refl, ap, sym, ◌∙◌, subst, arith}
 use Rattle.std.specs.Option.{is_some, option_or}
 use Rattle.std.proofs.lemmas.List.Folds.{list_any-append}
 use mathlib.Core.List.{IsPrefix}
 use Rattle.atomic_table.specs.Seated.{TableId}
-use Rattle.oz_semantics.specs.declared.history.Entry.{Entry}
-use Rattle.oz_semantics.specs.Histories.{claim_of, own, worker_of}
+use Rattle.oz_search.specs.declared.history.Entry.{Entry}
+use Rattle.oz_search.specs.Histories.{claim_of, own, worker_of}
 use Rattle.turn_lock.specs.declared.kept.Told.{Told}
 use Rattle.turn_lock.specs.declared.kept.View.{View}
 use Rattle.turn_lock.specs.Views.{IsOnceEach, drawer, first, gave, giver, has, joined, or_zero, plus_one, telling, took}
@@ -13,7 +15,7 @@ use Rattle.turn_lock.specs.Turns as lock
 use Rattle.turn_lock.proofs.Prefixes.{first_has}
 use Rattle.node_pool.specs.declared.tree.Mark.{Mark}
 use Rattle.node_pool.specs.Workers.{IsOnlyLater, StandsForAll, IsWorker, WorkerView, claim, number, worker_view}
-use Rattle.node_pool.specs.Calls.{Enrolled, Found, Joined, in_order}
+use Rattle.node_pool.specs.Calls.{Enrolled, TurnFinds, Joined, in_order}
 use Rattle.node_pool.proofs.Turning.{same_claim}
 
 -- ---- the order
@@ -27,9 +29,9 @@ module _ {T : Type 0} (v w : WorkerView T) where
   abbrev pick : Bool → WorkerView T × WorkerView T
   pick x = cond x (w, v) (v, w)
 
-  both_found : (h : List Entry) → Found (in_order v w).0 h → Found (in_order v w).1 h → Found v h × Found w h
+  both_found : (h : History ℕ Outcome) → TurnFinds (in_order v w).0 h → TurnFinds (in_order v w).1 h → TurnFinds v h × TurnFinds w h
   both_found h a b =
-      let step : (x : Bool) → Found (pick x).0 h → Found (pick x).1 h → Found v h × Found w h = elim [ true ↦ λ c d. (d, c) | false ↦ λ c d. (c, d) ] in
+      let step : (x : Bool) → TurnFinds (pick x).0 h → TurnFinds (pick x).1 h → TurnFinds v h × TurnFinds w h = elim [ true ↦ λ c d. (d, c) | false ↦ λ c d. (c, d) ] in
       step (not (is_some (claim v)) && is_some (claim w)) a b
 
   pub first_claim : claim (in_order v w).0 ≡ option_or (claim v) (claim w)
@@ -73,7 +75,7 @@ first_of_both [] ys many = absurd (omega arith)
 first_of_both (x ∷ xs) ys many = refl
 
 -- the seats of a and b are joined, and the turn after it finds h
-pub record JoinTurn {T : Type 0} (a b s : View (Mark T) Entry) (h : List Entry) : Type 0 where
+pub record JoinTurn {T : Type 0} (a b s : View (Mark T) (Entry (List ℕ) Outcome)) (h : History ℕ Outcome) : Type 0 where
   pub is : s ≡ gave (took (joined a b) h) h
   pub many : 0 < length a.numbers
   pub once : IsOnceEach (a.numbers ++ b.numbers)
@@ -82,13 +84,13 @@ pub record JoinTurn {T : Type 0} (a b s : View (Mark T) Entry) (h : List Entry) 
   pub second_later : IsPrefix b.seen h
   pub second_same : (n : ℕ) → has n b.numbers ≡ true → own n h ≡ own n b.seen
 
-pub join_turn : {T X F : Type 0} (fixed : X → F) (entries : X → List Entry) (a b z t s : View (Mark T) Entry) (h : List Entry) → a.told ≡ [] → b.told ≡ [] → z ≡ joined a b → t ≡ took z h → s ≡ gave t h
+pub join_turn : {T X F : Type 0} (fixed : X → F) (entries : X → History ℕ Outcome) (a b z t s : View (Mark T) (Entry (List ℕ) Outcome)) (h : History ℕ Outcome) → a.told ≡ [] → b.told ≡ [] → z ≡ joined a b → t ≡ took z h → s ≡ gave t h
     → 0 < length a.numbers → IsOnceEach z.numbers → lock.AllTold fixed entries worker_of h z.told → JoinTurn a b s h
 join_turn {T} {X} {F} fixed entries a b z t s h one two e f g many once told =
-    let P : View (Mark T) Entry → Type 0 = λ y. lock.AllTold fixed entries worker_of h y.told in
-    let Q : View (Mark T) Entry → Type 0 = λ y. IsOnceEach y.numbers in
-    let R : List (Told Entry) → Type 0 = λ ts. lock.AllTold fixed entries worker_of h (ts ++ (b.told ++ telling a ∷ telling b ∷ [])) in
-    let S : List (Told Entry) → Type 0 = λ ts. lock.AllTold fixed entries worker_of h (ts ++ telling a ∷ telling b ∷ []) in
+    let P : View (Mark T) (Entry (List ℕ) Outcome) → Type 0 = λ y. lock.AllTold fixed entries worker_of h y.told in
+    let Q : View (Mark T) (Entry (List ℕ) Outcome) → Type 0 = λ y. IsOnceEach y.numbers in
+    let R : List (Told (Entry (List ℕ) Outcome)) → Type 0 = λ ts. lock.AllTold fixed entries worker_of h (ts ++ (b.told ++ telling a ∷ telling b ∷ [])) in
+    let S : List (Told (Entry (List ℕ) Outcome)) → Type 0 = λ ts. lock.AllTold fixed entries worker_of h (ts ++ telling a ∷ telling b ∷ []) in
     let all = subst S two (subst R one (subst P e told)) in record {
       is = g ∙ ap (λ y. gave y h) (f ∙ ap (λ y. took y h) e);
       many = many;
@@ -99,7 +101,7 @@ join_turn {T} {X} {F} fixed entries a b z t s h one two e f g many once told =
       second_same = all.2.1;
     }
 
-module _ {T : Type 0} (a b s : View (Mark T) Entry) (h : List Entry) (turn : JoinTurn a b s h) where
+module _ {T : Type 0} (a b s : View (Mark T) (Entry (List ℕ) Outcome)) (h : History ℕ Outcome) (turn : JoinTurn a b s h) where
   first_number : first (a.numbers ++ b.numbers) ≡ first a.numbers
   first_number = first_of_both a.numbers b.numbers turn.many
 
@@ -109,7 +111,7 @@ module _ {T : Type 0} (a b s : View (Mark T) Entry) (h : List Entry) (turn : Joi
 
   pub joined_is_worker : (m n : ℕ) (d e x : Option ℕ) (c k : Bool) → IsWorker a n d c → IsWorker b m e k → x ≡ option_or d e → IsWorker s n x c
   joined_is_worker m n d e x c k one two or =
-      let P : View (Mark T) Entry → Type 0 = λ z. IsWorker z n x c in
+      let P : View (Mark T) (Entry (List ℕ) Outcome) → Type 0 = λ z. IsWorker z n x c in
       subst P (sym turn.is) (record {
         named = one.named ∙ sym first_number;
         draws = or ∙ (λ i. option_or (one.draws i) (two.draws i));
@@ -126,9 +128,9 @@ module _ {T : Type 0} (a b s : View (Mark T) Entry) (h : List Entry) (turn : Joi
 
     pub joined_worker : Joined v w (worker_view o s)
     joined_worker =
-        let P : WorkerView T → Type 0 = λ z. Found z h in
+        let P : WorkerView T → Type 0 = λ z. TurnFinds z h in
         let both = both_found v w h (subst P first_view (record { later = turn.first_later; own_same = turn.first_same })) (subst P second_view (record { later = turn.second_later; own_same = turn.second_same })) in
-        let Q : View (Mark T) Entry → Type 0 = λ z. Joined v w (worker_view o z) in
+        let Q : View (Mark T) (Entry (List ℕ) Outcome) → Type 0 = λ z. Joined v w (worker_view o z) in
         subst Q (sym turn.is) (record {
           first = both.0;
           second = both.1;
@@ -140,11 +142,11 @@ module _ {T : Type 0} (a b s : View (Mark T) Entry) (h : List Entry) (turn : Joi
 
     pub joined_claim : claim (worker_view o s) ≡ option_or (claim v) (claim w)
     joined_claim =
-        let Q : View (Mark T) Entry → Type 0 = λ z. claim (worker_view o z) ≡ option_or (claim v) (claim w) in
+        let Q : View (Mark T) (Entry (List ℕ) Outcome) → Type 0 = λ z. claim (worker_view o z) ≡ option_or (claim v) (claim w) in
         subst Q (sym turn.is) (kept_claim ∙ (ap (λ (z : WorkerView T). claim z) first_view ∙ first_claim v w))
 
 -- ---- an enrolment
-module _ {T : Type 0} (v t s u x : View (Mark T) Entry) (h : List Entry) (n k : ℕ) (d : Option ℕ) (c : Bool) (was : IsWorker v n d c) (draws : d ≡ Some k) (took_is : t ≡ took v h) (gave_is : s ≡ gave t h)
+module _ {T : Type 0} (v t s u x : View (Mark T) (Entry (List ℕ) Outcome)) (h : History ℕ Outcome) (n k : ℕ) (d : Option ℕ) (c : Bool) (was : IsWorker v n d c) (draws : d ≡ Some k) (took_is : t ≡ took v h) (gave_is : s ≡ gave t h)
     (giver_is : u ≡ giver s) (drawer_is : x ≡ drawer s) where
   seat_is : s ≡ gave (took v h) h
   seat_is = gave_is ∙ ap (λ z. gave z h) took_is
@@ -154,7 +156,7 @@ module _ {T : Type 0} (v t s u x : View (Mark T) Entry) (h : List Entry) (n k : 
 
   pub giver_is_worker : c ≡ is_some (claim_of h n) → IsWorker u n (Some (k + 1)) c
   giver_is_worker now =
-      let P : View (Mark T) Entry → Type 0 = λ z. IsWorker z n (Some (k + 1)) c in
+      let P : View (Mark T) (Entry (List ℕ) Outcome) → Type 0 = λ z. IsWorker z n (Some (k + 1)) c in
       subst P (sym (giver_is ∙ ap giver seat_is)) (record {
         named = was.named;
         draws = ap plus_one (sym drew);
@@ -167,7 +169,7 @@ module _ {T : Type 0} (v t s u x : View (Mark T) Entry) (h : List Entry) (n k : 
 
   pub newcomer_is_worker : own k h ≡ [] → IsWorker x k None false
   newcomer_is_worker none =
-      let P : View (Mark T) Entry → Type 0 = λ z. IsWorker z k None false in
+      let P : View (Mark T) (Entry (List ℕ) Outcome) → Type 0 = λ z. IsWorker z k None false in
       subst P (sym (drawer_is ∙ ap drawer seat_is)) (record {
         named = number_is;
         draws = refl;
@@ -175,7 +177,7 @@ module _ {T : Type 0} (v t s u x : View (Mark T) Entry) (h : List Entry) (n k : 
         claims = ap is_some (sym (same_claim k h [] none)) ∙ ap (λ m. is_some (claim_of h m)) number_is;
       })
 
-  module _ (l m o : TableId) (w : WorkerView T) (is : worker_view l v ≡ w) (same : m ≡ l) (again : o ≡ l) (found : Found w h) where
+  module _ (l m o : TableId) (w : WorkerView T) (is : worker_view l v ≡ w) (same : m ≡ l) (again : o ≡ l) (found : TurnFinds w h) where
     pub enrolled : Enrolled w (worker_view m u) (worker_view o x)
     enrolled = record {
       h = h;
@@ -188,12 +190,12 @@ module _ {T : Type 0} (v t s u x : View (Mark T) Entry) (h : List Entry) (n k : 
 
     pub giver_claim : claim_of h (number w) ≡ claim w → claim (worker_view m u) ≡ claim w
     giver_claim now =
-        let P : View (Mark T) Entry → Type 0 = λ z. claim (worker_view m z) ≡ claim w in
+        let P : View (Mark T) (Entry (List ℕ) Outcome) → Type 0 = λ z. claim (worker_view m z) ≡ claim w in
         subst P (sym (giver_is ∙ ap giver seat_is)) (ap (λ (z : WorkerView T). claim_of h (number z)) is ∙ now)
 
     pub newcomer_claim : own k h ≡ [] → claim (worker_view o x) ≡ None
     newcomer_claim none =
-        let P : View (Mark T) Entry → Type 0 = λ z. claim (worker_view o z) ≡ None in
+        let P : View (Mark T) (Entry (List ℕ) Outcome) → Type 0 = λ z. claim (worker_view o z) ≡ None in
         subst P (sym (drawer_is ∙ ap drawer seat_is)) (ap (claim_of h) (sym number_is) ∙ same_claim k h [] none)
 
 -- ---- for callers

@@ -1,10 +1,12 @@
 -- What a worker's turn finds, and what it leaves.
+use Rattle.oz_search.specs.Histories.{History}
+use Rattle.oz_search.specs.declared.leaf.Outcome.{Outcome}
 use Rattle.std.specs.Prelude.{◌≡◌, ℕ, ◌+◌, true, not, ◌&&◌, ◌||◌, List, [], ◌∷◌, ◌++◌, Option, Some, None, Result, Ok, Err, MatchResult, if◌then◌else◌}
 use Rattle.std.specs.Option.{option_or, is_some}
 use mathlib.Core.List.{IsPrefix}
-use Rattle.oz_semantics.specs.declared.history.Entry.{Entry}
-use Rattle.oz_semantics.specs.declared.history.StopCause.{StopCause}
-use Rattle.oz_semantics.specs.Histories.{own}
+use Rattle.oz_search.specs.declared.history.Entry.{Entry}
+use Rattle.oz_search.specs.declared.history.StopCause.{StopCause}
+use Rattle.oz_search.specs.Histories.{own}
 use Rattle.pool_state.specs.declared.pool.Claimed.{Claimed}
 use Rattle.pool_state.specs.declared.pool.Claimed.TheVariants as claimed
 use Rattle.pool_state.specs.declared.pool.Settled.{Settled}
@@ -37,26 +39,26 @@ claim_left c (Err e) = c
 
 module _ {T : Type 0} where
   -- the worker's turn finds h: it begins with what the worker had seen, and has no entry more of its numbers
-  pub record Found (w : WorkerView T) (h : List Entry) : Type 0 where
+  pub record TurnFinds (w : WorkerView T) (h : History ℕ Outcome) : Type 0 where
     pub later : IsPrefix w.seen h
     pub own_same : (n : ℕ) → has n w.numbers ≡ true → own n h ≡ own n w.seen
 
   -- the answer to a claim is that of the pool at the history that the turn found. After an error nothing has changed
   abbrev pub ClaimTurn : {E : Type 0} → WorkerView T → Result Claimed E → WorkerView T → Type 0
-  ClaimTurn w r u = (h : List Entry) × Found w h × MatchResult r (λ a. AnswersClaim h (number w) a u.seen) (λ _. u.seen ≡ h)
+  ClaimTurn w r u = (h : History ℕ Outcome) × TurnFinds w h × MatchResult r (λ a. AnswersClaim h (number w) a u.seen) (λ _. u.seen ≡ h)
 
   -- the same of a split or a leaf with these steps and this entry
-  abbrev pub SettleTurn : {E : Type 0} → ℕ → ℕ → Entry → WorkerView T → Result Settled E → WorkerView T → Type 0
-  SettleTurn budget steps e w r u = (h : List Entry) × Found w h × MatchResult r (λ a. AnswersSettle budget h (number w) steps e a u.seen) (λ _. u.seen ≡ h)
+  abbrev pub SettleTurn : {E : Type 0} → ℕ → ℕ → Entry (List ℕ) Outcome → WorkerView T → Result Settled E → WorkerView T → Type 0
+  SettleTurn budget steps e w r u = (h : History ℕ Outcome) × TurnFinds w h × MatchResult r (λ a. AnswersSettle budget h (number w) steps e a u.seen) (λ _. u.seen ≡ h)
 
   -- the worker stops for this cause, unless somebody has stopped before
   abbrev pub StopTurn : StopCause → WorkerView T → WorkerView T → Type 0
-  StopTurn cause w u = (h : List Entry) × Found w h × (u.seen ≡ after_stop h (halt (number w) cause))
+  StopTurn cause w u = (h : History ℕ Outcome) × TurnFinds w h × (u.seen ≡ after_stop h (halt (number w) cause))
 
   -- a second worker has the next number k. Both have seen what the turn found
   pub record Enrolled (w u x : WorkerView T) : Type 0 where
-    pub h : List Entry
-    pub found : Found w h
+    pub h : History ℕ Outcome
+    pub found : TurnFinds w h
     pub k : ℕ
     pub drew : w.drawn ≡ Some k
     pub giver : u ≡ record w { seen = h; drawn = Some (k + 1) }
@@ -69,8 +71,8 @@ module _ {T : Type 0} where
   -- u stands for the numbers of v and w, and has seen what the turn found: it begins with what each had seen, and has no entry more of the numbers of either.
   -- Its number is that of v, unless w alone has a claim out. No number is of both
   pub record Joined (v w u : WorkerView T) : Type 0 where
-    pub first : Found v u.seen
-    pub second : Found w u.seen
+    pub first : TurnFinds v u.seen
+    pub second : TurnFinds w u.seen
     pub stands : (n : ℕ) → has n u.numbers ≡ (has n v.numbers || has n w.numbers)
     pub numbers : u.numbers ≡ (in_order v w).0.numbers ++ (in_order v w).1.numbers
     pub drawn : u.drawn ≡ option_or (in_order v w).0.drawn (in_order v w).1.drawn

@@ -1,14 +1,17 @@
 -- What contracts see of a shared pool and of its workers.
+use Rattle.oz_search.specs.Histories.{History}
+use Rattle.oz_search.specs.declared.leaf.Outcome.{Outcome}
 use Rattle.std.specs.Prelude.{◌≡◌, ◌<◌, ℕ, Bool, true, List, [], ◌∷◌, Option, Some}
 use Rattle.std.specs.Option.{is_some}
 use Rattle.atomic_table.specs.Seated.{TableId}
-use Rattle.oz_semantics.specs.declared.history.Entry.{Entry}
-use Rattle.oz_semantics.specs.Histories.{claim_of}
+use Rattle.oz_search.specs.declared.history.Entry.{Entry}
+use Rattle.oz_search.specs.Histories.{claim_of}
 use Rattle.turn_lock.specs.declared.kept.View.{View}
 use Rattle.turn_lock.specs.Views.{first, has}
 use Rattle.node_pool.specs.declared.tree.Mark.{Mark}
 
 module _ {T : Type 0} where
+  -- what never changes of a pool with this tag and budget
   abbrev pub mark : T → ℕ → Mark T
   mark x b = record { tag = x; budget = b }
 
@@ -23,7 +26,7 @@ pub record WorkerView (T : Type 0) : Type 0 where
   pub lock : TableId
   pub mark : Option (Mark T)
   pub numbers : List ℕ
-  pub seen : List Entry
+  pub seen : History ℕ Outcome
   pub drawn : Option ℕ
 
 module _ {T : Type 0} where
@@ -44,7 +47,7 @@ module _ {T : Type 0} where
   first_worker p = record { lock = p.lock; mark = Some (mark p.tag p.budget); numbers = 0 ∷ []; seen = []; drawn = Some 1 }
 
   -- the same worker, with the history h seen
-  abbrev pub at_history : WorkerView T → List Entry → WorkerView T
+  abbrev pub at_history : WorkerView T → History ℕ Outcome → WorkerView T
   at_history w h = record w { seen = h }
 
   -- of the worker only what it has seen is another
@@ -55,11 +58,12 @@ module _ {T : Type 0} where
   abbrev pub StandsForAll : WorkerView T → Type 0
   StandsForAll w = (k : ℕ) × (w.drawn ≡ Some k) × ((n : ℕ) → n < k → has n w.numbers ≡ true)
 
-  abbrev pub worker_view : TableId → View (Mark T) Entry → WorkerView T
+  -- the worker with the seat of this view, under the lock l
+  abbrev pub worker_view : TableId → View (Mark T) (Entry (List ℕ) Outcome) → WorkerView T
   worker_view l v = record { lock = l; mark = v.fixed; numbers = v.numbers; seen = v.seen; drawn = v.drawn }
 
   -- what a worker keeps beside its seat
-  pub record IsWorker (v : View (Mark T) Entry) (number : ℕ) (drawn : Option ℕ) (has_claim : Bool) : Type 0 where
+  pub record IsWorker (v : View (Mark T) (Entry (List ℕ) Outcome)) (number : ℕ) (drawn : Option ℕ) (has_claim : Bool) : Type 0 where
     pub named : number ≡ first v.numbers
     pub draws : drawn ≡ v.drawn
     pub alone : v.told ≡ []

@@ -1,12 +1,14 @@
 -- The open paths, as runs of siblings: the first one, and the number of the last.
+use Rattle.oz_search.specs.Plain.{outcomes}
 use Rattle.std.specs.Prelude.{◌≡◌, ℕ, ◌+◌, ◌≤◌, ◌==◌, Bool, true, false, ◌&&◌, List, [], ◌∷◌, ◌++◌}
 use Rattle.std.specs.List.{list_all, count_by, All}
 use Rattle.std.specs.Map.{keys_of}
 use Rattle.std.specs.declared.cmp.Ordering.TheVariants.{Less}
 use Rattle.std.specs.Ordering.{is_gt}
 use lib.Dec.{leb}
-use Rattle.oz_semantics.specs.Paths.{path_cmp, same_path, is_child}
-use Rattle.pool_law.specs.Counting.{one_if}
+use Rattle.oz_base.specs.Paths.{path_cmp, same_path}
+use Rattle.oz_search.specs.Paths.{is_child}
+use Rattle.search_law.specs.Counting.{one_if}
 
 -- p is k or a later sibling of it, up to the number n. The root stands alone, with the number 0
 abbrev pub covers : List ℕ → List ℕ → ℕ → Bool
@@ -18,6 +20,7 @@ covers (x ∷ []) (y ∷ z ∷ k) n = false
 covers (x ∷ w ∷ p) (y ∷ []) n = false
 covers (x ∷ w ∷ p) (y ∷ z ∷ k) n = (x == y) && covers (w ∷ p) (z ∷ k) n
 
+-- p is in the run
 abbrev pub in_run : List ℕ → List ℕ × ℕ → Bool
 in_run p e = covers p e.0 e.1
 
@@ -29,6 +32,7 @@ runs_with p es = count_by (in_run p) es
 abbrev pub starts : List ℕ × ℕ → Bool
 starts e = in_run e.0 e
 
+-- n runs have p
 abbrev pub IsCovered : List (List ℕ × ℕ) → List ℕ → ℕ → Type 0
 IsCovered es p n = runs_with p es ≡ n
 
@@ -36,6 +40,7 @@ IsCovered es p n = runs_with p es ≡ n
 abbrev pub IsFrontier : List (List ℕ × ℕ) → Type 0
 IsFrontier es = (list_all starts es ≡ true) × ((p : List ℕ) → runs_with p es ≤ 1)
 
+-- p with its first alternative
 abbrev pub first_child : List ℕ → List ℕ
 first_child p = p ++ 1 ∷ []
 
@@ -52,5 +57,5 @@ pub record TakesLeftmost (es : List (List ℕ × ℕ)) (p : List ℕ) (fs : List
 
 -- the children of p are there besides
 pub record Opens (es : List (List ℕ × ℕ)) (p : List ℕ) (n : ℕ) (fs : List (List ℕ × ℕ)) : Type 0 where
-  pub children : (q : List ℕ) → runs_with q fs ≡ runs_with q es + one_if (is_child p n q)
+  pub children : (q : List ℕ) → runs_with q fs ≡ runs_with q es + one_if (is_child outcomes p n q)
   pub own : list_all starts fs ≡ true

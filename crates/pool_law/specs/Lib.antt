@@ -1,4 +1,0 @@
-pub mod Counting
-pub mod Places
-pub mod Law
-pub mod Example
