@@ -7,7 +7,7 @@ set -u
 unset RT_BACKEND CDPATH
 
 say() {
-    printf 'oz: %s\n' "$1" >&2
+    printf 'oz: %s\n' "$*" >&2
 }
 
 fail() {
@@ -15,7 +15,8 @@ fail() {
     exit 125
 }
 
-# The crates that the program stands on, and itself, in the order of crates.txt, which has each behind those that it uses.
+# The crates that the program stands on, and itself, each behind its level: 0 where it uses none of the others, else one more than the
+# highest of those that it uses.
 crates() {
     awk '
         NF && !/^#/ {
@@ -24,35 +25,42 @@ crates() {
             name[++count] = head[1]
             uses[head[1]] = halves[2]
         }
-        END {
-            is_used["oz"] = 1
-            for (i = count; i > 0; i--)
-                if (name[i] in is_used) {
-                    many = split(uses[name[i]], used, " ")
-                    for (j = 1; j <= many; j++) is_used[used[j]] = 1
+        function level(crate,    many, used, j, below, most) {
+            if (crate in known) return known[crate]
+            most = -1
+            many = split(uses[crate], used, " ")
+            for (j = 1; j <= many; j++)
+                if (used[j] in uses) {
+                    below = level(used[j])
+                    if (below > most) most = below
                 }
+            return known[crate] = most + 1
+        }
+        END {
+            level("oz")
             for (i = 1; i <= count; i++)
-                if (name[i] in is_used) print name[i]
+                if (name[i] in known) print known[name[i]], name[i]
         }
     ' "$top/crates.txt"
 }
 
-# Proves each library, and then the program, which is tried on the smallest text.
+# Proves each library, those of one level side by side, and then the program, which is tried on the smallest text.
 build() {
     command -v rt >/dev/null 2>&1 ||
         fail 'the program is not built, or its sources have changed, and the command rt of the Rattle toolchain, which proves and builds it, is not on PATH'
-    names=$(crates)
-    total=0
-    for name in $names; do total=$((total + 1)); done
+    list=$(crates)
+    total=$(printf '%s\n' "$list" | wc -l)
     say "the program is not built for these sources: proving and building $total crates, which takes minutes the first time"
-    number=0
-    for name in $names; do
-        [ -f "$top/crates/$name/src/main.rt" ] && continue
-        number=$((number + 1))
-        say "crate $number of $total: $name"
-        (cd "$top/crates/$name" && rt lib) </dev/null >&2 || fail "$name was not proved, so nothing was built"
+    done=0
+    for level in $(printf '%s\n' "$list" | cut -d ' ' -f 1 | sort -nu); do
+        names=$(printf '%s\n' "$list" | awk -v level="$level" '$1 == level && $2 != "oz" { print $2 }')
+        [ -n "$names" ] || continue
+        say "$done of $total done; now:" $names
+        printf '%s\n' $names | xargs -P "$(getconf _NPROCESSORS_ONLN)" -I NAME sh -c 'cd "$1/crates/NAME" && rt lib </dev/null >&2' sh "$top" ||
+            fail 'a crate was not proved, so nothing was built'
+        done=$((done + $(printf '%s\n' "$names" | wc -l)))
     done
-    say "crate $total of $total: oz"
+    say "$done of $total done; now: oz"
     (cd "$top/crates/oz" && echo 'proc {Script R} choice fail end end' | rt run -- all) >/dev/null ||
         fail 'oz was not proved, or could not be built'
     [ "$("$top/.ci/stamp")" = "$stamp" ] || fail 'the sources were changed meanwhile: run this again'

@@ -9,7 +9,7 @@ use Rattle.clap.specs.Simple.{built_leaf, filled, inherited}
 use Rattle.clap.specs.Faults.{repeat_fault, use_fault, values_fault}
 use Rattle.clap.specs.Kinds.{or_else}
 use Rattle.clap.specs.declared.error.ErrorKind.TheVariants.{InvalidValue}
-use Rattle.oz_semantics.specs.Commands.{OptionName, Verb, all, run, kernel, workers, budget, takes}
+use Rattle.oz_language.specs.Commands.{OptionName, Verb, all, run, kernel, workers, budget, takes}
 use Rattle.command_line.specs.Table.{all_app, id_of, kernel_app, option_rule, oz_start, run_app}
 
 abbrev pub rule_for : OptionName → Rule

@@ -13,7 +13,7 @@ use Rattle.clap.specs.Walk.{row_text}
 use Rattle.clap.specs.declared.parser.matches.ArgMatches.{ArgMatches}
 use Rattle.clap.specs.declared.parser.matches.ArgMatches.TheViews.{out-ArgMatches, out-SubCommand}
 use Rattle.clap.specs.declared.parser.matches.SubCommand.{SubCommand}
-use Rattle.oz_semantics.specs.Commands.{Given, OptionName, Verb, all, run, kernel, workers, budget, default, fit, is_number, most, same_name, takes, value_in, verb_word}
+use Rattle.oz_language.specs.Commands.{Given, OptionName, Verb, all, run, kernel, workers, budget, default, fit, is_number, most, same_name, takes, value_in, verb_word}
 use Rattle.command_line.specs.Reading.{number_in, verb_of}
 use Rattle.command_line.specs.Table.{id_of, row_for, rows_for}
 use Rattle.command_line.proofs.Uses.{has_plus, ids_same, most_fits, no_plus}

@@ -8,7 +8,7 @@ use Rattle.std.specs.Char.{is_digit}
 use Rattle.std.specs.List.{list_any, list_all, before_first, after_first}
 use Rattle.std.specs.Str.{bytes_eq}
 use Rattle.clap.specs.Words.{Text}
-use Rattle.oz_semantics.specs.Commands.{Given, OptionName, Verb, Word, all, run, kernel, workers, budget, command_by, fit, is_number, takes, verb_word}
+use Rattle.oz_language.specs.Commands.{Given, OptionName, Verb, Word, all, run, kernel, workers, budget, command_by, fit, is_number, takes, verb_word}
 use Rattle.command_line.specs.Reading.{apart, command_of, is_given, is_odd, joined, option_name, option_read, options_of, value_part, verb_of, with_option}
 use Rattle.command_line.proofs.WordKinds.{NoNumber, before_cons, after_cons, dead, hyphen_no_number}
 use Rattle.command_line.proofs.Uses.{has_plus}

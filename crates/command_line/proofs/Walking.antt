@@ -5,7 +5,7 @@ use Rattle.clap.specs.Words.{Row, Text}
 use Rattle.clap.specs.Walk.{Held, Walk, finished, settled, walked, with_default}
 use Rattle.clap.specs.Faults.{check_fault, defaults_fault, settle_fault, turn_fault, walk_fault}
 use Rattle.clap.specs.Kinds.{Kinds, or_else}
-use Rattle.oz_semantics.specs.Commands.{Given, Verb, all, run, kernel}
+use Rattle.oz_language.specs.Commands.{Given, Verb, all, run, kernel}
 use Rattle.command_line.specs.Table.{rows_for}
 use Rattle.command_line.proofs.Leaf.{leaf, rules_for}
 

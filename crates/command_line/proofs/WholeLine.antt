@@ -11,8 +11,8 @@ use Rattle.clap.specs.Faults.{check_fault, defaults_fault, entered_fault, settle
 use Rattle.clap.specs.Kinds.{Kinds, or_else}
 use Rattle.clap.specs.declared.error.ErrorKind.TheVariants.{InvalidSubcommand, MissingSubcommand, UnknownArgument}
 use Rattle.clap.proofs.FaultLemmas.{stopped_fault}
-use Rattle.oz_semantics.specs.declared.command.Command.{Command}
-use Rattle.oz_semantics.specs.Commands.{Given, Verb, Word, all, run, kernel, command_by, verb_word}
+use Rattle.oz_language.specs.declared.command.Command.{Command}
+use Rattle.oz_language.specs.Commands.{Given, Verb, Word, all, run, kernel, command_by, verb_word}
 use Rattle.command_line.specs.Reading.{command_of, is_odd, options_of, verb_of}
 use Rattle.command_line.specs.Table.{IsFound, oz_app}
 use Rattle.command_line.proofs.WordKinds.{Kind, long, short, plain, classify}

@@ -4,8 +4,8 @@ use Rattle.std.specs.Prelude.{true, false}
 use Rattle.std.specs.List.{list_any, before_first, after_first}
 use Rattle.std.specs.Str.{bytes_eq}
 use Rattle.std.specs.Str.Parse.{digits_value}
-use Rattle.oz_semantics.specs.declared.command.Command.{Command}
-use Rattle.oz_semantics.specs.Commands.{Given, OptionName, Verb, Word, all, run, kernel, workers, budget, command_by, is_number, option_word, same_name, takes, verb_word}
+use Rattle.oz_language.specs.declared.command.Command.{Command}
+use Rattle.oz_language.specs.Commands.{Given, OptionName, Verb, Word, all, run, kernel, workers, budget, command_by, is_number, option_word, same_name, takes, verb_word}
 
 abbrev pub verb_of : Word → Option Verb
 verb_of word =

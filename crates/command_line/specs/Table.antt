@@ -4,7 +4,7 @@ use Rattle.clap.specs.Words.{App, Row, Rule, Text, new_app, new_rule, with_rule,
 use Rattle.clap.specs.declared.builder.value_parser.ValueParser.TheVariants as parser
 use Rattle.clap.specs.declared.builder.value_parser.Reading.TheVariants as reading
 use Rattle.clap.specs.declared.parser.matches.ValueSource.TheVariants.{CommandLine}
-use Rattle.oz_semantics.specs.Commands.{Given, OptionName, Verb, all, run, kernel, workers, budget, fit, most, verb_word}
+use Rattle.oz_language.specs.Commands.{Given, OptionName, Verb, all, run, kernel, workers, budget, fit, most, verb_word}
 
 -- an option by the name that clap has for it, without the hyphens
 abbrev pub id_of : OptionName → Text

@@ -3,7 +3,7 @@
 ghost use Rattle.std.specs.Prelude.{◌≡◌, IfOk, false};
 ghost use Rattle.clap.specs.Words.{app_of, rule_of};
 ghost use Rattle.clap.specs.declared.builder.Command.TheViews.{out-Command as fields_of};
-ghost use Rattle.oz_semantics.specs.Commands.{workers, budget};
+ghost use Rattle.oz_language.specs.Commands.{workers, budget};
 ghost use Rattle.command_line.specs.Table.{all_app, kernel_app, option_rule, oz_app, oz_start, run_app};
 
 use clap::{Arg, Command, value_parser};

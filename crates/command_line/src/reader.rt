@@ -4,14 +4,14 @@ ghost use Rattle.std.specs.Prelude.{◌≡◌, IfOk, IfSome, List, Some, true, m
 ghost use Rattle.std.specs.String.{string_bytes};
 ghost use Rattle.std.specs.List.{list_any};
 ghost use Rattle.clap.specs.Words.{found_of, rows_of, subcommand_rows_of};
-ghost use Rattle.oz_semantics.specs.Commands.{Given, IsSpelled, OptionName, Spells, Verb, command_by, fit};
+ghost use Rattle.oz_language.specs.Commands.{Given, IsSpelled, OptionName, Spells, Verb, command_by, fit};
 ghost use Rattle.command_line.specs.Table.{IsFound, id_of, rows_for};
 ghost use Rattle.command_line.specs.Reading.{command_of, is_odd, number_in};
 
 use crate::commands::program;
 use clap::ArgMatches;
 use clap::error::ErrorKind;
-use oz_semantics::Command;
+use oz_language::Command;
 use std::alloc::{AllocError, Global};
 
 /// Whether clap may take the word and no command has it: a bare `--`, or a word with a plus sign.

@@ -1,5 +1,5 @@
 use super::*;
-use oz_semantics::Command;
+use oz_language::Command;
 use std::alloc::Global;
 use std::test::Fail;
 

@@ -1,13 +1,13 @@
 -- The fields of a record one after the other make up its text.
 use Rattle.std.proofs.Common.{◌≡◌, ◌∙◌, ℕ, suc, Bool, true, false, not, ◌||◌, if◌then◌else◌, List, [], ◌∷◌, ◌++◌, length, map, codes, pos, ap, refl, sym, arith}
 use Rattle.std.proofs.lemmas.List.{append_assoc, append-nil}
-use Rattle.oz_semantics.specs.Values.{constant_eq}
-use Rattle.oz_semantics.specs.Texts.{constant_text, literal_text, fields_text, gapped, joined, enclosed, bar_texts, hash_texts, is_chain, is_bars, text_as}
-use Rattle.oz_semantics.specs.declared.kernel.Constant.{Constant}
-use Rattle.oz_semantics.specs.declared.kernel.Constant.TheVariants as constant
-use Rattle.oz_semantics.specs.declared.token.Literal.{Literal}
-use Rattle.oz_semantics.specs.declared.text.Form.{Form}
-use Rattle.oz_semantics.specs.declared.text.Form.TheVariants as form
+use Rattle.oz_language.specs.Constants.{constant_eq}
+use Rattle.oz_language.specs.SimpleTexts.{constant_text, literal_text, fields_text, gapped, joined, enclosed, bar_texts, hash_texts, is_chain, is_bars, text_as}
+use Rattle.oz_language.specs.declared.kernel.Constant.{Constant}
+use Rattle.oz_language.specs.declared.kernel.Constant.TheVariants as constant
+use Rattle.oz_language.specs.declared.token.Literal.{Literal}
+use Rattle.oz_language.specs.declared.text.Form.{Form}
+use Rattle.oz_language.specs.declared.text.Form.TheVariants as form
 use Rattle.simple_text.specs.Keys.{key_text, next_after}
 use Rattle.kernel_form.specs.Fields.{Rest, lead_before, passed_to, encloses, end_text, opening_text, just_opened}
 

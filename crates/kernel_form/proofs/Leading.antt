@@ -1,12 +1,12 @@
 -- Each step keeps what is printed and what is left together the text.
 use Rattle.std.proofs.Common.{◌≡◌, ◌∙◌, ℕ, suc, ◌+◌, List, [], ◌∷◌, ◌++◌, Option, Some, map, codes, slice_get, ap, refl, sym, subst}
 use Rattle.std.proofs.lemmas.List.{append_assoc, append-nil}
-use Rattle.oz_semantics.specs.Kernels.{Stmt, skip, fail, local, equate, bind, bind_record, bind_procedure, call, choice, test, matching, no_match, apply, thread, attempt, raise, post, post_times, Stmts, none, followed, Bodies, no_body, body, inside, count, statement_at, listed_inside, listed_all, numbers, numbered}
-use Rattle.oz_semantics.specs.KernelTexts.{kernel_text, statement_text, statement_texts, body_texts, name_text, spaced, pattern_text}
-use Rattle.oz_semantics.specs.Texts.{gapped, joined}
-use Rattle.oz_semantics.specs.declared.kernel.Name.{Name}
-use Rattle.oz_semantics.specs.declared.kernel.Statement.{Statement}
-use Rattle.oz_semantics.specs.declared.kernel.Kernel.{Kernel}
+use Rattle.oz_language.specs.Kernels.{Stmt, skip, fail, local, equate, bind, bind_record, bind_procedure, call, choice, test, matching, no_match, operate, thread, attempt, raise, post, post_times, Stmts, none, followed, Bodies, no_body, body, inside, count, statement_at, listed_inside, listed_all, numbers, numbered}
+use Rattle.oz_language.specs.KernelTexts.{kernel_text, statement_text, statement_texts, body_texts, name_text, spaced, pattern_text}
+use Rattle.oz_language.specs.SimpleTexts.{gapped, joined}
+use Rattle.oz_language.specs.declared.kernel.Identifier.{Identifier}
+use Rattle.oz_language.specs.declared.kernel.Statement.{Statement}
+use Rattle.oz_language.specs.declared.kernel.Kernel.{Kernel}
 use Rattle.kernel_form.specs.declared.entries.Entry.{Entry}
 use Rattle.kernel_form.specs.Whole.{IsWhole, AreWhole}
 use Rattle.kernel_form.specs.Entries.{Left, lined, left_of, catch_text, printed_now, found_in, left_behind}
@@ -124,7 +124,7 @@ left_before (choice bs) n ts = refl
 left_before (test x ss us) n ts = refl
 left_before (matching x p ss us) n ts = refl
 left_before no_match n ts = refl
-left_before (apply op xs) n ts = refl
+left_before (operate op xs) n ts = refl
 left_before (thread ss) n ts = refl
 left_before (attempt ss x us) n ts = refl
 left_before (raise x) n ts = refl
@@ -144,7 +144,7 @@ fit_before all (choice bs) n ts h w fs = ((h, w), (tt, fs))
 fit_before all (test x ss us) n ts h w fs = let parts = split_two all ss us n h in ((parts.0, w.0), (tt, ((parts.1, w.1), (tt, fs))))
 fit_before all (matching x p ss us) n ts h w fs = let parts = split_two all ss us n h in ((parts.0, w.1.0), (tt, ((parts.1, w.1.1), (tt, fs))))
 fit_before all no_match n ts h w fs = fs
-fit_before all (apply op xs) n ts h w fs = fs
+fit_before all (operate op xs) n ts h w fs = fs
 fit_before all (thread ss) n ts h w fs = ((h, w), (tt, fs))
 fit_before all (attempt ss x us) n ts h w fs = let parts = split_two all ss us n h in ((parts.0, w.0), (tt, ((parts.1, w.1), (tt, fs))))
 fit_before all (raise x) n ts h w fs = fs
@@ -176,7 +176,7 @@ attempt_law : (head text before name behind other ending after : List ℕ)
     → head ++ (text ++ ((before ++ name ++ behind) ++ (other ++ (ending ++ after)))) ≡ (head ++ text ++ before ++ name ++ behind ++ other ++ ending) ++ after
 attempt_law head text before name behind other ending after = simp append_assoc
 
-with_handler : (words : List (List ℕ)) (x : Name) (ss us : Stmts) (after : List ℕ)
+with_handler : (words : List (List ℕ)) (x : Identifier) (ss us : Stmts) (after : List ℕ)
     → codes "try " ++ (led_by [] (codes " ") (statement_texts words ss) ++ (catch_text words x ++ (led_by [] (codes " ") (statement_texts words us) ++ (codes " end" ++ after))))
     ≡ (codes "try " ++ spaced (statement_texts words ss) ++ codes " catch " ++ name_text words x ++ codes " then " ++ spaced (statement_texts words us) ++ codes " end") ++ after
 with_handler words x ss us after =
@@ -198,7 +198,7 @@ text_before words (matching x p ss us) n ts w =
     ap (λ t. (codes "case " ++ name_text words x ++ codes " of " ++ t ++ codes " then ") ++ trees_text words (trees_before n (matching x p ss us) ts)) (whole_pattern words p w.0)
     ∙ with_branches words (codes "case " ++ name_text words x ++ codes " of " ++ (pattern_text words p).1 ++ codes " then ") ss us (trees_text words ts)
 text_before words no_match n ts w = refl
-text_before words (apply op xs) n ts w = refl
+text_before words (operate op xs) n ts w = refl
 text_before words (thread ss) n ts w = with_block words (codes "thread ") ss (trees_text words ts)
 text_before words (attempt ss x us) n ts w = with_handler words x ss us (trees_text words ts)
 text_before words (raise x) n ts w = refl

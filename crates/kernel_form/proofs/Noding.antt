@@ -1,16 +1,16 @@
 -- The nodes of a pattern one after the other make up its text.
 use Rattle.std.proofs.Common.{◌≡◌, ◌∙◌, ℕ, suc, Bool, true, false, not, ◌||◌, List, [], ◌∷◌, ◌++◌, length, map, codes, ap, refl, sym, arith}
 use Rattle.std.proofs.lemmas.List.{append_assoc, append-nil}
-use Rattle.oz_semantics.specs.Kernels.{Pattern, variable, any, constant, labelled, Patterns, no_pattern, beside, pieces, pieces_each}
-use Rattle.oz_semantics.specs.KernelTexts.{name_text, field_text, pattern_text, pattern_texts}
-use Rattle.oz_semantics.specs.Texts.{constant_text, form_of, record_text, text_as, enclosed, is_chain}
-use Rattle.oz_semantics.specs.declared.kernel.Constant.{Constant}
-use Rattle.oz_semantics.specs.declared.kernel.Name.{Name}
-use Rattle.oz_semantics.specs.declared.kernel.Piece.{Piece}
-use Rattle.oz_semantics.specs.declared.kernel.Piece.TheVariants as piece
-use Rattle.oz_semantics.specs.declared.token.Literal.{Literal}
-use Rattle.oz_semantics.specs.declared.text.Form.{Form}
-use Rattle.oz_semantics.specs.declared.text.Form.TheVariants as form
+use Rattle.oz_language.specs.Kernels.{Pattern, variable, any, constant, labelled, Patterns, no_pattern, beside, pieces, pieces_each}
+use Rattle.oz_language.specs.KernelTexts.{name_text, field_text, pattern_text, pattern_texts}
+use Rattle.oz_language.specs.SimpleTexts.{constant_text, form_of, record_text, text_as, enclosed, is_chain}
+use Rattle.oz_language.specs.declared.kernel.Constant.{Constant}
+use Rattle.oz_language.specs.declared.kernel.Identifier.{Identifier}
+use Rattle.oz_language.specs.declared.kernel.Piece.{Piece}
+use Rattle.oz_language.specs.declared.kernel.Piece.TheVariants as piece
+use Rattle.oz_language.specs.declared.token.Literal.{Literal}
+use Rattle.oz_language.specs.declared.text.Form.{Form}
+use Rattle.oz_language.specs.declared.text.Form.TheVariants as form
 use Rattle.kernel_form.specs.Whole.{width, IsWholePattern, AreWholePatterns}
 use Rattle.kernel_form.specs.Fields.{Rest, next_in, lead_text, passed, is_enclosed, encloses, closing, still_open, end_text, opening_text, just_opened}
 use Rattle.kernel_form.specs.Nodes.{nodes_text, record_nodes}
@@ -120,28 +120,28 @@ pub whole_pattern : (words : List (List ℕ)) (p : Pattern) → IsWholePattern p
 whole_pattern words p w = ap (nodes_text words []) (sym (append-nil (pieces p))) ∙ pattern_law words p [] [] w ∙ append-nil (pattern_text words p).1
 
 -- identifiers as fields
-abbrev as_patterns : List Name → Patterns
+abbrev as_patterns : List Identifier → Patterns
 as_patterns [] = no_pattern
 as_patterns (x ∷ xs) = beside (variable x) (as_patterns xs)
 
-their_pieces : (xs : List Name) → pieces_each (as_patterns xs) ≡ map piece.Variable xs
+their_pieces : (xs : List Identifier) → pieces_each (as_patterns xs) ≡ map piece.Variable xs
 their_pieces [] = refl
 their_pieces (x ∷ xs) = ap (λ ps. piece.Variable x ∷ ps) (their_pieces xs)
 
-their_texts : (words : List (List ℕ)) (xs : List Name) → pattern_texts words (as_patterns xs) ≡ map (field_text words) xs
+their_texts : (words : List (List ℕ)) (xs : List Identifier) → pattern_texts words (as_patterns xs) ≡ map (field_text words) xs
 their_texts words [] = refl
 their_texts words (x ∷ xs) = ap (λ ts. field_text words x ∷ ts) (their_texts words xs)
 
-their_width : (xs : List Name) → width (as_patterns xs) ≡ length xs
+their_width : (xs : List Identifier) → width (as_patterns xs) ≡ length xs
 their_width [] = refl
 their_width (x ∷ xs) = ap suc (their_width xs)
 
-they_are_whole : (xs : List Name) → AreWholePatterns (as_patterns xs)
+they_are_whole : (xs : List Identifier) → AreWholePatterns (as_patterns xs)
 they_are_whole [] = tt
 they_are_whole (x ∷ xs) = (tt, they_are_whole xs)
 
 -- a record whose fields are identifiers
-pub whole_record : (words : List (List ℕ)) (l : Literal) (fs : List Constant) (xs : List Name) → length fs ≡ length xs
+pub whole_record : (words : List (List ℕ)) (l : Literal) (fs : List Constant) (xs : List Identifier) → length fs ≡ length xs
     → nodes_text words [] (record_nodes l fs xs) ≡ record_text words l fs (map (field_text words) xs)
 whole_record words l fs xs e =
     ap (λ ps. nodes_text words [] (piece.Record l fs ∷ ps)) (sym (their_pieces xs))

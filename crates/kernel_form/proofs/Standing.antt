@@ -1,8 +1,8 @@
 -- The statements inside a statement are in the list at their numbers.
 use Rattle.std.proofs.Common.{◌≡◌, ◌∙◌, ℕ, suc, ◌+◌, List, [], ◌∷◌, ◌++◌, Some, length, slice_get, refl, sym, subst, arith}
 use Rattle.std.proofs.lemmas.List.{length-append, append_assoc}
-use Rattle.oz_semantics.specs.Kernels.{Stmt, skip, fail, local, equate, bind, bind_record, bind_procedure, call, choice, test, matching, no_match, apply, thread, attempt, raise, post, post_times, Stmts, none, followed, Bodies, no_body, body, inside, count, count_bodies, statement_at, listed_inside, listed_all, listed_bodies}
-use Rattle.oz_semantics.specs.declared.kernel.Statement.{Statement}
+use Rattle.oz_language.specs.Kernels.{Stmt, skip, fail, local, equate, bind, bind_record, bind_procedure, call, choice, test, matching, no_match, operate, thread, attempt, raise, post, post_times, Stmts, none, followed, Bodies, no_body, body, inside, count, count_bodies, statement_at, listed_inside, listed_all, listed_bodies}
+use Rattle.oz_language.specs.declared.kernel.Statement.{Statement}
 use Rattle.kernel_form.specs.Pending.{Stand}
 
 mutual
@@ -19,7 +19,7 @@ mutual
   length_inside (test x ss us) n = omega (arith, length-append (listed_all n ss) (listed_all (n + count ss) us), length_all ss n, length_all us (n + count ss))
   length_inside (matching x p ss us) n = omega (arith, length-append (listed_all n ss) (listed_all (n + count ss) us), length_all ss n, length_all us (n + count ss))
   length_inside no_match n = refl
-  length_inside (apply op xs) n = refl
+  length_inside (operate op xs) n = refl
   length_inside (thread ss) n = length_all ss n
   length_inside (attempt ss x us) n = omega (arith, length-append (listed_all n ss) (listed_all (n + count ss) us), length_all ss n, length_all us (n + count ss))
   length_inside (raise x) n = refl

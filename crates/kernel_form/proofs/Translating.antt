@@ -2,27 +2,27 @@
 use Rattle.std.proofs.Common.{◌≡◌, ◌∙◌, ℕ, suc, ℤ, pos, ◌+ℤ◌, Bool, true, false, if◌then◌else◌, List, [], ◌∷◌, ◌++◌, Option, Some, None, length, map, ap, refl, sym}
 use Rattle.std.specs.List.{zip}
 use Rattle.std.proofs.lemmas.List.{length-map}
-use Rattle.oz_semantics.specs.declared.kernel.Name.{Name}
-use Rattle.oz_semantics.specs.declared.kernel.Name.TheVariants.{Word, Fresh}
-use Rattle.oz_semantics.specs.declared.kernel.Constant.{Constant}
-use Rattle.oz_semantics.specs.declared.kernel.Constant.TheVariants as constant
-use Rattle.oz_semantics.specs.declared.kernel.Kernel.{Kernel}
-use Rattle.oz_semantics.specs.declared.kernel.LinearTerm.{LinearTerm}
-use Rattle.oz_semantics.specs.declared.kernel.Operation.TheVariants as operation
-use Rattle.oz_semantics.specs.declared.token.Comparison.{Comparison}
-use Rattle.oz_semantics.specs.declared.token.Comparison.TheVariants as comparison
-use Rattle.oz_semantics.specs.declared.token.Connective.TheVariants.{Equates, Assigns, Bounds, BoundsEach}
-use Rattle.oz_semantics.specs.declared.token.Literal.{Literal}
-use Rattle.oz_semantics.specs.declared.token.Operator.TheVariants as operator
-use Rattle.oz_semantics.specs.Arities.{feature_lt, placed_field, in_arity_order}
-use Rattle.oz_semantics.specs.Grammar.{Phrase, Phrases, nothing, more, var, any, int, string, literal, rec, keyed, list, paren, binary, bars, hashes, select, access, connected, relate, proc, fun, choice, when, choose, arm, cases, cases_or, clause, body}
-use Rattle.oz_semantics.specs.Grammar as g
-use Rattle.oz_semantics.specs.KernelTexts.{kernel_text}
-use Rattle.oz_semantics.specs.Kernels.{word_text, Pattern, Stmt, Stmts, none, followed, ◌⨾◌, numbered}
-use Rattle.oz_semantics.specs.Kernels as k
-use Rattle.oz_semantics.specs.Refusals.{Program}
-use Rattle.oz_semantics.specs.Translation.{Made, made, and_then, preceded, Goal, statement, value, result_in, variable_of, name_or, next_after, names_of, behind_names, fresh_among, scoped, within, part_made, with_part, with_parts, keys_of, record_or_label, record_bound, atom, cell_bound, cell_made, last_variable, codes_made, side_by_side, labelled_or_literal, list_pattern, chain_pattern, patterned, patterned_each, operation_of, and_made, or_made, equated, called, or_skip, declaring, caught_in, attempted, parameter_names, behind_parameters, parameters_of, procedure_name, function_made, behind_factor, behind_side, terms_of, constant_of, products_of, sum_posted, posted, between, selected, translated, translated_each, valued_last, filled, list_made, chain_made, references, alternatives, arms_made, clauses_made, handled, statements_of, kernel_of}
-use Rattle.oz_semantics.specs.Wording.{access_word, assign_word, hash_word}
+use Rattle.oz_language.specs.declared.kernel.Identifier.{Identifier}
+use Rattle.oz_language.specs.declared.kernel.Identifier.TheVariants.{Word, Fresh}
+use Rattle.oz_language.specs.declared.kernel.Constant.{Constant}
+use Rattle.oz_language.specs.declared.kernel.Constant.TheVariants as constant
+use Rattle.oz_language.specs.declared.kernel.Kernel.{Kernel}
+use Rattle.oz_language.specs.declared.kernel.LinearTerm.{LinearTerm}
+use Rattle.oz_language.specs.declared.kernel.Operation.TheVariants as operation
+use Rattle.oz_language.specs.declared.token.Comparison.{Comparison}
+use Rattle.oz_language.specs.declared.token.Comparison.TheVariants as comparison
+use Rattle.oz_language.specs.declared.token.Connective.TheVariants.{Equates, Assigns, Bounds, BoundsEach}
+use Rattle.oz_language.specs.declared.token.Literal.{Literal}
+use Rattle.oz_language.specs.declared.token.Operator.TheVariants as operator
+use Rattle.oz_language.specs.Arities.{feature_lt, placed_field, in_arity_order}
+use Rattle.oz_language.specs.Grammar.{Phrase, Phrases, nothing, more, var, any, int, string, literal, rec, keyed, list, paren, binary, bars, hashes, select, access, connected, relate, proc, fun, choice, when, choose, arm, cases, cases_or, clause, body}
+use Rattle.oz_language.specs.Grammar as g
+use Rattle.oz_language.specs.KernelTexts.{kernel_text}
+use Rattle.oz_language.specs.Kernels.{word_text, Pattern, Stmt, Stmts, none, followed, ◌⨾◌, numbered}
+use Rattle.oz_language.specs.Kernels as k
+use Rattle.oz_language.specs.Refusals.{Program}
+use Rattle.oz_language.specs.Translation.{Made, made, and_then, preceded, Goal, statement, value, result_in, variable_of, name_or, next_after, names_of, behind_names, fresh_among, scoped, within, part_made, with_part, with_parts, keys_of, record_or_label, record_bound, atom, cell_bound, cell_made, last_variable, codes_made, side_by_side, labelled_or_literal, list_pattern, chain_pattern, patterned, patterned_each, operation_of, and_made, or_made, equated, called, or_skip, declaring, caught_in, attempted, parameter_names, behind_parameters, parameters_of, procedure_name, function_made, behind_factor, behind_side, terms_of, constant_of, products_of, sum_posted, posted, between, selected, translated, translated_each, valued_last, filled, list_made, chain_made, references, alternatives, arms_made, clauses_made, handled, statements_of, kernel_of}
+use Rattle.oz_language.specs.Wording.{access_word, assign_word, hash_word}
 use Rattle.kernel_form.specs.Whole.{width, IsWhole, AreWhole, AreWholeBodies, IsWholePattern, AreWholePatterns}
 
 -- What is made
@@ -38,35 +38,35 @@ both_whole (followed s a) b v w = (v.0, both_whole a b v.1 w)
 and_then_whole : (a : Made) (make : ℕ → Made) → MadeWhole a → ((i : ℕ) → MadeWhole (make i)) → MadeWhole (and_then a make)
 and_then_whole a make v w = both_whole a.code (make a.next).code v (w a.next)
 
-scoped_whole : (xs : List Name) (ss : Stmts) → AreWhole ss → AreWhole (scoped xs ss)
+scoped_whole : (xs : List Identifier) (ss : Stmts) → AreWhole ss → AreWhole (scoped xs ss)
 scoped_whole [] ss w = w
 scoped_whole (x ∷ xs) ss w = (w, tt)
 
-within_whole : (xs : List Name) (a : Made) → MadeWhole a → MadeWhole (within xs a)
+within_whole : (xs : List Identifier) (a : Made) → MadeWhole a → MadeWhole (within xs a)
 within_whole xs a w = scoped_whole (fresh_among xs) a.code w
 
-part_made_whole : (v : Option Name) (make : ℕ → Made) (n : ℕ) → ((i : ℕ) → MadeWhole (make i)) → MadeWhole (part_made v make n)
+part_made_whole : (v : Option Identifier) (make : ℕ → Made) (n : ℕ) → ((i : ℕ) → MadeWhole (make i)) → MadeWhole (part_made v make n)
 part_made_whole (Some x) make n w = tt
 part_made_whole None make n w = w n
 
 -- and so whatever the identifier and the number of the next one
-abbrev EachMakes : (Name → ℕ → Made) → Type 0
-EachMakes make = (x : Name) (i : ℕ) → MadeWhole (make x i)
+abbrev EachMakes : (Identifier → ℕ → Made) → Type 0
+EachMakes make = (x : Identifier) (i : ℕ) → MadeWhole (make x i)
 
-part_whole : (n : ℕ) (v : Option Name) (make use_of : Name → ℕ → Made) → EachMakes make → EachMakes use_of → MadeWhole (with_part n v make use_of)
+part_whole : (n : ℕ) (v : Option Identifier) (make use_of : Identifier → ℕ → Made) → EachMakes make → EachMakes use_of → MadeWhole (with_part n v make use_of)
 part_whole n v make use_of w u =
     let x = name_or n v in
     let part = part_made v (make x) (next_after n v) in
     within_whole (x ∷ []) (and_then part (use_of x)) (and_then_whole part (use_of x) (part_made_whole v (make x) (next_after n v) (w x)) (u x))
 
 -- two parts, one made behind the other
-two_whole : (v w : Option Name) (make_first make_second : Name → ℕ → Made) (x y : Name) (n : ℕ) → EachMakes make_first → EachMakes make_second
+two_whole : (v w : Option Identifier) (make_first make_second : Identifier → ℕ → Made) (x y : Identifier) (n : ℕ) → EachMakes make_first → EachMakes make_second
     → MadeWhole (and_then (part_made v (make_first x) n) (part_made w (make_second y)))
 two_whole v w make_first make_second x y n a b =
     and_then_whole (part_made v (make_first x) n) (part_made w (make_second y)) (part_made_whole v (make_first x) n (a x)) (λ i. part_made_whole w (make_second y) i (b y))
 
-parts_whole : (n : ℕ) (v w : Option Name) (make_first make_second : Name → ℕ → Made) (use_of : Name → Name → Stmt)
-    → EachMakes make_first → EachMakes make_second → ((x y : Name) → IsWhole (use_of x y)) → MadeWhole (with_parts n v w make_first make_second use_of)
+parts_whole : (n : ℕ) (v w : Option Identifier) (make_first make_second : Identifier → ℕ → Made) (use_of : Identifier → Identifier → Stmt)
+    → EachMakes make_first → EachMakes make_second → ((x y : Identifier) → IsWhole (use_of x y)) → MadeWhole (with_parts n v w make_first make_second use_of)
 parts_whole n v w make_first make_second use_of a b u =
     let x = name_or n v in
     let m = next_after n v in
@@ -75,18 +75,18 @@ parts_whole n v w make_first make_second use_of a b u =
     let last : ℕ → Made = λ i. made (k.just (use_of x y)) i in
     within_whole (x ∷ y ∷ []) (and_then both last) (and_then_whole both last (two_whole v w make_first make_second x y (next_after m w) a b) (λ i. (u x y, tt)))
 
-selected_whole : (n : ℕ) (x : Name) (v w : Option Name) (make_first make_second : Name → ℕ → Made) → EachMakes make_first → EachMakes make_second
+selected_whole : (n : ℕ) (x : Identifier) (v w : Option Identifier) (make_first make_second : Identifier → ℕ → Made) → EachMakes make_first → EachMakes make_second
     → MadeWhole (selected n x v w make_first make_second)
 selected_whole n x v w make_first make_second a b =
-    parts_whole n v w make_first make_second (λ y z. k.apply operation.Select (y ∷ z ∷ x ∷ [])) a b (λ y z. tt)
+    parts_whole n v w make_first make_second (λ y z. k.operate operation.Select (y ∷ z ∷ x ∷ [])) a b (λ y z. tt)
 
 -- Records and chains
 
-label_whole : (x : Name) (l : Literal) (fs : List (Constant × Name)) → IsWhole (record_or_label x l fs)
+label_whole : (x : Identifier) (l : Literal) (fs : List (Constant × Identifier)) → IsWhole (record_or_label x l fs)
 label_whole x l [] = tt
-label_whole x l (f ∷ fs) = length-map (f ∷ fs) (λ (g : Constant × Name). g.0) ∙ sym (length-map (f ∷ fs) (λ (g : Constant × Name). g.1))
+label_whole x l (f ∷ fs) = length-map (f ∷ fs) (λ (g : Constant × Identifier). g.0) ∙ sym (length-map (f ∷ fs) (λ (g : Constant × Identifier). g.1))
 
-cell_whole : (n : ℕ) (x : Name) (v w : Option Name) (make_head make_tail : Name → ℕ → Made) → EachMakes make_head → EachMakes make_tail
+cell_whole : (n : ℕ) (x : Identifier) (v w : Option Identifier) (make_head make_tail : Identifier → ℕ → Made) → EachMakes make_head → EachMakes make_tail
     → MadeWhole (cell_made n x v w make_head make_tail)
 cell_whole n x v w make_head make_tail a b =
     let y = name_or n v in
@@ -95,7 +95,7 @@ cell_whole n x v w make_head make_tail a b =
     let both = and_then (part_made v (make_head y) (next_after m w)) (part_made w (make_tail z)) in
     within_whole (y ∷ z ∷ []) (preceded (cell_bound x y z) both) (refl, two_whole v w make_head make_tail y z (next_after m w) a b)
 
-codes_whole : (x : Name) (cs : List ℕ) (n : ℕ) → MadeWhole (codes_made x cs n)
+codes_whole : (x : Identifier) (cs : List ℕ) (n : ℕ) → MadeWhole (codes_made x cs n)
 codes_whole x [] n = (tt, tt)
 codes_whole x (c ∷ cs) n =
     cell_whole n x None None (λ y i. made (k.just (k.bind y (constant.Int (pos c)))) i) (λ z i. codes_made z cs i) (λ y i. (tt, tt)) (λ z i. codes_whole z cs i)
@@ -176,14 +176,14 @@ mutual
 
 -- Statements
 
-equated_whole : (n : ℕ) (x y : Option Name) (make_left make_right : Name → ℕ → Made) → EachMakes make_left → EachMakes make_right
+equated_whole : (n : ℕ) (x y : Option Identifier) (make_left make_right : Identifier → ℕ → Made) → EachMakes make_left → EachMakes make_right
     → MadeWhole (equated n x y make_left make_right)
 equated_whole n (Some x) y make_left make_right a b = b x n
 equated_whole n None (Some y) make_left make_right a b = a y n
 equated_whole n None None make_left make_right a b =
     (both_whole (make_left (Fresh n) (suc n)).code (make_right (Fresh n) (make_left (Fresh n) (suc n)).next).code (a (Fresh n) (suc n)) (b (Fresh n) (make_left (Fresh n) (suc n)).next), tt)
 
-called_whole : (xs : List Name) → AreWhole (called xs)
+called_whole : (xs : List Identifier) → AreWhole (called xs)
 called_whole [] = tt
 called_whole (x ∷ xs) = (tt, tt)
 
@@ -195,12 +195,12 @@ declaring_whole : (ds : Phrases) (a : Made) → MadeWhole a → MadeWhole (decla
 declaring_whole nothing a w = w
 declaring_whole (more d ds) a w = (w, tt)
 
-attempted_whole : (n : ℕ) (v : Option Name) (body_made handler_made : ℕ → Made) (chain_made : Name → ℕ → Made)
+attempted_whole : (n : ℕ) (v : Option Identifier) (body_made handler_made : ℕ → Made) (chain_made : Identifier → ℕ → Made)
     → ((i : ℕ) → MadeWhole (body_made i)) → ((i : ℕ) → MadeWhole (handler_made i)) → EachMakes chain_made → MadeWhole (attempted n v body_made handler_made chain_made)
 attempted_whole n (Some y) body_made handler_made chain_made a b c = ((a n, b (body_made n).next), tt)
 attempted_whole n None body_made handler_made chain_made a b c = ((a (suc n), c (Fresh n) (body_made (suc n)).next), tt)
 
-function_whole : (x : Name) (xs : List Name) (lazy : Option ℕ) (make : Name → ℕ → Made) (n : ℕ) → EachMakes make → MadeWhole (function_made x xs lazy make n)
+function_whole : (x : Identifier) (xs : List Identifier) (lazy : Option ℕ) (make : Identifier → ℕ → Made) (n : ℕ) → EachMakes make → MadeWhole (function_made x xs lazy make n)
 function_whole x xs None make n w = (w (Fresh n) (suc n), tt)
 function_whole x xs (Some at) make n w = (((w (Fresh (suc (suc n))) (suc (suc (suc n))), (tt, tt)), tt), tt)
 
@@ -256,7 +256,7 @@ mutual
       (λ y i. translated_whole words (value y) a i) (λ y i. (((tt, tt), translated_whole words (value x) b i), tt))
   translated_whole words (value x) (binary op a b) n =
       parts_whole n (variable_of a) (variable_of b) (λ y i. translated words (value y) i a) (λ y i. translated words (value y) i b)
-      (λ y z. k.apply (operation_of op) (y ∷ z ∷ x ∷ [])) (λ y i. translated_whole words (value y) a i) (λ y i. translated_whole words (value y) b i) (λ y z. tt)
+      (λ y z. k.operate (operation_of op) (y ∷ z ∷ x ∷ [])) (λ y i. translated_whole words (value y) a i) (λ y i. translated_whole words (value y) b i) (λ y z. tt)
   translated_whole words (value x) (bars es) n = chain_whole words es x n
   translated_whole words (value x) (hashes es) n =
       within_whole (names_of n es) (preceded (record_bound words x (atom hash_word) es (names_of n es)) (filled words n es (behind_names n es)))
@@ -279,10 +279,10 @@ mutual
       (λ y z. k.call (Word assign_word) (y ∷ z ∷ [])) (λ y i. translated_whole words (value y) a i) (λ y i. translated_whole words (value y) b i) (λ y z. tt)
   translated_whole words goal (connected Bounds a b) n =
       parts_whole n (variable_of a) (variable_of b) (λ y i. translated words (value y) i a) (λ y i. translated words (value y) i b)
-      (λ y z. k.apply operation.Bound (y ∷ z ∷ [])) (λ y i. translated_whole words (value y) a i) (λ y i. translated_whole words (value y) b i) (λ y z. tt)
+      (λ y z. k.operate operation.Bound (y ∷ z ∷ [])) (λ y i. translated_whole words (value y) a i) (λ y i. translated_whole words (value y) b i) (λ y z. tt)
   translated_whole words goal (connected BoundsEach a b) n =
       parts_whole n (variable_of a) (variable_of b) (λ y i. translated words (value y) i a) (λ y i. translated words (value y) i b)
-      (λ y z. k.apply operation.BoundEach (y ∷ z ∷ [])) (λ y i. translated_whole words (value y) a i) (λ y i. translated_whole words (value y) b i) (λ y z. tt)
+      (λ y z. k.operate operation.BoundEach (y ∷ z ∷ [])) (λ y i. translated_whole words (value y) a i) (λ y i. translated_whole words (value y) b i) (λ y z. tt)
   translated_whole words goal (relate r a b) n =
       let m = behind_side n a in
       let l = behind_side m b in
@@ -332,7 +332,7 @@ mutual
   each_whole words (more p ps) n =
       and_then_whole (translated words statement n p) (λ i. translated_each words i ps) (translated_whole words statement p n) (λ i. each_whole words ps i)
 
-  last_whole : (words : List (List ℕ)) (ps : Phrases) (x : Name) (n : ℕ) → MadeWhole (valued_last words x ps n)
+  last_whole : (words : List (List ℕ)) (ps : Phrases) (x : Identifier) (n : ℕ) → MadeWhole (valued_last words x ps n)
   last_whole words nothing x n = tt
   last_whole words (more e nothing) x n = translated_whole words (value x) e n
   last_whole words (more p (more q ps)) x n =
@@ -346,13 +346,13 @@ mutual
       (part_made_whole (variable_of e) (λ i. translated words (value x) i e) n (λ i. translated_whole words (value x) e i))
       (λ i. filled_whole words es (next_after m (variable_of e)) i)
 
-  list_whole : (words : List (List ℕ)) (es : Phrases) (x : Name) (n : ℕ) → MadeWhole (list_made words x es n)
+  list_whole : (words : List (List ℕ)) (es : Phrases) (x : Identifier) (n : ℕ) → MadeWhole (list_made words x es n)
   list_whole words nothing x n = (tt, tt)
   list_whole words (more e es) x n =
       cell_whole n x (variable_of e) None (λ y i. translated words (value y) i e) (λ z i. list_made words z es i)
       (λ y i. translated_whole words (value y) e i) (λ z i. list_whole words es z i)
 
-  chain_whole : (words : List (List ℕ)) (es : Phrases) (x : Name) (n : ℕ) → MadeWhole (chain_made words x es n)
+  chain_whole : (words : List (List ℕ)) (es : Phrases) (x : Identifier) (n : ℕ) → MadeWhole (chain_made words x es n)
   chain_whole words nothing x n = tt
   chain_whole words (more e nothing) x n = translated_whole words (value x) e n
   chain_whole words (more e (more f es)) x n =
@@ -386,7 +386,7 @@ mutual
       (λ y i. translated_whole words (value y) e i) (λ y i. ((translated_whole words goal b i, arms_whole words goal xs last (translated words goal i b).next w), tt))
   arms_whole words goal (more p xs) last n w = arms_whole words goal xs last n w
 
-  clauses_whole : (words : List (List ℕ)) (goal : Goal) (cs : Phrases) (x : Name) (last : ℕ → Made) (n : ℕ) → ((i : ℕ) → MadeWhole (last i))
+  clauses_whole : (words : List (List ℕ)) (goal : Goal) (cs : Phrases) (x : Identifier) (last : ℕ → Made) (n : ℕ) → ((i : ℕ) → MadeWhole (last i))
       → MadeWhole (clauses_made words goal x cs last n)
   clauses_whole words goal nothing x last n w = w n
   clauses_whole words goal (more (clause p b) cs) x last n w =

@@ -1,8 +1,8 @@
 -- What is left to print, by the numbers of statements.
 use Rattle.std.specs.Prelude.{ℕ, suc, ◌+◌, List, [], ◌∷◌, ◌++◌, Option, None, length, codes}
 use Rattle.oz_base.specs.Lists.{first}
-use Rattle.oz_semantics.specs.declared.kernel.Name.{Name}
-use Rattle.oz_semantics.specs.KernelTexts.{name_text}
+use Rattle.oz_language.specs.declared.kernel.Identifier.{Identifier}
+use Rattle.oz_language.specs.KernelTexts.{name_text}
 use Rattle.kernel_form.specs.declared.entries.Entry.{Entry}
 use Rattle.kernel_form.specs.declared.entries.Entry.TheVariants as entry
 
@@ -14,7 +14,7 @@ pub data Left : Type 0 where
   -- alternatives behind a gap
   branched : List ℕ → List (List ℕ) → Left
   -- ` catch X then `
-  caught : Name → Left
+  caught : Identifier → Left
   -- statements, each with an end of line
   lined : List ℕ → Left
 
@@ -30,7 +30,7 @@ if_any [] x y = y
 if_any (n ∷ ns) x y = x
 
 -- between the body of a `try` and its handler
-abbrev pub catch_text : List (List ℕ) → Name → List ℕ
+abbrev pub catch_text : List (List ℕ) → Identifier → List ℕ
 catch_text words x = codes " catch " ++ name_text words x ++ codes " then "
 
 -- what is printed of it now

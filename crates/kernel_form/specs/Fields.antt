@@ -1,10 +1,10 @@
 -- Records of which some fields are printed.
 use Rattle.std.specs.Prelude.{ℕ, Bool, true, false, not, ◌&&◌, ◌||◌, if◌then◌else◌, List, [], ◌∷◌, ◌++◌, codes}
-use Rattle.oz_semantics.specs.Texts.{literal_text, is_bars, is_chain}
-use Rattle.oz_semantics.specs.declared.kernel.Constant.{Constant}
-use Rattle.oz_semantics.specs.declared.token.Literal.{Literal}
-use Rattle.oz_semantics.specs.declared.text.Form.{Form}
-use Rattle.oz_semantics.specs.declared.text.Form.TheVariants as form
+use Rattle.oz_language.specs.SimpleTexts.{literal_text, is_bars, is_chain}
+use Rattle.oz_language.specs.declared.kernel.Constant.{Constant}
+use Rattle.oz_language.specs.declared.token.Literal.{Literal}
+use Rattle.oz_language.specs.declared.text.Form.{Form}
+use Rattle.oz_language.specs.declared.text.Form.TheVariants as form
 use Rattle.simple_text.specs.Keys.{key_text, next_after}
 use Rattle.kernel_form.specs.declared.records.Open.{Open}
 

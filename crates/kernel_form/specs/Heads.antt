@@ -1,10 +1,10 @@
 -- What is printed of a statement before its bodies, and what is left of it then.
 use Rattle.std.specs.Prelude.{ℕ, List, [], ◌∷◌, ◌++◌, codes, map}
-use Rattle.oz_semantics.specs.Texts.{integer_text, constant_text}
-use Rattle.oz_semantics.specs.KernelTexts.{name_text, name_texts, operation_text, sign_text, linear_text, spaced}
-use Rattle.oz_semantics.specs.declared.kernel.Name.{Name}
-use Rattle.oz_semantics.specs.declared.kernel.Statement.{Statement}
-use Rattle.oz_semantics.specs.declared.kernel.Statement.TheVariants as statement
+use Rattle.oz_language.specs.SimpleTexts.{integer_text, constant_text}
+use Rattle.oz_language.specs.KernelTexts.{name_text, name_texts, operation_text, sign_text, linear_text, spaced}
+use Rattle.oz_language.specs.declared.kernel.Identifier.{Identifier}
+use Rattle.oz_language.specs.declared.kernel.Statement.{Statement}
+use Rattle.oz_language.specs.declared.kernel.Statement.TheVariants as statement
 use Rattle.kernel_form.specs.Nodes.{nodes_text, record_nodes}
 use Rattle.kernel_form.specs.Entries.{Left, fixed, bodied, branched, caught}
 
@@ -21,7 +21,7 @@ head_text words (statement.Choice bs) = codes "choice "
 head_text words (statement.If x b c) = codes "if " ++ name_text words x ++ codes " then "
 head_text words (statement.Case x ps b c) = codes "case " ++ name_text words x ++ codes " of " ++ nodes_text words [] ps ++ codes " then "
 head_text words statement.NoMatch = codes "nomatch"
-head_text words (statement.Apply op xs) = codes "{" ++ spaced (operation_text op ∷ name_texts words xs) ++ codes "}"
+head_text words (statement.Operate op xs) = codes "{" ++ spaced (operation_text op ∷ name_texts words xs) ++ codes "}"
 head_text words (statement.Thread b) = codes "thread "
 head_text words (statement.Try b x c) = codes "try "
 head_text words (statement.Raise x) = codes "raise " ++ name_text words x ++ codes " end"
@@ -35,7 +35,7 @@ abbrev pub branches : List ℕ → List ℕ → List Left
 branches b c = bodied [] b ∷ fixed (codes " else ") ∷ block c
 
 -- the bodies of a `try`, with the identifier between them
-abbrev pub attempts : List ℕ → Name → List ℕ → List Left
+abbrev pub attempts : List ℕ → Identifier → List ℕ → List Left
 attempts b x c = bodied [] b ∷ caught x ∷ block c
 
 abbrev pub left_in : Statement → List Left

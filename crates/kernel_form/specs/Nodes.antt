@@ -1,12 +1,12 @@
 -- The text of a pattern by the list of its nodes.
 use Rattle.std.specs.Prelude.{ℕ, List, [], ◌∷◌, ◌++◌, codes, map}
-use Rattle.oz_semantics.specs.Texts.{constant_text, form_of}
-use Rattle.oz_semantics.specs.KernelTexts.{name_text}
-use Rattle.oz_semantics.specs.declared.kernel.Constant.{Constant}
-use Rattle.oz_semantics.specs.declared.kernel.Name.{Name}
-use Rattle.oz_semantics.specs.declared.kernel.Piece.{Piece}
-use Rattle.oz_semantics.specs.declared.kernel.Piece.TheVariants as piece
-use Rattle.oz_semantics.specs.declared.token.Literal.{Literal}
+use Rattle.oz_language.specs.SimpleTexts.{constant_text, form_of}
+use Rattle.oz_language.specs.KernelTexts.{name_text}
+use Rattle.oz_language.specs.declared.kernel.Constant.{Constant}
+use Rattle.oz_language.specs.declared.kernel.Identifier.{Identifier}
+use Rattle.oz_language.specs.declared.kernel.Piece.{Piece}
+use Rattle.oz_language.specs.declared.kernel.Piece.TheVariants as piece
+use Rattle.oz_language.specs.declared.token.Literal.{Literal}
 use Rattle.kernel_form.specs.Fields.{Rest, lead_text, passed, is_enclosed, closing, still_open, opening_text, just_opened}
 
 -- a node inside the records that are open
@@ -27,5 +27,5 @@ nodes_text words rs (p ∷ ps) =
     lead_text words rs ++ (node_text words rs p ++ (closing (open_behind words rs p) ++ nodes_text words (still_open (open_behind words rs p)) ps))
 
 -- a record whose fields are identifiers, as the list of its nodes
-abbrev pub record_nodes : Literal → List Constant → List Name → List Piece
+abbrev pub record_nodes : Literal → List Constant → List Identifier → List Piece
 record_nodes l fs xs = piece.Record l fs ∷ map piece.Variable xs

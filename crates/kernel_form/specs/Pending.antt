@@ -1,11 +1,11 @@
 -- What is left to print, by the statements themselves: together with what is printed it makes up the whole text.
 use Rattle.std.specs.Prelude.{ℕ, suc, ◌≡◌, List, [], ◌∷◌, ◌++◌, Option, Some, None, map, codes, slice_get}
 use Rattle.std.specs.List.{flat_map}
-use Rattle.oz_semantics.specs.declared.kernel.Name.{Name}
-use Rattle.oz_semantics.specs.declared.kernel.Statement.{Statement}
-use Rattle.oz_semantics.specs.Kernels.{Stmt, Stmts, Bodies, numbers, numbers_each, statement_at, listed_inside, listed_all, listed_bodies}
-use Rattle.oz_semantics.specs.KernelTexts.{statement_text, statement_texts, body_texts}
-use Rattle.oz_semantics.specs.Texts.{gapped}
+use Rattle.oz_language.specs.declared.kernel.Identifier.{Identifier}
+use Rattle.oz_language.specs.declared.kernel.Statement.{Statement}
+use Rattle.oz_language.specs.Kernels.{Stmt, Stmts, Bodies, numbers, numbers_each, statement_at, listed_inside, listed_all, listed_bodies}
+use Rattle.oz_language.specs.KernelTexts.{statement_text, statement_texts, body_texts}
+use Rattle.oz_language.specs.SimpleTexts.{gapped}
 use Rattle.kernel_form.specs.Whole.{IsWhole, AreWhole, AreWholeBodies}
 use Rattle.kernel_form.specs.Entries.{Left, fixed, bodied, branched, caught, catch_text, lined}
 
@@ -14,7 +14,7 @@ pub data Tree : Type 0 where
   fixed_tree : List ℕ → Tree
   body_tree : List ℕ → ℕ → Stmts → Tree
   branches_tree : List ℕ → ℕ → Bodies → Tree
-  caught_tree : Name → Tree
+  caught_tree : Identifier → Tree
   lines_tree : ℕ → Stmts → Tree
 
 abbrev pub left_of_tree : Tree → Left

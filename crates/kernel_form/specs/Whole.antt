@@ -1,6 +1,6 @@
 -- Kernel programs whose records have as many fields as features. Only of these does the numbered form tell the statements.
 use Rattle.std.specs.Prelude.{ℕ, suc, ◌≡◌, length}
-use Rattle.oz_semantics.specs.Kernels.{Pattern, labelled, Patterns, no_pattern, beside, Stmt, local, bind_record, bind_procedure, choice, test, matching, thread, attempt, Stmts, none, followed, Bodies, no_body, body}
+use Rattle.oz_language.specs.Kernels.{Pattern, labelled, Patterns, no_pattern, beside, Stmt, local, bind_record, bind_procedure, choice, test, matching, thread, attempt, Stmts, none, followed, Bodies, no_body, body}
 
 abbrev pub width : Patterns → ℕ
 width no_pattern = 0

@@ -1,13 +1,13 @@
 //! What is left to print, on a stack.
 ghost use Rattle.std.specs.Prelude.{◌≡◌, ◌∷◌, ◌++◌, ℕ, List, [], map, codes, OnOk, IfOk};
-ghost use Rattle.oz_semantics.specs.declared.kernel.Statement.{Statement};
+ghost use Rattle.oz_language.specs.declared.kernel.Statement.{Statement};
 ghost use Rattle.kernel_form.specs.Entries.{left_of, printed_now, found_in, left_behind, if_any, bodied, branched, caught, catch_text, fixed, lined};
 ghost use Rattle.kernel_form.specs.Heads.{block, branches, attempts, left_in};
 ghost use Rattle.kernel_form.specs.Pending.{Leads, Follows};
 
 use crate::names::add_name;
-use oz_base::{Sequence, Stack};
-use oz_semantics::{Name, Statement};
+use oz_base::{Sequence, Stack, Words};
+use oz_language::{Identifier, Statement};
 use std::alloc::{AllocError, Global};
 
 /// A part of the text that is left to print.
@@ -25,7 +25,7 @@ pub enum Entry<'a> {
         bodies: &'a [Sequence<u32>],
     },
     /// ` catch X then `
-    Catch(Name),
+    Catch(Identifier),
     /// Statements, each with the end of a line behind it.
     Lines(&'a [u32]),
 }
@@ -103,8 +103,8 @@ fn enter_lines<'a>(
 // ` catch X then `
 fn add_catch(
     alloc: Global,
-    words: &[Sequence<u8>],
-    exception: Name,
+    words: &Words,
+    exception: Identifier,
     out: &mut Vec<u8>,
 ) -> Result<(), AllocError>
     ensures { OnOk result (out.new.items ≡ out.old.items ++ catch_text words.now exception) }
@@ -117,7 +117,7 @@ fn add_catch(
 // Prints a text, or a gap, and gives the number of the statement that stands behind it, if one does.
 fn enter<'a>(
     alloc: Global,
-    words: &[Sequence<u8>],
+    words: &Words,
     entry: Entry<'a>,
     pending: &mut Stack<Entry<'a>>,
     out: &mut Vec<u8>,
@@ -144,7 +144,7 @@ fn enter<'a>(
 /// Prints up to the next statement, and gives its number. There is none at the end of the text.
 pub fn next_statement(
     alloc: Global,
-    words: &[Sequence<u8>],
+    words: &Words,
     pending: &mut Stack<Entry>,
     out: &mut Vec<u8>,
 ) -> Result<Option<u32>, AllocError>
@@ -185,7 +185,7 @@ fn push_branches<'a>(
 
 fn push_attempt<'a>(
     body: &'a [u32],
-    exception: Name,
+    exception: Identifier,
     handler: &'a [u32],
     pending: &mut Stack<Entry<'a>>,
 ) -> Result<(), AllocError>
@@ -243,7 +243,7 @@ pub fn push_bodies<'a>(
         Statement::BindRecord { .. } => Ok(()),
         Statement::Call { .. } => Ok(()),
         Statement::NoMatch => Ok(()),
-        Statement::Apply { .. } => Ok(()),
+        Statement::Operate { .. } => Ok(()),
         Statement::Raise { .. } => Ok(()),
         Statement::Post { .. } => Ok(()),
         Statement::PostTimes { .. } => Ok(()),

@@ -1,7 +1,7 @@
 //! What is printed of a statement before its bodies.
 ghost use Rattle.std.specs.Prelude.{◌≡◌, ◌∷◌, ◌++◌, [], codes, OnOk};
-ghost use Rattle.oz_semantics.specs.Texts.{constant_text};
-ghost use Rattle.oz_semantics.specs.KernelTexts.{name_text, name_texts, operation_text, spaced};
+ghost use Rattle.oz_language.specs.SimpleTexts.{constant_text};
+ghost use Rattle.oz_language.specs.KernelTexts.{name_text, name_texts, operation_text, spaced};
 ghost use Rattle.kernel_form.specs.Nodes.{nodes_text, record_nodes};
 ghost use Rattle.kernel_form.specs.Heads.{head_text};
 
@@ -9,16 +9,16 @@ use crate::names::{add_further_names, add_name, add_names};
 use crate::operations::add_operation;
 use crate::patterns::{add_pattern, add_record};
 use crate::sums::{add_product, add_sum};
-use oz_base::Sequence;
-use oz_semantics::{Constant, Literal, Name, Operation, Piece, Statement};
+use oz_base::Words;
+use oz_language::{Constant, Identifier, Literal, Operation, Piece, Statement};
 use simple_text::add_constant;
 use std::alloc::{AllocError, Global};
 
 // `local X .. in `
 fn add_local(
     alloc: Global,
-    words: &[Sequence<u8>],
-    names: &[Name],
+    words: &Words,
+    names: &[Identifier],
     out: &mut Vec<u8>,
 ) -> Result<(), AllocError>
     ensures { OnOk result (out.new.items ≡ out.old.items ++ (codes "local " ++ spaced (name_texts words.now names.now) ++ codes " in ")) }
@@ -31,8 +31,8 @@ fn add_local(
 // `X=`
 fn add_left_side(
     alloc: Global,
-    words: &[Sequence<u8>],
-    name: Name,
+    words: &Words,
+    name: Identifier,
     out: &mut Vec<u8>,
 ) -> Result<(), AllocError>
     ensures { OnOk result (out.new.items ≡ out.old.items ++ (name_text words.now name ++ codes "=")) }
@@ -44,9 +44,9 @@ fn add_left_side(
 // `X=Y`
 fn add_equation(
     alloc: Global,
-    words: &[Sequence<u8>],
-    left: Name,
-    right: Name,
+    words: &Words,
+    left: Identifier,
+    right: Identifier,
     out: &mut Vec<u8>,
 ) -> Result<(), AllocError>
     ensures { OnOk result (out.new.items ≡ out.old.items ++ (name_text words.now left ++ codes "=" ++ name_text words.now right)) }
@@ -58,8 +58,8 @@ fn add_equation(
 // `X=v`
 fn add_constant_bound(
     alloc: Global,
-    words: &[Sequence<u8>],
-    name: Name,
+    words: &Words,
+    name: Identifier,
     value: Constant,
     out: &mut Vec<u8>,
 ) -> Result<(), AllocError>
@@ -72,11 +72,11 @@ fn add_constant_bound(
 // `X=l(F:Y ..)`
 fn add_record_bound(
     alloc: Global,
-    words: &[Sequence<u8>],
-    name: Name,
+    words: &Words,
+    name: Identifier,
     label: Literal,
     features: &[Constant],
-    fields: &[Name],
+    fields: &[Identifier],
     out: &mut Vec<u8>,
 ) -> Result<(), AllocError>
     ensures { OnOk result (out.new.items ≡ out.old.items ++ (name_text words.now name ++ codes "=" ++ nodes_text words.now [] (record_nodes label features.now fields.now))) }
@@ -88,9 +88,9 @@ fn add_record_bound(
 // `X=proc {$ Y ..} `
 fn add_procedure(
     alloc: Global,
-    words: &[Sequence<u8>],
-    name: Name,
-    parameters: &[Name],
+    words: &Words,
+    name: Identifier,
+    parameters: &[Identifier],
     out: &mut Vec<u8>,
 ) -> Result<(), AllocError>
     ensures { OnOk result (out.new.items ≡ out.old.items ++ (name_text words.now name ++ codes "=proc {" ++ spaced (codes "$" ∷ name_texts words.now parameters.now) ++ codes "} ")) }
@@ -104,9 +104,9 @@ fn add_procedure(
 // `{X Y ..}`
 fn add_call(
     alloc: Global,
-    words: &[Sequence<u8>],
-    procedure: Name,
-    arguments: &[Name],
+    words: &Words,
+    procedure: Identifier,
+    arguments: &[Identifier],
     out: &mut Vec<u8>,
 ) -> Result<(), AllocError>
     ensures { OnOk result (out.new.items ≡ out.old.items ++ (codes "{" ++ spaced (name_texts words.now (procedure ∷ arguments.now)) ++ codes "}")) }
@@ -120,9 +120,9 @@ fn add_call(
 // `{'op' X ..}`
 fn add_application(
     alloc: Global,
-    words: &[Sequence<u8>],
+    words: &Words,
     operation: Operation,
-    arguments: &[Name],
+    arguments: &[Identifier],
     out: &mut Vec<u8>,
 ) -> Result<(), AllocError>
     ensures { OnOk result (out.new.items ≡ out.old.items ++ (codes "{" ++ spaced (operation_text operation ∷ name_texts words.now arguments.now) ++ codes "}")) }
@@ -136,8 +136,8 @@ fn add_application(
 // `raise X end`
 fn add_raise(
     alloc: Global,
-    words: &[Sequence<u8>],
-    name: Name,
+    words: &Words,
+    name: Identifier,
     out: &mut Vec<u8>,
 ) -> Result<(), AllocError>
     ensures { OnOk result (out.new.items ≡ out.old.items ++ (codes "raise " ++ name_text words.now name ++ codes " end")) }
@@ -150,8 +150,8 @@ fn add_raise(
 // `if X then `
 fn add_condition(
     alloc: Global,
-    words: &[Sequence<u8>],
-    condition: Name,
+    words: &Words,
+    condition: Identifier,
     out: &mut Vec<u8>,
 ) -> Result<(), AllocError>
     ensures { OnOk result (out.new.items ≡ out.old.items ++ (codes "if " ++ name_text words.now condition ++ codes " then ")) }
@@ -164,8 +164,8 @@ fn add_condition(
 // `case X of P then `
 fn add_case(
     alloc: Global,
-    words: &[Sequence<u8>],
-    subject: Name,
+    words: &Words,
+    subject: Identifier,
     pattern: &[Piece],
     out: &mut Vec<u8>,
 ) -> Result<(), AllocError>
@@ -181,7 +181,7 @@ fn add_case(
 /// Adds what stands before the bodies of a statement: all of one that has none.
 pub fn add_head(
     alloc: Global,
-    words: &[Sequence<u8>],
+    words: &Words,
     statement: &Statement,
     out: &mut Vec<u8>,
 ) -> Result<(), AllocError>
@@ -224,7 +224,7 @@ pub fn add_head(
             ..
         } => add_case(alloc, words, *subject, pattern.as_slice(), out),
         Statement::NoMatch => out.extend_from_slice(b"nomatch"),
-        Statement::Apply {
+        Statement::Operate {
             operation,
             arguments,
         } => add_application(alloc, words, *operation, arguments.as_slice(), out),

@@ -1,8 +1,8 @@
 //! What a program calls by an operator, as it is written.
 ghost use Rattle.std.specs.Prelude.{◌≡◌, ◌++◌, OnOk};
-ghost use Rattle.oz_semantics.specs.KernelTexts.{operation_text};
+ghost use Rattle.oz_language.specs.KernelTexts.{operation_text};
 
-use oz_semantics::Operation;
+use oz_language::Operation;
 use std::alloc::AllocError;
 
 fn text_of(operation: Operation) -> &'static [u8]

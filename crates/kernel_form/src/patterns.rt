@@ -2,20 +2,20 @@
 ghost use Rattle.std.specs.Prelude.{◌≡◌, ◌++◌, [], map, OnOk};
 ghost use Rattle.kernel_form.specs.Fields.{rest_of, lead_text, closing, still_open, passed};
 ghost use Rattle.kernel_form.specs.Nodes.{node_text, open_behind, nodes_text, record_nodes};
-ghost use Rattle.oz_semantics.specs.KernelTexts.{name_text};
-ghost use Rattle.oz_semantics.specs.declared.kernel.Piece.TheVariants as pieces;
+ghost use Rattle.oz_language.specs.KernelTexts.{name_text};
+ghost use Rattle.oz_language.specs.declared.kernel.Piece.TheVariants as pieces;
 
 use crate::names::add_name;
 use crate::records::{Open, add_lead, close_records, open_record};
-use oz_base::{Sequence, Stack};
-use oz_semantics::{Constant, Literal, Name, Piece};
+use oz_base::{Stack, Words};
+use oz_language::{Constant, Identifier, Literal, Piece};
 use simple_text::{add_constant, form_of};
 use std::alloc::{AllocError, Global};
 
 // Adds a node, but not the ends of records behind it.
 fn add_open_node<'a>(
     alloc: Global,
-    words: &[Sequence<u8>],
+    words: &Words,
     piece: &'a Piece,
     opened: &mut Stack<Open<'a>>,
     out: &mut Vec<u8>,
@@ -46,7 +46,7 @@ fn add_open_node<'a>(
 // Adds a node, and the ends of the records that have no field left.
 fn add_node<'a>(
     alloc: Global,
-    words: &[Sequence<u8>],
+    words: &Words,
     piece: &'a Piece,
     opened: &mut Stack<Open<'a>>,
     out: &mut Vec<u8>,
@@ -61,7 +61,7 @@ fn add_node<'a>(
 /// Adds a pattern.
 pub fn add_pattern(
     alloc: Global,
-    words: &[Sequence<u8>],
+    words: &Words,
     pieces: &[Piece],
     out: &mut Vec<u8>,
 ) -> Result<(), AllocError>
@@ -77,8 +77,8 @@ pub fn add_pattern(
 // Adds an identifier as a field, and the ends of the records that have no field left.
 fn add_field(
     alloc: Global,
-    words: &[Sequence<u8>],
-    name: Name,
+    words: &Words,
+    name: Identifier,
     opened: &mut Stack<Open>,
     out: &mut Vec<u8>,
 ) -> Result<(), AllocError>
@@ -93,8 +93,8 @@ fn add_field(
 // Adds identifiers, each as a field.
 fn add_fields(
     alloc: Global,
-    words: &[Sequence<u8>],
-    names: &[Name],
+    words: &Words,
+    names: &[Identifier],
     opened: &mut Stack<Open>,
     out: &mut Vec<u8>,
 ) -> Result<(), AllocError>
@@ -109,10 +109,10 @@ fn add_fields(
 /// Adds a record whose fields are identifiers.
 pub fn add_record(
     alloc: Global,
-    words: &[Sequence<u8>],
+    words: &Words,
     label: Literal,
     features: &[Constant],
-    fields: &[Name],
+    fields: &[Identifier],
     out: &mut Vec<u8>,
 ) -> Result<(), AllocError>
     ensures { OnOk result (out.new.items ≡ out.old.items ++ nodes_text words.now [] (record_nodes label features.now fields.now)) }

@@ -1,15 +1,15 @@
 //! The text of a whole program.
 ghost use Rattle.std.specs.Prelude.{◌≡◌, IfOk};
-ghost use Rattle.oz_semantics.specs.Kernels.{Stmts, numbered};
-ghost use Rattle.oz_semantics.specs.KernelTexts.{kernel_text};
-ghost use Rattle.oz_semantics.specs.Refusals.{Program};
-ghost use Rattle.oz_semantics.specs.Translation.{statements_of, kernel_of};
+ghost use Rattle.oz_language.specs.Kernels.{Stmts, numbered};
+ghost use Rattle.oz_language.specs.KernelTexts.{kernel_text};
+ghost use Rattle.oz_language.specs.Refusals.{Program};
+ghost use Rattle.oz_language.specs.Translation.{statements_of, kernel_of};
 ghost use Rattle.kernel_form.specs.Whole.{AreWhole};
 
 use crate::entries::{Entry, next_statement, push_bodies};
 use crate::heads::add_head;
 use oz_base::{Sequence, Stack};
-use oz_semantics::Kernel;
+use oz_language::Kernel;
 use std::alloc::{AllocError, Global};
 
 /// The text of a kernel program: a line for each statement of the program itself. It refuses where there is no memory. Of
@@ -20,7 +20,7 @@ pub fn kernel_text(alloc: Global, kernel: &Kernel) -> Result<Sequence<u8>, Alloc
     ensures numbered { (ss : Stmts) → AreWhole ss → kernel.now ≡ numbered kernel.now.words ss → IfOk result (λ text. text ≡ kernel_text kernel.now.words ss) }
     ensures translated { (p : Program) → kernel.now ≡ kernel_of p → IfOk result (λ text. text ≡ kernel_text p.words (statements_of p)) }
 {
-    let words = kernel.words.as_slice();
+    let words = &kernel.words;
     let statements = kernel.statements.as_slice();
     let mut out = Vec::new(alloc);
     let mut pending = Stack::new(alloc);

@@ -2,8 +2,8 @@
 ghost use Rattle.std.specs.Prelude.{◌≡◌, ◌∷◌, ◌++◌, map, OnOk, IfOk};
 ghost use Rattle.kernel_form.specs.Fields.{rest_of, gap_text, key_in, next_in, encloses, lead_before, passed_to, end_text, lead_text, passed, is_enclosed, closing, still_open, opening_text, just_opened};
 
-use oz_base::{Sequence, Stack};
-use oz_semantics::{Constant, Form, Literal};
+use oz_base::{Stack, Words};
+use oz_language::{Constant, Form, Literal};
 use simple_text::{add_key, add_literal, is_bars, is_chain};
 use std::alloc::{AllocError, Global};
 
@@ -37,7 +37,7 @@ fn gap(form: Form, first: bool) -> &'static [u8]
 // Adds the key of a field in a record of this form, and gives the next feature that needs none.
 fn add_key_in(
     alloc: Global,
-    words: &[Sequence<u8>],
+    words: &Words,
     form: Form,
     feature: Constant,
     next: u64,
@@ -55,7 +55,7 @@ fn add_key_in(
 // Adds what stands before the next field of a record. A record with no field left is refused.
 fn add_lead_in<'a>(
     alloc: Global,
-    words: &[Sequence<u8>],
+    words: &Words,
     open: &Open<'a>,
     out: &mut Vec<u8>,
 ) -> Result<Open<'a>, AllocError>
@@ -79,7 +79,7 @@ fn add_lead_in<'a>(
 /// Adds what stands before the next field of the innermost record, if one is open.
 pub fn add_lead<'a>(
     alloc: Global,
-    words: &[Sequence<u8>],
+    words: &Words,
     opened: &mut Stack<Open<'a>>,
     out: &mut Vec<u8>,
 ) -> Result<(), AllocError>
@@ -118,7 +118,7 @@ fn is_enclosed(opened: &Stack<Open>, form: Form) -> bool
 
 // Adds the parenthesis before a record, and its label.
 fn add_opening_text(
-    words: &[Sequence<u8>],
+    words: &Words,
     label: Literal,
     form: Form,
     enclosed: bool,
@@ -140,7 +140,7 @@ fn add_opening_text(
 /// Begins a record of this form as the next field of the innermost one.
 pub fn open_record<'a>(
     alloc: Global,
-    words: &[Sequence<u8>],
+    words: &Words,
     label: Literal,
     form: Form,
     features: &'a [Constant],

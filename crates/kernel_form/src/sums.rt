@@ -1,11 +1,11 @@
 //! What a program says of integers: sums that stand in an order to 0, and products.
 ghost use Rattle.std.specs.Prelude.{◌≡◌, ◌∷◌, ◌++◌, [], map, codes, OnOk};
-ghost use Rattle.oz_semantics.specs.Texts.{gapped, integer_text};
-ghost use Rattle.oz_semantics.specs.KernelTexts.{name_texts, sign_text, linear_text, spaced};
+ghost use Rattle.oz_language.specs.SimpleTexts.{gapped, integer_text};
+ghost use Rattle.oz_language.specs.KernelTexts.{name_texts, sign_text, linear_text, spaced};
 
 use crate::names::{add_name, add_names};
-use oz_base::Sequence;
-use oz_semantics::{LinearTerm, Name, Sign};
+use oz_base::Words;
+use oz_language::{Identifier, LinearTerm, Sign};
 use simple_text::add_integer;
 use std::alloc::{AllocError, Global};
 
@@ -24,7 +24,7 @@ fn text_of(sign: Sign) -> &'static [u8]
 // `A*X`
 fn add_term(
     alloc: Global,
-    words: &[Sequence<u8>],
+    words: &Words,
     term: LinearTerm,
     out: &mut Vec<u8>,
 ) -> Result<(), AllocError>
@@ -38,7 +38,7 @@ fn add_term(
 // Terms with a blank before each.
 fn add_further_terms(
     alloc: Global,
-    words: &[Sequence<u8>],
+    words: &Words,
     terms: &[LinearTerm],
     out: &mut Vec<u8>,
 ) -> Result<(), AllocError>
@@ -63,7 +63,7 @@ fn add_order(alloc: Global, sign: Sign, constant: i64, out: &mut Vec<u8>) -> Res
 /// Adds `post(S C A*X ..)`.
 pub fn add_sum(
     alloc: Global,
-    words: &[Sequence<u8>],
+    words: &Words,
     sign: Sign,
     constant: i64,
     terms: &[LinearTerm],
@@ -80,10 +80,10 @@ pub fn add_sum(
 /// Adds `post(times X Y Z)`.
 pub fn add_product(
     alloc: Global,
-    words: &[Sequence<u8>],
-    left: Name,
-    right: Name,
-    product: Name,
+    words: &Words,
+    left: Identifier,
+    right: Identifier,
+    product: Identifier,
     out: &mut Vec<u8>,
 ) -> Result<(), AllocError>
     ensures { OnOk result (out.new.items ≡ out.old.items ++ (codes "post(times " ++ spaced (name_texts words.now (left ∷ right ∷ product ∷ [])) ++ codes ")")) }

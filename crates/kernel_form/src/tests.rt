@@ -1,16 +1,16 @@
 use crate::kernel_text;
-use oz_base::Sequence;
-use oz_semantics::{
-    Constant, Kernel, LinearTerm, Literal, Name, Operation, Piece, Sign, Statement,
+use oz_base::{Sequence, Words};
+use oz_language::{
+    Constant, Identifier, Kernel, LinearTerm, Literal, Operation, Piece, Sign, Statement,
 };
 use std::alloc::{AllocError, Global};
 use std::test::Fail;
 
-const X: Name = Name::Word(0);
+const X: Identifier = Identifier::Word(0);
 
-const Y: Name = Name::Word(1);
+const Y: Identifier = Identifier::Word(1);
 
-const P: Name = Name::Word(2);
+const P: Identifier = Identifier::Word(2);
 
 const A: Literal = Literal::Atom(3);
 
@@ -18,11 +18,11 @@ const BAR: Literal = Literal::Atom(4);
 
 const HASH: Literal = Literal::Atom(5);
 
-fn texts(alloc: Global) -> Result<Sequence<Sequence<u8>>, AllocError> {
+fn texts(alloc: Global) -> Result<Words, AllocError> {
     let texts: [&[u8]; 6] = [b"X", b"Y", b"P", b"a", b"|", b"#"];
-    let mut words = Sequence::new(alloc);
+    let mut words = Words::new(alloc);
     for text in texts {
-        words.push(Sequence::from_vec(text.to_vec(alloc)?))?;
+        words.number(text)?;
     }
     Ok(words)
 }
@@ -45,7 +45,7 @@ fn numbers(alloc: Global, numbers: &[u32]) -> Result<Sequence<u32>, AllocError> 
     Ok(Sequence::from_vec(numbers.to_vec(alloc)?))
 }
 
-fn names(alloc: Global, names: &[Name]) -> Result<Sequence<Name>, AllocError> {
+fn names(alloc: Global, names: &[Identifier]) -> Result<Sequence<Identifier>, AllocError> {
     Ok(Sequence::from_vec(names.to_vec(alloc)?))
 }
 
@@ -68,7 +68,7 @@ fn conditional(alloc: Global) -> Result<Statement, AllocError> {
 fn procedure(alloc: Global) -> Result<Statement, AllocError> {
     Ok(Statement::BindProcedure {
         name: P,
-        parameters: names(alloc, &[Y, Name::Fresh(12)])?,
+        parameters: names(alloc, &[Y, Identifier::Fresh(12)])?,
         body: numbers(alloc, &[5])?,
     })
 }
@@ -171,7 +171,7 @@ fn a_record_with_a_key(rt: HostRuntime) -> Result<(), Fail> {
         name: X,
         label: HASH,
         features: Sequence::from_vec(features.to_vec(alloc)?),
-        fields: names(alloc, &[Y, Y, Name::Fresh(1)])?,
+        fields: names(alloc, &[Y, Y, Identifier::Fresh(1)])?,
     };
     let expected = b"X='#'(~3:Y Y a:_1)\n";
     let statements = vec![in alloc; record]?;
@@ -181,7 +181,7 @@ fn a_record_with_a_key(rt: HostRuntime) -> Result<(), Fail> {
 
 /// `{'\=' X Y P}`
 fn comparison(alloc: Global) -> Result<Statement, AllocError> {
-    Ok(Statement::Apply {
+    Ok(Statement::Operate {
         operation: Operation::Differs,
         arguments: names(alloc, &[X, Y, P])?,
     })
@@ -194,7 +194,7 @@ fn attempt(alloc: Global) -> Result<Vec<Statement>, AllocError> {
     statements.push(Statement::Thread { body })?;
     statements.push(Statement::Try {
         body: numbers(alloc, &[0])?,
-        exception: Name::Fresh(1),
+        exception: Identifier::Fresh(1),
         handler: numbers(alloc, &[2])?,
     })?;
     Ok(statements)
@@ -208,7 +208,7 @@ fn sum(alloc: Global) -> Result<Statement, AllocError> {
     };
     let second = LinearTerm {
         coefficient: -2,
-        variable: Name::Fresh(7),
+        variable: Identifier::Fresh(7),
     };
     Ok(Statement::Post {
         sign: Sign::Negative,

@@ -1,23 +1,24 @@
 //! Texts of deep terms.
-use oz_base::{Ident, Sequence};
-use oz_semantics::{Constant, Literal, Record, Tell, Value};
-use oz_store::Seen;
+use oz_base::{Ident, Sequence, SpaceName, Words};
+use oz_language::{Constant, Literal};
+use plain_semantics::{Record, Tell, Value};
+use plain_store::Seen;
+use plain_text::term_text;
 use std::alloc::{AllocError, Global};
-use term_text::term_text;
 
-fn variable(alloc: Global, number: u32) -> Ident {
+fn variable(number: u64) -> Ident {
     Ident {
-        space: Sequence::new(alloc),
+        space: SpaceName::top(),
         number,
     }
 }
 
 /// A variable's value is a record of two fields: the first variable of all, and the next one.
-fn link(alloc: Global, number: u32, next: u32) -> Result<Tell, AllocError> {
+fn link(alloc: Global, number: u64, next: u64) -> Result<Tell, AllocError> {
     let features = vec![in alloc; Constant::Int(1), Constant::Int(2)]?;
-    let fields = vec![in alloc; variable(alloc, 0), variable(alloc, next)]?;
+    let fields = vec![in alloc; variable(0), variable(next)]?;
     Ok(Tell::Is {
-        variable: variable(alloc, number),
+        variable: variable(number),
         value: Value::Record(Record {
             label: Literal::Unit,
             features: Sequence::from_vec(features),
@@ -29,7 +30,7 @@ fn link(alloc: Global, number: u32, next: u32) -> Result<Tell, AllocError> {
 /// So many records, each but the first inside the one before.
 fn chain(alloc: Global, count: u32) -> Result<Seen, AllocError> {
     let mut seen = Seen::new(alloc);
-    for number in 0..count {
+    for number in 0..u64::from(count) {
         let tell = link(alloc, number, number + 1)?;
         seen.tell(alloc, &tell)?;
     }
@@ -41,6 +42,6 @@ fn chain(alloc: Global, count: u32) -> Result<Seen, AllocError> {
 pub fn print_chain(alloc: Global, count: u32) -> Result<bool, AllocError> {
     let seen = chain(alloc, count)?;
     let fuel = 2 * u64::from(count) + 1;
-    let text = term_text(alloc, &[], &seen, &variable(alloc, 0), fuel)?;
+    let text = term_text(alloc, &Words::new(alloc), &seen, &variable(0), fuel)?;
     Ok(text.is_some())
 }

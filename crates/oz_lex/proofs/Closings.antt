@@ -2,7 +2,7 @@
 use Rattle.std.proofs.Common.{◌≡◌, ◌≤◌, ◌<◌, ◌+◌, ◌-◌, ◌∷◌, [], ℕ, zero, suc, List, true, false, length, take, drop, sym, refl, ap, ◌∙◌, arith, length-drop, add-one}
 use Rattle.std.specs.Prelude.{if◌then◌else◌}
 use Rattle.std.proofs.lemmas.List.{take_all}
-use Rattle.oz_semantics.specs.Tokens.{close_length, after_one}
+use Rattle.oz_language.specs.Tokens.{close_length, after_one}
 use Rattle.oz_lex.specs.Scanning.{begins_close}
 
 -- n bytes further, where there is an end

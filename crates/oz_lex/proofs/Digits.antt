@@ -8,7 +8,7 @@ use Rattle.std.proofs.lemmas.List.Sums.{AllPass-from_list_all}
 use Rattle.std.proofs.lemmas.Int.Digits.{digits_value_more}
 use Rattle.std.proofs.lemmas.Str.{digit_value_digit}
 use Rattle.std.proofs.lemmas.Str.Parse.{digits_value-take-le}
-use Rattle.oz_semantics.specs.Tokens.{is_digit}
+use Rattle.oz_language.specs.Tokens.{is_digit}
 
 digit_is : (c : ℕ) → is_digit c ≡ true → digit_value c + 48 ≡ c
 digit_is c h = grind (arith, nat_tests, digit_value_digit)

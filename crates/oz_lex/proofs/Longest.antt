@@ -4,9 +4,9 @@ use Rattle.std.specs.Prelude.{nat_le}
 use Rattle.std.specs.List.{list_all, prefix_len}
 use Rattle.std.proofs.lemmas.Bool.Decides.{nat_tests}
 use Rattle.std.proofs.lemmas.List.Sums.{prefix_len-le-length}
-use Rattle.oz_semantics.specs.Tokens.{is_upper, is_lower, is_digit, goes_on_word, is_small_word, is_label, is_reserved, is_digits, is_symbol, sort_of, IsLongest, NoToken}
-use Rattle.oz_semantics.specs.declared.token.Sort.{Sort}
-use Rattle.oz_semantics.specs.declared.token.Sort.TheVariants as sort
+use Rattle.oz_language.specs.Tokens.{is_upper, is_lower, is_digit, goes_on_word, is_small_word, is_label, is_reserved, is_digits, is_symbol, sort_of, IsLongest, NoToken}
+use Rattle.oz_language.specs.declared.token.Sort.{Sort}
+use Rattle.oz_language.specs.declared.token.Sort.TheVariants as sort
 use Rattle.oz_lex.specs.Scanning.{begins, begins_paren, is_tilde, is_mark}
 use Rattle.oz_lex.proofs.Fronts.{all_front, past_front, some_front, begins_drop, begins_within}
 use Rattle.oz_lex.proofs.Sorts.{upper_passes, upper_fails, lower_passes, lower_labels, lower_fails, small_passes, label_small, digit_passes, digit_fails, tilde_passes, tilde_fails, mark_passes, mark_fails, long_no_symbol}

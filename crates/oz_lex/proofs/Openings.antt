@@ -1,8 +1,8 @@
 -- The longest token behind a quote or a `&`.
 use Rattle.std.proofs.Common.{◌≡◌, ◌≢◌, ◌≤◌, ◌<◌, ◌+◌, ◌==◌, ◌&&◌, ◌⊎◌, inl, inr, ℕ, zero, suc, List, [], ◌∷◌, length, take, drop, get_or, Bool, true, false, not, None, refl, sym, ◌∙◌, subst, arith, add-one}
 use Rattle.std.specs.Prelude.{if◌then◌else◌}
-use Rattle.oz_semantics.specs.Tokens.{is_printable, is_escape, is_quoted, is_char, is_label, sort_of, IsLongest, NoToken}
-use Rattle.oz_semantics.specs.declared.token.Sort.TheVariants as sort
+use Rattle.oz_language.specs.Tokens.{is_printable, is_escape, is_quoted, is_char, is_label, sort_of, IsLongest, NoToken}
+use Rattle.oz_language.specs.declared.token.Sort.TheVariants as sort
 use Rattle.oz_lex.specs.Scanning.{begins_with, begins_paren, char_length, escape_length, IsBadFront, IsQuotedFront, NoQuotedFront}
 use Rattle.oz_lex.proofs.Fronts.{begins_drop, begins_within}
 use Rattle.oz_lex.proofs.QuoteLaws.{opened}

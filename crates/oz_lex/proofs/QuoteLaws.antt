@@ -3,7 +3,7 @@ use Rattle.std.proofs.Common.{◌≡◌, ◌≢◌, ◌≤◌, ◌<◌, ◌+◌,
 use Rattle.std.specs.Prelude.{if◌then◌else◌, option_map, unwrap_or}
 use Rattle.std.proofs.lemmas.Bool.Decides.{nat_tests}
 use Rattle.std.proofs.lemmas.List.{drop-drop}
-use Rattle.oz_semantics.specs.Tokens.{is_printable, is_escape, is_closed, is_closed_behind, is_quoted, wrong_inside, wrong_behind}
+use Rattle.oz_language.specs.Tokens.{is_printable, is_escape, is_closed, is_closed_behind, is_quoted, wrong_inside, wrong_behind}
 use Rattle.oz_lex.specs.Scanning.{begins_with, char_length, escape_length, step_length, is_cut_off, GoesOn, IsQuotedFront, NoQuotedFront}
 use Rattle.oz_lex.proofs.Fronts.{begins_within}
 

@@ -2,9 +2,9 @@
 use Rattle.std.proofs.Common.{◌≡◌, ◌≤◌, ◌<◌, ◌+◌, ◌++◌, ◌∷◌, [], ℕ, Bool, true, false, List, length, take, drop, Option, Some, None, subst, sym, refl, ap, ◌∙◌, arith, ◌⊎◌, ⊎_elim, length-drop, append_assoc, append-nil}
 use Rattle.std.specs.List.{All}
 use Rattle.std.proofs.lemmas.List.Elements.{All-nil, All-cons}
-use Rattle.oz_semantics.specs.declared.token.Sort.{Sort}
-use Rattle.oz_semantics.specs.declared.token.Lexeme.{Lexeme}
-use Rattle.oz_semantics.specs.Tokens.{sort_of, IsLongest, NoToken, gap_length, bad_offset, is_broken_number, Lexes, Ending, Whole, Bad, at_end, at_bad, at_fraction, gap, token}
+use Rattle.oz_language.specs.declared.token.Sort.{Sort}
+use Rattle.oz_language.specs.declared.token.Lexeme.{Lexeme}
+use Rattle.oz_language.specs.Tokens.{sort_of, IsLongest, NoToken, gap_length, bad_offset, is_broken_number, Lexes, Ending, Whole, Bad, at_end, at_bad, at_fraction, gap, token}
 use Rattle.oz_lex.specs.Lexing.{OneReading, IsLexeme}
 
 -- what is read so far goes before what is read from here

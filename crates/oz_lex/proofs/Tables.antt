@@ -2,9 +2,9 @@
 use Rattle.std.proofs.Common.{◌≡◌, ℕ, Bool, true, false, List, [], ◌∷◌, Some, refl, ap}
 use Rattle.std.specs.Prelude.{map, find, option_map, unwrap_or, if◌then◌else◌}
 use Rattle.oz_base.specs.Lists.{list_eq}
-use Rattle.oz_semantics.specs.declared.token.Token.{Token}
-use Rattle.oz_semantics.specs.declared.token.Token.TheVariants as token
-use Rattle.oz_semantics.specs.Wording.{fixed, fixed_token}
+use Rattle.oz_language.specs.declared.token.Token.{Token}
+use Rattle.oz_language.specs.declared.token.Token.TheVariants as token
+use Rattle.oz_language.specs.Wording.{fixed, fixed_token}
 use Rattle.oz_lex.specs.Lexing.{placed}
 
 -- what stands beside the first key that passes a test, with the keys seen as they are or as something else

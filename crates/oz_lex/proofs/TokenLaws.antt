@@ -6,14 +6,14 @@ use Rattle.std.specs.Ffi.{without_last}
 use Rattle.oz_base.specs.Words.{number_in}
 use Rattle.oz_base.proofs.WordsLaws.{number_kept}
 use Rattle.oz_base.specs.Paths.{last_of}
-use Rattle.oz_semantics.specs.declared.token.Sort.TheVariants as sort
-use Rattle.oz_semantics.specs.declared.token.Sort.{Sort}
-use Rattle.oz_semantics.specs.declared.token.Lexeme.{Lexeme}
-use Rattle.oz_semantics.specs.declared.token.Literal.{Literal}
-use Rattle.oz_semantics.specs.declared.token.Token.{Token}
-use Rattle.oz_semantics.specs.declared.token.Token.TheVariants as token
-use Rattle.oz_semantics.specs.Tokens.{is_var, is_small_word, is_quoted, is_char, is_literal, is_label, is_reserved, is_int, is_symbol, sort_of}
-use Rattle.oz_semantics.specs.Wording.{bytes_of, number_of, unquoted, meant, meant_behind, label_word, word_in, with_word, joining, constant_of, atom_unless, atom_word, quoted_in, label_in, word_token, token_in}
+use Rattle.oz_language.specs.declared.token.Sort.TheVariants as sort
+use Rattle.oz_language.specs.declared.token.Sort.{Sort}
+use Rattle.oz_language.specs.declared.token.Lexeme.{Lexeme}
+use Rattle.oz_language.specs.declared.token.Literal.{Literal}
+use Rattle.oz_language.specs.declared.token.Token.{Token}
+use Rattle.oz_language.specs.declared.token.Token.TheVariants as token
+use Rattle.oz_language.specs.Tokens.{is_var, is_small_word, is_quoted, is_char, is_literal, is_label, is_reserved, is_int, is_symbol, sort_of}
+use Rattle.oz_language.specs.Wording.{bytes_of, number_of, unquoted, meant, meant_behind, label_word, word_in, with_word, joining, constant_of, atom_unless, atom_word, quoted_in, label_in, word_token, token_in}
 use Rattle.oz_lex.specs.Lexing.{KeepsNumbers, IsNew, TakesMemory, has_escape}
 use Rattle.oz_lex.specs.Scanning.{begins_with}
 

@@ -2,11 +2,11 @@
 use Rattle.std.specs.Prelude.{◌≡◌, ℕ, ◌+◌, ◌≤◌, ◌==◌, ◌⊎◌, Bool, true, false, if◌then◌else◌, Option, Some, None, List, length}
 use Rattle.std.specs.List.{list_any}
 use Rattle.oz_base.specs.Words.{number_in}
-use Rattle.oz_semantics.specs.Tokens.{sort_of, Lexes, Ending, Bad}
-use Rattle.oz_semantics.specs.Wording.{bytes_of, escape_value}
-use Rattle.oz_semantics.specs.declared.token.Lexeme.{Lexeme}
-use Rattle.oz_semantics.specs.declared.token.Token.{Token}
-use Rattle.oz_semantics.specs.declared.token.Token.TheVariants as token
+use Rattle.oz_language.specs.Tokens.{sort_of, Lexes, Ending, Bad}
+use Rattle.oz_language.specs.Wording.{bytes_of, escape_value}
+use Rattle.oz_language.specs.declared.token.Lexeme.{Lexeme}
+use Rattle.oz_language.specs.declared.token.Token.{Token}
+use Rattle.oz_language.specs.declared.token.Token.TheVariants as token
 use Rattle.oz_lex.specs.declared.lexer.LexError.{LexError}
 use Rattle.oz_lex.specs.declared.lexer.LexError.TheVariants.{Memory, BadByte}
 

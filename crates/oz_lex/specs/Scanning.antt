@@ -1,7 +1,7 @@
 -- The token at the front of a text.
 use Rattle.std.specs.Prelude.{ℕ, suc, ◌≡◌, ◌≢◌, ◌<◌, ◌≤◌, ◌+◌, ◌==◌, ◌&&◌, ◌||◌, not, Bool, true, false, if◌then◌else◌, List, [], ◌∷◌, length, take, drop, Option, Some, None, option_map, unwrap_or, Result, Ok, Err}
-use Rattle.oz_semantics.specs.Tokens.{is_upper, is_lower, is_digit, is_printable, is_escape, is_closed, is_quoted, wrong_inside, bad_offset, IsLongest, NoToken}
-use Rattle.oz_semantics.specs.declared.token.Sort.{Sort}
+use Rattle.oz_language.specs.Tokens.{is_upper, is_lower, is_digit, is_printable, is_escape, is_closed, is_quoted, wrong_inside, bad_offset, IsLongest, NoToken}
+use Rattle.oz_language.specs.declared.token.Sort.{Sort}
 
 -- the first byte passes the test
 abbrev pub begins : (ℕ → Bool) → List ℕ → Bool

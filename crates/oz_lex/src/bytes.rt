@@ -2,7 +2,7 @@
 ghost use Rattle.std.specs.Prelude.{◌≡◌, ◌≤◌, length, drop};
 ghost use Rattle.std.specs.List.{list_any};
 ghost use Rattle.oz_base.specs.Lists.{list_eq};
-ghost use Rattle.oz_semantics.specs.Tokens.{is_blank, is_upper, is_lower, is_digit, goes_on_word, is_printable, is_escape, is_reserved, is_symbol};
+ghost use Rattle.oz_language.specs.Tokens.{is_blank, is_upper, is_lower, is_digit, goes_on_word, is_printable, is_escape, is_reserved, is_symbol};
 
 /// The reserved words that are no literals.
 static RESERVED: [&[u8]; 45] = [

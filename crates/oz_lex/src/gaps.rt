@@ -1,6 +1,6 @@
 //! Blanks and comments.
 ghost use Rattle.std.specs.Prelude.{◌≡◌, ◌≤◌, ◌<◌, ◌+◌, ◌-◌, length};
-ghost use Rattle.oz_semantics.specs.Tokens.{line_length, close_length, block_length, gap_length, after_one};
+ghost use Rattle.oz_language.specs.Tokens.{line_length, close_length, block_length, gap_length, after_one};
 ghost use Rattle.oz_lex.specs.Scanning.{begins_close};
 
 use crate::bytes::is_blank;

@@ -2,10 +2,10 @@
 ghost use Rattle.std.specs.Prelude.{◌≡◌, ◌≤◌, ◌^◌, true, IfSome, IfNone};
 ghost use Rattle.std.specs.List.{list_all};
 ghost use Rattle.std.specs.Str.Parse.{digits_value};
-ghost use Rattle.oz_semantics.specs.Tokens.{is_digit, is_int};
-ghost use Rattle.oz_semantics.specs.Wording.{int_token, positive_token, negative_token, minus};
+ghost use Rattle.oz_language.specs.Tokens.{is_digit, is_int};
+ghost use Rattle.oz_language.specs.Wording.{int_token, positive_token, negative_token, minus};
 
-use oz_semantics::Token;
+use oz_language::Token;
 
 /// No integer is as great, and only a negative one as far from 0.
 const LIMIT: u128 = 1 << 127;

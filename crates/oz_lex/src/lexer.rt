@@ -1,12 +1,12 @@
 //! The tokens of a whole text.
 ghost use Rattle.std.specs.Prelude.{◌≡◌, IfOk, IfErr};
-ghost use Rattle.oz_semantics.specs.Tokens.{Lexes, Whole, is_broken_number, begins_fraction};
+ghost use Rattle.oz_language.specs.Tokens.{Lexes, Whole, is_broken_number, begins_fraction};
 ghost use Rattle.oz_lex.specs.Lexing.{IsBad, OneReading};
 
 use crate::bytes::{is_digit, rest_of};
 use crate::gaps::gap_len;
 use crate::scan::token_at;
-use oz_semantics::{Lexeme, Sort};
+use oz_language::{Lexeme, Sort};
 use std::alloc::{AllocError, AllocFailed, Global};
 
 /// Why a text has no tokens.

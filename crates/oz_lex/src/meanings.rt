@@ -1,7 +1,7 @@
 //! What stands in quotes, and the bytes that escapes stand for.
 ghost use Rattle.std.specs.Prelude.{◌≡◌, ◌++◌, ◌&&◌, ◌==◌, not, drop, IfOk, OnOk, option_to_list};
 ghost use Rattle.std.specs.Ffi.{without_last};
-ghost use Rattle.oz_semantics.specs.Wording.{escape_value, meant, unquoted, char_value};
+ghost use Rattle.oz_language.specs.Wording.{escape_value, meant, unquoted, char_value};
 ghost use Rattle.oz_lex.specs.Lexing.{has_escape, meant_byte};
 
 use std::alloc::{AllocError, Global};

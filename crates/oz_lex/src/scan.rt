@@ -1,12 +1,12 @@
 //! The longest token at the front of a text.
 ghost use Rattle.std.specs.Prelude.{◌≡◌, ◌≤◌, ◌&&◌, true, false, length, take, nat_le};
 ghost use Rattle.std.specs.List.{prefix_len};
-ghost use Rattle.oz_semantics.specs.Tokens.{is_lower, is_digit, goes_on_word, is_symbol, IsLongest};
+ghost use Rattle.oz_language.specs.Tokens.{is_lower, is_digit, goes_on_word, is_symbol, IsLongest};
 ghost use Rattle.oz_lex.specs.Scanning.{begins, begins_with, begins_paren, is_tilde, is_mark, IsTokenAt, IsFront};
 
 use crate::bytes;
 use crate::quotes::{begins_with, char_len, quoted_len};
-use oz_semantics::Sort;
+use oz_language::Sort;
 
 /// The longest token at the front, and how many bytes it has. Or how far the byte is away for which there is none.
 pub fn token_at(text: &[u8]) -> Result<(Sort, usize), usize>

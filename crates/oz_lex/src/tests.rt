@@ -1,5 +1,5 @@
 use super::*;
-use oz_semantics::{Comparison, Lexeme, Literal, Operator, Sort, Token};
+use oz_language::{Comparison, Lexeme, Literal, Operator, Sort, Token};
 use std::alloc::Global;
 use std::test::*;
 
@@ -59,20 +59,20 @@ fn splits_a_program(rt: HostRuntime) -> Result<(), Fail> {
         found.as_slice(),
         [
             Token::Local { at: 0 },
-            Token::Var { name: 26, at: 6 },
+            Token::Var { name: 62, at: 6 },
             Token::In,
             Token::OpenBrace { at: 18 },
-            Token::Var { name: 27, at: 19 },
-            Token::Var { name: 26, at: 21 },
+            Token::Var { name: 63, at: 19 },
+            Token::Var { name: 62, at: 21 },
             Token::CloseBrace,
-            Token::Var { name: 26, at: 32 },
+            Token::Var { name: 62, at: 32 },
             Token::Equals,
             Token::Label {
-                literal: Literal::Atom(28),
+                literal: Literal::Atom(64),
                 at: 34
             },
             Token::Literal {
-                literal: Literal::Atom(29),
+                literal: Literal::Atom(65),
                 at: 36
             },
             Token::Var { name: 0, at: 38 },
@@ -101,7 +101,7 @@ fn knows_the_words_of_tests(rt: HostRuntime) -> Result<(), Fail> {
             Token::Any { at: 23 },
             Token::Any { at: 25 },
             Token::Literal {
-                literal: Literal::Atom(26),
+                literal: Literal::Atom(62),
                 at: 26
             },
         ]
@@ -205,15 +205,15 @@ fn reads_quotes(rt: HostRuntime) -> Result<(), Fail> {
     assert_eq!(rt;
         found.as_slice(),
         [
-            atom(26, 0),
-            atom(26, 4),
-            atom(27, 10),
-            atom(28, 17),
-            label(29, 20),
-            Token::String { text: 30, at: 29 },
+            atom(62, 0),
+            atom(62, 4),
+            atom(63, 10),
+            atom(64, 17),
+            label(65, 20),
+            Token::String { text: 66, at: 29 },
             Token::Int { value: 97, at: 35 },
             Token::Int { value: 10, at: 38 },
-            label(26, 42),
+            label(62, 42),
         ]
         .as_slice()
     );
@@ -228,7 +228,7 @@ fn knows_symbols_and_given_words(rt: HostRuntime) -> Result<(), Fail> {
     assert_eq!(rt;
         found.as_slice(),
         [
-            Token::Var { name: 26, at: 0 },
+            Token::Var { name: 62, at: 0 },
             Token::Relates {
                 comparison: Comparison::Unequal
             },

@@ -2,11 +2,11 @@
 ghost use Rattle.std.specs.Prelude.{◌≡◌, ◌≤◌, ◌+◌, ℕ, pos, true, List, [], Some, IfOk, OnOk, OnErr, length, fold, find, map, option_map};
 ghost use Rattle.oz_base.specs.Lists.{list_eq};
 ghost use Rattle.oz_base.specs.Words.{with_text};
-ghost use Rattle.oz_semantics.specs.declared.token.Lexeme.{Lexeme};
-ghost use Rattle.oz_semantics.specs.declared.token.Token.{Token};
-ghost use Rattle.oz_semantics.specs.declared.token.Token.TheVariants as token;
-ghost use Rattle.oz_semantics.specs.Tokens.{is_literal};
-ghost use Rattle.oz_semantics.specs.Wording.{bytes_of, first_words, word_in, with_word, atom_word, atom_unless, unquoted, label_word, joining, token_in, word_token, literal_in, quoted_in, label_in, constant_of, fixed_token, fixed, number_of, char_value};
+ghost use Rattle.oz_language.specs.declared.token.Lexeme.{Lexeme};
+ghost use Rattle.oz_language.specs.declared.token.Token.{Token};
+ghost use Rattle.oz_language.specs.declared.token.Token.TheVariants as token;
+ghost use Rattle.oz_language.specs.Tokens.{is_literal};
+ghost use Rattle.oz_language.specs.Wording.{bytes_of, first_words, word_in, with_word, atom_word, atom_unless, unquoted, label_word, joining, token_in, word_token, literal_in, quoted_in, label_in, constant_of, fixed_token, fixed, number_of, char_value};
 ghost use Rattle.oz_lex.specs.Lexing.{IsLexeme, IsNew, KeepsNumbers, TakesMemory, placed};
 
 use crate::bytes::{is_reserved, same_bytes};
@@ -14,7 +14,7 @@ use crate::integers::int_token;
 use crate::meanings::{char_value, has_escape, inside_of, meant, without_last};
 use crate::quotes::begins_with;
 use oz_base::Words;
-use oz_semantics::{Comparison, Lexeme, Literal, Operator, Sort, Token};
+use oz_language::{Comparison, Lexeme, Literal, Operator, Sort, Token};
 use std::alloc::{AllocError, Global};
 
 /// The tokens of symbols and reserved words, as they are at the front of a text.
@@ -172,7 +172,7 @@ static FIXED: [(&[u8], Token); 55] = [
 ];
 
 /// The words that each text has: the names that need no declaration, and atoms.
-static FIRST_WORDS: [&[u8]; 26] = [
+static FIRST_WORDS: [&[u8]; 62] = [
     b"Script",
     b"Show",
     b"FD",
@@ -199,6 +199,42 @@ static FIRST_WORDS: [&[u8]; 26] = [
     b"|",
     b"#",
     b"lazy",
+    b"failure",
+    b"tell",
+    b"fail",
+    b"top",
+    b"space",
+    b"error",
+    b"kernel",
+    b"overflow",
+    b"div0",
+    b"type",
+    b"apply",
+    b"arity",
+    b"feature",
+    b"boolean",
+    b"noElse",
+    b"domain",
+    b"spaceParent",
+    b"spaceChoice",
+    b"spaceMerged",
+    b"spaceRaised",
+    b"globalState",
+    b"cell",
+    b"port",
+    b"io",
+    b"failed",
+    b"succeeded",
+    b"alternatives",
+    b"raised",
+    b"merged",
+    b"opaque",
+    b"fd",
+    b"distinct",
+    b"distribute",
+    b"naive",
+    b"ff",
+    b"split",
 ];
 
 /// The words that each text has.

@@ -1,7 +1,7 @@
 -- When phrases are one alone.
 use Rattle.std.proofs.Common.{◌≡◌, ◌≢◌, List, [], ◌∷◌, length, true, false, refl, arith}
 use Rattle.oz_syntax.specs.declared.phrase.Phrase.{Phrase as Tree}
-use Rattle.oz_semantics.specs.Grammar.{is_single, of_list}
+use Rattle.oz_language.specs.Grammar.{is_single, of_list}
 use Rattle.oz_syntax.specs.View.{views}
 
 pub single_views : (ps : List Tree) → length ps ≡ 1 → is_single (of_list (views ps)) ≡ true

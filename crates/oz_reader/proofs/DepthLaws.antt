@@ -1,6 +1,6 @@
 -- What is open counts for no more where an operand ends an expression before it.
 use Rattle.std.proofs.Common.{◌≤◌, ◌+◌, List, [], ◌∷◌, arith}
-use Rattle.oz_semantics.specs.Refusals.{Open, depth_of, innermost, at_operand}
+use Rattle.oz_language.specs.Refusals.{Open, depth_of, innermost, at_operand}
 
 operand_lighter : (o : Open) → (at_operand o).weight + (at_operand o).operators ≤ o.weight + o.operators
 operand_lighter o = grind arith

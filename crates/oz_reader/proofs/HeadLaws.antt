@@ -1,11 +1,11 @@
 -- What holds of heads, and of the phrases in them.
 use Rattle.std.proofs.Common.{◌≡◌, ◌&&◌, ℕ, List, [], ◌∷◌, true, false, refl, ap, Option, Some}
 use Rattle.std.specs.List.{list_all}
-use Rattle.oz_semantics.specs.Grammar.{Phrase, Phrases, more, var, dollar, head, of_list, is_parameter, are_parameters, is_named_head, is_value_head}
+use Rattle.oz_language.specs.Grammar.{Phrase, Phrases, more, var, dollar, head, of_list, is_parameter, are_parameters, is_named_head, is_value_head}
 use Rattle.oz_syntax.specs.declared.phrase.Phrase.{Phrase as Tree}
 use Rattle.oz_syntax.specs.View.{view, views}
-use Rattle.oz_semantics.specs.declared.token.Token.{Token}
-use Rattle.oz_semantics.specs.declared.token.Token.TheVariants.{Var, Any, CloseBrace}
+use Rattle.oz_language.specs.declared.token.Token.{Token}
+use Rattle.oz_language.specs.declared.token.Token.TheVariants.{Var, Any, CloseBrace}
 use Rattle.reader_law.specs.Machine.{Maker, Stack, is_some_item, first_head, next_head}
 use Rattle.oz_reader.specs.Heads.{later_head, begins_with_name, begins_with_dollar}
 

@@ -1,7 +1,7 @@
 -- No phrase of a block ends outside a block.
 use Rattle.std.proofs.Common.{◌≡◌, Bool, ◌∷◌, false, refl, Option, None}
-use Rattle.oz_semantics.specs.Grammar.{Phrase}
-use Rattle.oz_semantics.specs.declared.token.Token.{Token}
+use Rattle.oz_language.specs.Grammar.{Phrase}
+use Rattle.oz_language.specs.declared.token.Token.{Token}
 use Rattle.reader_law.specs.Machine.{block, Stack, item_over}
 use Rattle.oz_reader.specs.View.{is_in_block}
 

@@ -5,15 +5,15 @@ use Rattle.std.proofs.lemmas.Bool.Decides.{nat_tests}
 use Rattle.std.proofs.lemmas.List.{take-append-drop, take_all, take_more, take-map, length-map, map-append, length-drop}
 use Rattle.std.proofs.lemmas.List.Sums.{fold-append}
 use Rattle.std.proofs.lemmas.Option.{slice_get_within, get_or_from_slice_get}
-use Rattle.oz_semantics.specs.Tokens.{Lexes, Ending, Whole, at_end, at_bad, at_fraction, gap, token, IsLongest, gap_length}
-use Rattle.oz_semantics.specs.Wording.{first_words, joining, words_of, token_in, tokens_in}
-use Rattle.oz_semantics.specs.Grammar.{Phrase, Derives}
-use Rattle.oz_semantics.specs.Refusals.{Open, depth_limit, open_with, depth_of, too_deep, text_open, first_of, sooner, comes_before, Program, Accepts, IsFineBefore, DeepAt, SyntaxAt, EndsEarly, IsRefused, faults, first_scope, bad_byte, deep, syntax, ends_early, faulty}
-use Rattle.oz_semantics.specs.declared.token.Lexeme.{Lexeme}
-use Rattle.oz_semantics.specs.declared.token.Sort.{Sort}
-use Rattle.oz_semantics.specs.declared.token.Token.{Token}
-use Rattle.oz_semantics.specs.declared.outcome.RefusalKind.TheVariants as kind
-use Rattle.oz_semantics.specs.declared.outcome.Fault.{Fault}
+use Rattle.oz_language.specs.Tokens.{Lexes, Ending, Whole, at_end, at_bad, at_fraction, gap, token, IsLongest, gap_length}
+use Rattle.oz_language.specs.Wording.{first_words, joining, words_of, token_in, tokens_in}
+use Rattle.oz_language.specs.Grammar.{Phrase, Derives}
+use Rattle.oz_language.specs.Refusals.{Open, depth_limit, open_with, depth_of, too_deep, text_open, first_of, sooner, comes_before, Program, Accepts, IsFineBefore, DeepAt, SyntaxAt, EndsEarly, IsRefused, faults, first_scope, bad_byte, deep, syntax, ends_early, faulty}
+use Rattle.oz_language.specs.declared.token.Lexeme.{Lexeme}
+use Rattle.oz_language.specs.declared.token.Sort.{Sort}
+use Rattle.oz_language.specs.declared.token.Token.{Token}
+use Rattle.oz_language.specs.declared.fault.RefusalKind.TheVariants as kind
+use Rattle.oz_language.specs.declared.fault.Fault.{Fault}
 use Rattle.oz_lex.specs.declared.lexer.LexError.{LexError}
 use Rattle.oz_lex.specs.declared.lexer.LexError.TheVariants as lex
 use Rattle.oz_lex.specs.Lexing.{IsBad, IsLexeme}

@@ -1,11 +1,11 @@
 -- Operands, operators and fields, case by case as the code reads them.
 use Rattle.std.proofs.Common.{◌≡◌, ℕ, Bool, Option, Some, None, [], ◌∷◌, true, false, refl}
 use Rattle.std.specs.Prelude.{option_map}
-use Rattle.oz_semantics.specs.Grammar.{Phrase, int}
-use Rattle.oz_semantics.specs.declared.kernel.Constant.{Constant}
-use Rattle.oz_semantics.specs.declared.token.Operator.{Operator}
-use Rattle.oz_semantics.specs.declared.token.Token.{Token}
-use Rattle.oz_semantics.specs.declared.token.Token.TheVariants.{Var}
+use Rattle.oz_language.specs.Grammar.{Phrase, int}
+use Rattle.oz_language.specs.declared.kernel.Constant.{Constant}
+use Rattle.oz_language.specs.declared.token.Operator.{Operator}
+use Rattle.oz_language.specs.declared.token.Token.{Token}
+use Rattle.oz_language.specs.declared.token.Token.TheVariants.{Var}
 use Rattle.oz_reader.specs.View.{term_begins, takes_term, is_in_fields, key_of}
 use Rattle.reader_law.specs.Machine.{Stack, guard, pattern_begins, add_term, left_of, relating, turn_key, key, fields, behind_value}
 

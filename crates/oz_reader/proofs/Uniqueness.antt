@@ -2,15 +2,15 @@
 use Rattle.std.proofs.Common.{◌≡◌, ◌≤◌, ◌<◌, ◌+◌, ◌||◌, ℕ, Bool, true, false, nat_lt, List, [], ◌∷◌, ◌++◌, length, take, drop, None, Some, slice_get, refl, sym, ap, ◌∙◌, subst, arith}
 use Rattle.std.proofs.lemmas.List.{take-take, take-append-drop, take_all, append_assoc, append-nil, length-map}
 use Rattle.std.proofs.lemmas.Option.{slice_get_within}
-use Rattle.oz_semantics.specs.Tokens.{Lexes, Whole, Bad}
-use Rattle.oz_semantics.specs.Wording.{words_of, token_in, tokens_in}
-use Rattle.oz_semantics.specs.Grammar.{Phrase, Derives, Begins}
-use Rattle.oz_semantics.specs.Refusals.{Open, depth_limit, open_with, depth_of, too_deep, text_open, faults, first_scope, first_of, Program, Accepts, IsFineBefore, DeepAt, SyntaxAt, EndsEarly, FaultyAt, IsRefused, bad_byte, deep, syntax, ends_early, faulty}
-use Rattle.oz_semantics.specs.declared.token.Lexeme.{Lexeme}
-use Rattle.oz_semantics.specs.declared.token.Token.{Token}
-use Rattle.oz_semantics.specs.declared.outcome.RefusalKind.{RefusalKind}
-use Rattle.oz_semantics.specs.declared.outcome.RefusalKind.TheVariants as kind
-use Rattle.oz_semantics.specs.declared.outcome.Fault.{Fault}
+use Rattle.oz_language.specs.Tokens.{Lexes, Whole, Bad}
+use Rattle.oz_language.specs.Wording.{words_of, token_in, tokens_in}
+use Rattle.oz_language.specs.Grammar.{Phrase, Derives, Begins}
+use Rattle.oz_language.specs.Refusals.{Open, depth_limit, open_with, depth_of, too_deep, text_open, faults, first_scope, first_of, Program, Accepts, IsFineBefore, DeepAt, SyntaxAt, EndsEarly, FaultyAt, IsRefused, bad_byte, deep, syntax, ends_early, faulty}
+use Rattle.oz_language.specs.declared.token.Lexeme.{Lexeme}
+use Rattle.oz_language.specs.declared.token.Token.{Token}
+use Rattle.oz_language.specs.declared.fault.RefusalKind.{RefusalKind}
+use Rattle.oz_language.specs.declared.fault.RefusalKind.TheVariants as kind
+use Rattle.oz_language.specs.declared.fault.Fault.{Fault}
 use Rattle.oz_lex.specs.Lexing.{OneReading}
 use Rattle.reader_law.specs.Laws.{ParsesLaw}
 use Rattle.oz_reader.specs.declared.error.ReadError.{ReadError}

@@ -1,8 +1,8 @@
 -- Programs, and what is open, as numbers, by which proofs tell them apart.
 use Rattle.std.specs.Prelude.{ℕ, Bool, List, refl}
 use Rattle.std.specs.Coded.{Coded, code_by, coded×, coded_list, coded_ℕ, coded_bool}
-use Rattle.oz_semantics.specs.Grammar.{Phrase}
-use Rattle.oz_semantics.specs.Refusals.{Program, Open}
+use Rattle.oz_language.specs.Grammar.{Phrase}
+use Rattle.oz_language.specs.Refusals.{Program, Open}
 use Rattle.oz_syntax.specs.Codes.{phrase_code}
 
 -- a program is told apart by its words and its phrase

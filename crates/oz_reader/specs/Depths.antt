@@ -1,6 +1,6 @@
 -- What is open, as the definitions see it.
 use Rattle.std.specs.Prelude.{◌≡◌, ℕ, List, map}
-use Rattle.oz_semantics.specs.Refusals.{Open, depth_of, at_operand, at_end, operating, accessing, weighing, boxing, catching}
+use Rattle.oz_language.specs.Refusals.{Open, depth_of, at_operand, at_end, operating, accessing, weighing, boxing, catching}
 use Rattle.oz_reader.specs.declared.depth.Open.{Open as OpenKept}
 use Rattle.oz_reader.specs.declared.depth.Change.{Change}
 use Rattle.oz_reader.specs.declared.depth.Change.TheVariants as change

@@ -1,9 +1,9 @@
 -- Heads, case by case as the code reads them.
 use Rattle.std.specs.Prelude.{ℕ, Bool, false, List, [], ◌∷◌, ◌++◌, Option, Some, None, nat_eq}
-use Rattle.oz_semantics.specs.Wording.{lazy_word}
-use Rattle.oz_semantics.specs.Grammar.{Phrase, Phrases, more, var, any, dollar, head, of_list, are_parameters}
-use Rattle.oz_semantics.specs.declared.token.Token.{Token}
-use Rattle.oz_semantics.specs.declared.token.Token.TheVariants.{Var, Any, CloseBrace}
+use Rattle.oz_language.specs.Wording.{lazy_word}
+use Rattle.oz_language.specs.Grammar.{Phrase, Phrases, more, var, any, dollar, head, of_list, are_parameters}
+use Rattle.oz_language.specs.declared.token.Token.{Token}
+use Rattle.oz_language.specs.declared.token.Token.TheVariants.{Var, Any, CloseBrace}
 use Rattle.reader_law.specs.Machine.{Maker, making_fun, Stack, guard, heading, heads, opened, made}
 
 -- an atom where a head may begin

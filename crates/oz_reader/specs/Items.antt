@@ -1,7 +1,7 @@
 -- The phrases of a block and its end, case by case as the code reads them.
 use Rattle.std.specs.Prelude.{◌&&◌, Bool, true, false, List, [], ◌∷◌, ◌++◌, Option, Some, None, if◌then◌else◌}
-use Rattle.oz_semantics.specs.Grammar.{Phrase, of_list, when, choose, arm, cases, cases_or, clause}
-use Rattle.oz_semantics.specs.declared.token.Token.{Token}
+use Rattle.oz_language.specs.Grammar.{Phrase, of_list, when, choose, arm, cases, cases_or, clause}
+use Rattle.oz_language.specs.declared.token.Token.{Token}
 use Rattle.reader_law.specs.Machine.{Opener, of_then, of_else, of_clause, of_case_else, Stack, guard, block, may_state, had, ends, is_begun, expression_begins, close}
 
 -- where the next phrase is known by no token of its own

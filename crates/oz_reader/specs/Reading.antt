@@ -1,12 +1,12 @@
 -- What reading a text comes to.
 use Rattle.std.specs.Prelude.{◌≡◌, ℕ, false, List, Option, Some, None, Result, Ok, Err}
-use Rattle.oz_semantics.specs.Grammar.{Derives}
-use Rattle.oz_semantics.specs.Refusals.{Program, Accepts, IsRefused, too_deep, text_open}
-use Rattle.oz_semantics.specs.Wording.{words_of, tokens_in}
-use Rattle.oz_semantics.specs.declared.outcome.Fault.{Fault}
-use Rattle.oz_semantics.specs.declared.outcome.RefusalKind.{RefusalKind}
-use Rattle.oz_semantics.specs.declared.outcome.RefusalKind.TheVariants as kind
-use Rattle.oz_semantics.specs.declared.token.Lexeme.{Lexeme}
+use Rattle.oz_language.specs.Grammar.{Derives}
+use Rattle.oz_language.specs.Refusals.{Program, Accepts, IsRefused, too_deep, text_open}
+use Rattle.oz_language.specs.Wording.{words_of, tokens_in}
+use Rattle.oz_language.specs.declared.fault.Fault.{Fault}
+use Rattle.oz_language.specs.declared.fault.RefusalKind.{RefusalKind}
+use Rattle.oz_language.specs.declared.fault.RefusalKind.TheVariants as kind
+use Rattle.oz_language.specs.declared.token.Lexeme.{Lexeme}
 use Rattle.oz_lex.specs.declared.lexer.LexError.{LexError}
 use Rattle.oz_lex.specs.declared.lexer.LexError.TheVariants as lex
 use Rattle.reader_law.specs.Machine.{Stack}

@@ -1,10 +1,10 @@
 -- The open constructs that the reader's values stand for, and what a step answers.
 use Rattle.std.specs.Prelude.{◌≡◌, ◌+◌, nat_lt, ℕ, Bool, true, false, List, [], ◌∷◌, Option, Some, None, Result, Ok, Err}
-use Rattle.oz_semantics.specs.Grammar.{Phrase, var, any, int, string, literal, terms_in, terms_limit}
-use Rattle.oz_semantics.specs.declared.kernel.Constant.{Constant}
-use Rattle.oz_semantics.specs.declared.kernel.Constant.TheVariants as constant
-use Rattle.oz_semantics.specs.declared.token.Token.{Token}
-use Rattle.oz_semantics.specs.declared.token.Token.TheVariants.{Var, Any, Int, String, Literal as Lit, Label, OpenParen, OpenBracket}
+use Rattle.oz_language.specs.Grammar.{Phrase, var, any, int, string, literal, terms_in, terms_limit}
+use Rattle.oz_language.specs.declared.kernel.Constant.{Constant}
+use Rattle.oz_language.specs.declared.kernel.Constant.TheVariants as constant
+use Rattle.oz_language.specs.declared.token.Token.{Token}
+use Rattle.oz_language.specs.declared.token.Token.TheVariants.{Var, Any, Int, String, Literal as Lit, Label, OpenParen, OpenBracket}
 use Rattle.oz_syntax.specs.View.{view, views}
 use Rattle.oz_reader.specs.declared.frame.Opener.{Opener as OpenerKept}
 use Rattle.oz_reader.specs.declared.frame.Opener.TheVariants as o

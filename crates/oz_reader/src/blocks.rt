@@ -1,6 +1,6 @@
 //! Steps of blocks: their phrases, one after another.
 ghost use Rattle.std.specs.Prelude.{◌≡◌, ◌∷◌, ◌++◌, ◌||◌, [], Some, None, true, false};
-ghost use Rattle.oz_semantics.specs.Grammar.{var, skip};
+ghost use Rattle.oz_language.specs.Grammar.{var, skip};
 ghost use Rattle.oz_syntax.specs.View.{view, views};
 ghost use Rattle.reader_law.specs.Machine.{guard, block, whole, of_paren, enter, item, item_over, declares, is_begun, expression_begins};
 ghost use Rattle.oz_reader.specs.View.{Steps, stack_of, opener_of, frame_of};
@@ -12,7 +12,7 @@ use crate::frame::{Block, Frame, Maker, Opener, Ways};
 use crate::heads::is_named_head;
 use crate::operands::expression_begins;
 use crate::stack::{begun, is_some_item, is_var, open_block, pop_block, push};
-use oz_semantics::{Connective, Token};
+use oz_language::{Connective, Token};
 use oz_syntax::Phrase;
 use std::alloc::Global;
 

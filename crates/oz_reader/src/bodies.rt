@@ -1,6 +1,6 @@
 //! What ends with a body.
 ghost use Rattle.std.specs.Prelude.{◌≡◌, ◌∷◌, ◌++◌, ◌&&◌, [], Some, IfOk, true, false};
-ghost use Rattle.oz_semantics.specs.Grammar.{of_list, proc, fun, local, thread, choice, when, choose, arm, cases, cases_or, clause, attempt, is_named_head, is_value_head};
+ghost use Rattle.oz_language.specs.Grammar.{of_list, proc, fun, local, thread, choice, when, choose, arm, cases, cases_or, clause, attempt, is_named_head, is_value_head};
 ghost use Rattle.oz_syntax.specs.View.{view, views};
 ghost use Rattle.reader_law.specs.Machine.{guard, had, ends, may_state};
 ghost use Rattle.oz_reader.specs.View.{Steps, stack_of};
@@ -169,7 +169,7 @@ pub fn end_when(
         states: true,
         values: false,
     };
-    had(alloc, stack, Phrase::When { at, arms }, statement)
+    had(alloc, stack, Phrase::If { at, arms }, statement)
 }
 
 /// An `if` with its `else` ends.
@@ -184,7 +184,7 @@ pub fn end_choose(
     ensures { Steps result stack.new.items (ends (choose at (of_list (views arms.items)) (view otherwise)) ways.states ways.values (stack_of stack.old.items)) }
 {
     let otherwise = Box::new(alloc, otherwise)?;
-    let whole = Phrase::Choose {
+    let whole = Phrase::IfElse {
         at,
         arms,
         otherwise,
@@ -203,7 +203,7 @@ pub fn end_cases(
 ) -> Result<(), StepError>
     ensures { Steps result stack.new.items (ends (cases at (view subject.value) (of_list (views clauses.items))) ways.states ways.values (stack_of stack.old.items)) }
 {
-    let whole = Phrase::Cases {
+    let whole = Phrase::Case {
         at,
         subject,
         clauses,
@@ -224,7 +224,7 @@ pub fn end_cases_or(
     ensures { Steps result stack.new.items (ends (cases_or at (view subject.value) (of_list (views clauses.items)) (view otherwise)) ways.states ways.values (stack_of stack.old.items)) }
 {
     let otherwise = Box::new(alloc, otherwise)?;
-    let whole = Phrase::CasesOr {
+    let whole = Phrase::CaseElse {
         at,
         subject,
         clauses,

@@ -1,6 +1,6 @@
 //! How blocks end.
 ghost use Rattle.std.specs.Prelude.{◌≡◌, ◌∷◌, ◌++◌, ◌&&◌, [], Some, None};
-ghost use Rattle.oz_semantics.specs.Grammar.{of_list, is_single, paren};
+ghost use Rattle.oz_language.specs.Grammar.{of_list, is_single, paren};
 ghost use Rattle.oz_syntax.specs.View.{view, views};
 ghost use Rattle.reader_law.specs.Machine.{guard, close, is_alive, is_some_item, opened, of_choice, patterns, catching, body_of};
 ghost use Rattle.oz_reader.specs.Items.{end_branch};
@@ -13,7 +13,7 @@ use crate::bodies::{
 use crate::error::StepError;
 use crate::frame::{Block, Frame, Opener, Ways};
 use crate::stack::{begun, ends, is_alive, is_some_item, push};
-use oz_semantics::Token;
+use oz_language::Token;
 use oz_syntax::Phrase;
 use std::alloc::Global;
 

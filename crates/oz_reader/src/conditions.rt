@@ -7,7 +7,7 @@ ghost use Rattle.oz_reader.specs.View.{Steps, stack_of};
 use crate::error::StepError;
 use crate::frame::{BOTH_WAYS, Frame, Opener, Ways};
 use crate::stack::{open_block, push};
-use oz_semantics::Token;
+use oz_language::Token;
 use oz_syntax::Phrase;
 use std::alloc::Global;
 

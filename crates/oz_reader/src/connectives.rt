@@ -1,6 +1,6 @@
 //! Steps behind the first expression of a block's phrase.
 ghost use Rattle.std.specs.Prelude.{◌≡◌, ◌∷◌, ◌&&◌, ◌||◌, Some, nat_le, nat_lt};
-ghost use Rattle.oz_semantics.specs.Grammar.{is_var, is_side, terms_in, terms_limit, level_of_selection};
+ghost use Rattle.oz_language.specs.Grammar.{is_var, is_side, terms_in, terms_limit, level_of_selection};
 ghost use Rattle.oz_syntax.specs.View.{view, views};
 ghost use Rattle.reader_law.specs.Machine.{guard, binds, behind_item, connecting, relating};
 ghost use Rattle.oz_reader.specs.View.{Steps, stack_of, opener_of, frame_of};
@@ -11,7 +11,7 @@ use crate::frame::{Block, Frame, Ways};
 use crate::levels::{SELECTIONS, binds};
 use crate::sides::{has_room, is_side};
 use crate::stack::{is_var, push};
-use oz_semantics::{Comparison, Connective, Token};
+use oz_language::{Comparison, Connective, Token};
 use oz_syntax::Phrase;
 use std::alloc::Global;
 

@@ -1,10 +1,10 @@
 //! How many constructs are open.
 ghost use Rattle.std.specs.Prelude.{◌≡◌, ◌≤◌, ◌+◌, ◌∷◌, [], suc, nat_lt, OnOk, IfOk, IfSome, IfNone};
-ghost use Rattle.oz_semantics.specs.Refusals.{depth_limit, text_open, open_with, depth_of, opened, innermost, opening, closing, at_operand, at_end, operating, accessing, weighing, boxing, catching};
+ghost use Rattle.oz_language.specs.Refusals.{depth_limit, text_open, open_with, depth_of, opened, innermost, opening, closing, at_operand, at_end, operating, accessing, weighing, boxing, catching};
 ghost use Rattle.oz_reader.specs.Depths.{open_of, opens_of, change_by};
 
 use oz_base::Stack;
-use oz_semantics::Token;
+use oz_language::Token;
 use std::alloc::{AllocError, Global};
 use std::marker::Model;
 

@@ -1,8 +1,8 @@
 //! Why no step is taken, and why a text is not read.
 ghost use Rattle.std.specs.Prelude.{◌≡◌};
 
+use oz_language::{Fault, RefusalKind};
 use oz_lex::LexError;
-use oz_semantics::{Fault, RefusalKind};
 use std::alloc::{AllocError, AllocFailed};
 
 /// Why a token is not taken.

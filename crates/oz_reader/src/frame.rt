@@ -1,5 +1,5 @@
 //! The constructs that are open while a text is read.
-use oz_semantics::{Comparison, Connective, Constant, Literal, Operator};
+use oz_language::{Comparison, Connective, Constant, Literal, Operator};
 use oz_syntax::Phrase;
 
 /// As what something may be read: as a statement, or as a value.

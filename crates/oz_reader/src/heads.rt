@@ -1,6 +1,6 @@
 //! Steps of the heads of procedures and functions.
 ghost use Rattle.std.specs.Prelude.{◌≡◌, ◌∷◌, ◌++◌, [], Some};
-ghost use Rattle.oz_semantics.specs.Grammar.{is_named_head, is_value_head, is_parameter, are_parameters, of_list, head};
+ghost use Rattle.oz_language.specs.Grammar.{is_named_head, is_value_head, is_parameter, are_parameters, of_list, head};
 ghost use Rattle.oz_syntax.specs.View.{view, views};
 ghost use Rattle.reader_law.specs.Machine.{open_head, made, first_head, next_head, heads};
 ghost use Rattle.oz_reader.specs.View.{Steps, stack_of, opener_of, maker_of};
@@ -9,7 +9,7 @@ ghost use Rattle.oz_reader.specs.Heads.{lazy_head, later_head, begins_with_name,
 use crate::error::StepError;
 use crate::frame::{Frame, Maker, Opener, Ways};
 use crate::stack::{in_block, is_some_item, may_value, open_block, push};
-use oz_semantics::{Literal, Token};
+use oz_language::{Literal, Token};
 use oz_syntax::Phrase;
 use std::alloc::Global;
 

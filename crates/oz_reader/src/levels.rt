@@ -1,13 +1,13 @@
 //! How tightly phrases bind, and which operators may stand where.
 ghost use Rattle.std.specs.Prelude.{◌≡◌};
-ghost use Rattle.oz_semantics.specs.Grammar.{level_of, left_level};
+ghost use Rattle.oz_language.specs.Grammar.{level_of, left_level};
 ghost use Rattle.oz_syntax.specs.View.{view};
 ghost use Rattle.reader_law.specs.Machine.{binds, right_level, allows};
 ghost use Rattle.oz_reader.specs.View.{stack_of};
 
 use crate::frame::Frame;
 use crate::stack::innermost;
-use oz_semantics::{Connective, Operator};
+use oz_language::{Connective, Operator};
 use oz_syntax::Phrase;
 
 /// The level of comparisons, which do not chain.

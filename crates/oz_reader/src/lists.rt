@@ -8,7 +8,7 @@ use crate::error::StepError;
 use crate::frame::{BOTH_WAYS, Frame, Listing, Ways};
 use crate::operands::operand_in;
 use crate::stack::{had, is_some_item, value};
-use oz_semantics::Token;
+use oz_language::Token;
 use oz_syntax::Phrase;
 use std::alloc::Global;
 

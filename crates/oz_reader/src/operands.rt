@@ -8,7 +8,7 @@ use crate::error::StepError;
 use crate::frame::{BOTH_WAYS, Block, Fields, Frame, Kind, Listing, Maker, Opener};
 use crate::sides::{is_small, is_small_int};
 use crate::stack::{had, innermost, kind_of, open_block, push, value};
-use oz_semantics::{Literal, Operator, Token};
+use oz_language::{Literal, Operator, Token};
 use oz_syntax::Phrase;
 use std::alloc::Global;
 

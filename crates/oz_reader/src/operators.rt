@@ -2,7 +2,7 @@
 ghost use Rattle.std.specs.Prelude.{◌≡◌, ◌∷◌, ◌++◌, [], Some, false};
 ghost use Rattle.oz_syntax.specs.View.{view, views};
 ghost use Rattle.reader_law.specs.Machine.{guard, reduce, allows, shift_infix, add_bar, shift_bar, add_hash, shift_hash, shift_expression, shift_pattern, add_term, shift_sign, takes_factor, shift_side, shift_in, is_operator, dotted, barred, hashed};
-ghost use Rattle.oz_semantics.specs.Grammar.{level_of_bars, level_of_hashes};
+ghost use Rattle.oz_language.specs.Grammar.{level_of_bars, level_of_hashes};
 ghost use Rattle.oz_reader.specs.View.{Steps, Reduces, stack_of, takes_term, kind_seen};
 
 use crate::error::StepError;
@@ -10,7 +10,7 @@ use crate::frame::{Frame, Kind};
 use crate::levels::{BARS, HASHES, SELECTIONS, allows, binds, left_level, level_of};
 use crate::sides::{have_room, is_reference};
 use crate::stack::{innermost, pop, push};
-use oz_semantics::{Operator, Token};
+use oz_language::{Operator, Token};
 use oz_syntax::Phrase;
 use std::alloc::Global;
 

@@ -14,7 +14,7 @@ pub struct Program {
 }
 
 impl Model for Program {
-    ghost use Rattle.oz_semantics.specs.Refusals as refusals;
+    ghost use Rattle.oz_language.specs.Refusals as refusals;
     ghost use Rattle.oz_syntax.specs.View as syntax_view;
 
     ghost Value = { refusals.Program };

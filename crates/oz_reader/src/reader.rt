@@ -1,8 +1,8 @@
 //! Reads the program of a text.
 ghost use Rattle.std.specs.Prelude.{◌≡◌, IfOk, IfErr};
-ghost use Rattle.oz_semantics.specs.Refusals.{Program, Accepts, IsRefused};
-ghost use Rattle.oz_semantics.specs.Tokens.{Lexes, Whole};
-ghost use Rattle.oz_semantics.specs.declared.outcome.Fault.{Fault};
+ghost use Rattle.oz_language.specs.Refusals.{Program, Accepts, IsRefused};
+ghost use Rattle.oz_language.specs.Tokens.{Lexes, Whole};
+ghost use Rattle.oz_language.specs.declared.fault.Fault.{Fault};
 ghost use Rattle.oz_syntax.specs.View.{view};
 ghost use Rattle.reader_law.specs.Machine.{step, finish};
 ghost use Rattle.oz_reader.specs.Reading.{Faults, Refuses, IsRead, StepsAt, GivesAt, refusal};
@@ -13,9 +13,9 @@ use crate::error::{ReadError, StepError};
 use crate::frame::Frame;
 use crate::program::Program;
 use crate::steps;
+use oz_language::{Fault, Lexeme, RefusalKind, Token};
 use oz_lex::{first_words, lexemes, one_reading, token_of};
 use oz_scope::first_fault;
-use oz_semantics::{Fault, Lexeme, RefusalKind, Token};
 use oz_syntax::Phrase;
 use reader_law::{begins_law, parses_law};
 use std::alloc::Global;

@@ -8,7 +8,7 @@ use crate::error::StepError;
 use crate::frame::{Fields, Frame};
 use crate::operands::operand_in;
 use crate::stack::{pop_fields, push, value};
-use oz_semantics::{Constant, Token};
+use oz_language::{Constant, Token};
 use oz_syntax::Phrase;
 use std::alloc::Global;
 

@@ -1,9 +1,9 @@
 //! The sides of relations.
 ghost use Rattle.std.specs.Prelude.{◌≡◌, ◌+◌, min, nat_lt};
-ghost use Rattle.oz_semantics.specs.Grammar.{is_small, is_small_int, is_reference, is_product, is_side_term, is_side, terms_in, terms_limit};
+ghost use Rattle.oz_language.specs.Grammar.{is_small, is_small_int, is_reference, is_product, is_side_term, is_side, terms_in, terms_limit};
 ghost use Rattle.oz_syntax.specs.View.{view};
 
-use oz_semantics::Operator;
+use oz_language::Operator;
 use oz_syntax::Phrase;
 
 /// An integer of a relation has at most this size.

@@ -1,6 +1,6 @@
 //! What is open, the newest last, and what goes onto it.
 ghost use Rattle.std.specs.Prelude.{◌≡◌, ◌+◌, ◌∷◌, [], length, Some, true, false, IfSome, IfNone};
-ghost use Rattle.oz_semantics.specs.Grammar.{is_var};
+ghost use Rattle.oz_language.specs.Grammar.{is_var};
 ghost use Rattle.oz_syntax.specs.View.{view, views};
 ghost use Rattle.reader_law.specs.Machine.{is_some_item, opened, block, whole, may_state, may_value, in_block, kind_by, kind_of, is_alive, had, ends, value};
 ghost use Rattle.oz_reader.specs.View.{Steps, is_in_block, is_in_fields, stack_of, opener_of, frame_of, kind_seen};

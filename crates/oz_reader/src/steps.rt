@@ -2,7 +2,7 @@
 ghost use Rattle.std.specs.Prelude.{◌≡◌, ◌∷◌, Some, None, true, false, IfOk, option_map};
 ghost use Rattle.oz_syntax.specs.View.{view};
 ghost use Rattle.reader_law.specs.Machine.{behind, settled, after, item_over, feature_begins, access_begins, accessing, next, start, accepted_of, finish};
-ghost use Rattle.oz_semantics.specs.Grammar.{connected, relate};
+ghost use Rattle.oz_language.specs.Grammar.{connected, relate};
 ghost use Rattle.oz_reader.specs.View.{Steps, Gives, stack_of, frame_of, program_of, shift};
 
 use crate::blocks::{item, item_over};
@@ -16,7 +16,7 @@ use crate::operands::{access_begins, feature_begins, operand, operand_in};
 use crate::operators::{is_operator, reduce, shift_in};
 use crate::records::{behind_field, behind_value, next_field};
 use crate::stack::{begun, kind_of, pop, push};
-use oz_semantics::{Comparison, Connective, Token};
+use oz_language::{Comparison, Connective, Token};
 use oz_syntax::Phrase;
 use std::alloc::{AllocError, Global};
 

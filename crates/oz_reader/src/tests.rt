@@ -1,5 +1,5 @@
 use super::*;
-use oz_semantics::{Constant, Literal, Operator, RefusalKind};
+use oz_language::{Constant, Literal, Operator, RefusalKind};
 use oz_syntax::Phrase;
 use std::alloc::{AllocError, Global};
 use std::test::*;

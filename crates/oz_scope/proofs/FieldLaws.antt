@@ -4,14 +4,14 @@ use Rattle.std.specs.List.{list_any}
 use Rattle.std.proofs.Math.Bool.{or_comm, or-false}
 use Rattle.std.proofs.lemmas.List.Folds.{list_any-append}
 use Rattle.indexmap.specs.IndexSet.{insert_key}
-use Rattle.oz_semantics.specs.Grammar.{Phrase, Phrases, more, keyed}
-use Rattle.oz_semantics.specs.Refusals.{features, place_of, repeat_faults, not_linear}
-use Rattle.oz_semantics.specs.declared.outcome.Fault.{Fault}
+use Rattle.oz_language.specs.Grammar.{Phrase, Phrases, more, keyed}
+use Rattle.oz_language.specs.Refusals.{features, place_of, repeat_faults, not_linear}
+use Rattle.oz_language.specs.declared.fault.Fault.{Fault}
 use Rattle.oz_scope.specs.Keeps.{kept}
 use Rattle.oz_scope.proofs.Keeping.{kept_append}
-use Rattle.oz_semantics.specs.Values.{constant_eq}
-use Rattle.oz_semantics.specs.declared.kernel.Constant.{Constant}
-use Rattle.oz_semantics.specs.declared.kernel.Constant.TheVariants as constant
+use Rattle.oz_language.specs.Constants.{constant_eq}
+use Rattle.oz_language.specs.declared.kernel.Constant.{Constant}
+use Rattle.oz_language.specs.declared.kernel.Constant.TheVariants as constant
 use Rattle.oz_scope.specs.Declares.{key_of}
 use Rattle.oz_scope.specs.FeatureLaws.{constant_same}
 

@@ -3,11 +3,11 @@ use Rattle.std.proofs.Common.{◌≡◌, ℕ, ◌<◌, ◌+◌, ◌&&◌, ◌||�
 use Rattle.std.proofs.Common.{Result, Ok, Err}
 use Rattle.std.specs.Result.{OnOk}
 use Rattle.std.proofs.lemmas.Bool.Decides.{nat_tests}
-use Rattle.oz_semantics.specs.Grammar.{of_list}
+use Rattle.oz_language.specs.Grammar.{of_list}
 use Rattle.oz_syntax.specs.declared.phrase.Phrase.{Phrase as Tree}
 use Rattle.oz_syntax.specs.View.{view, views}
-use Rattle.oz_semantics.specs.Refusals.{faults, faults_each, comes_before, is_unbound, sooner, first_of}
-use Rattle.oz_semantics.specs.declared.outcome.Fault.{Fault}
+use Rattle.oz_language.specs.Refusals.{faults, faults_each, comes_before, is_unbound, sooner, first_of}
+use Rattle.oz_language.specs.declared.fault.Fault.{Fault}
 use Rattle.oz_scope.specs.Keeps.{keep, kept}
 
 pub kept_append : (fs gs : List Fault) (found : Option Fault) → kept (fs ++ gs) found ≡ kept gs (kept fs found)

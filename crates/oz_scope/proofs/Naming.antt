@@ -2,9 +2,9 @@
 use Rattle.std.proofs.Common.{◌≡◌, ℕ, ◌-◌, List, [], ◌∷◌, ◌++◌, Option, Some, None, length, drop, map, length-append, refl, ap, ◌∙◌}
 use Rattle.std.proofs.Math.Nat.{add-sub_cancel}
 use Rattle.std.proofs.Math.Seq.{drop-append_seam}
-use Rattle.oz_semantics.specs.Grammar.{Phrase, Phrases, nothing, more, var, head, connected, proc, fun, local, clause, body, of_list}
-use Rattle.oz_semantics.specs.declared.token.Connective.TheVariants.{Equates}
-use Rattle.oz_semantics.specs.Refusals.{declaring, declared_by, faults, name_in, parameters_in, variables_in, with_name, with_names}
+use Rattle.oz_language.specs.Grammar.{Phrase, Phrases, nothing, more, var, head, connected, proc, fun, local, clause, body, of_list}
+use Rattle.oz_language.specs.declared.token.Connective.TheVariants.{Equates}
+use Rattle.oz_language.specs.Refusals.{declaring, declared_by, faults, name_in, parameters_in, variables_in, with_name, with_names}
 use Rattle.oz_syntax.specs.declared.phrase.Phrase.{Phrase as Tree}
 use Rattle.oz_syntax.specs.View.{view, views}
 use Rattle.oz_scope.specs.Declares.{head_faults, name_of, scope_in}

@@ -1,10 +1,10 @@
 -- What begins a head, the field that one phrase is, what is in scope in the innermost part of a phrase, and the names that every
 -- text has.
 use Rattle.std.specs.Prelude.{ℕ, zero, suc, List, [], ◌∷◌, ◌++◌, Option, Some, None}
-use Rattle.oz_semantics.specs.Grammar.{Phrase, Phrases, nothing, more, var, keyed, proc, fun, local, clause, body}
-use Rattle.oz_semantics.specs.Refusals.{declaring, faults, name_faults, parameters_in, variables_in, variables_in_each, with_names}
-use Rattle.oz_semantics.specs.declared.kernel.Constant.{Constant}
-use Rattle.oz_semantics.specs.declared.outcome.Fault.{Fault}
+use Rattle.oz_language.specs.Grammar.{Phrase, Phrases, nothing, more, var, keyed, proc, fun, local, clause, body}
+use Rattle.oz_language.specs.Refusals.{declaring, faults, name_faults, parameters_in, variables_in, variables_in_each, with_names}
+use Rattle.oz_language.specs.declared.kernel.Constant.{Constant}
+use Rattle.oz_language.specs.declared.fault.Fault.{Fault}
 
 -- the variable that phrases begin with
 abbrev pub name_of : Phrases → Option ℕ

@@ -5,11 +5,11 @@ use Rattle.std.proofs.Common.{refl, ap, sym, subst, true≢false}
 use Rattle.std.proofs.lemmas.Bool.Decides.{Decides-int_eq, Decides-eqb}
 use Rattle.std.proofs.lemmas.Cmp.{int_eq_equiv, nat_eq_equiv}
 use Rattle.std.specs.Hash as fed
-use Rattle.oz_semantics.specs.Values.{literal_eq, constant_eq}
-use Rattle.oz_semantics.specs.declared.token.Literal.{Literal}
-use Rattle.oz_semantics.specs.declared.token.Literal.TheVariants as literal
-use Rattle.oz_semantics.specs.declared.kernel.Constant.{Constant}
-use Rattle.oz_semantics.specs.declared.kernel.Constant.TheVariants as constant
+use Rattle.oz_language.specs.Constants.{literal_eq, constant_eq}
+use Rattle.oz_language.specs.declared.token.Literal.{Literal}
+use Rattle.oz_language.specs.declared.token.Literal.TheVariants as literal
+use Rattle.oz_language.specs.declared.kernel.Constant.{Constant}
+use Rattle.oz_language.specs.declared.kernel.Constant.TheVariants as constant
 
 -- the number that a feature is fed as
 abbrev pub literal_number : Literal → ℕ

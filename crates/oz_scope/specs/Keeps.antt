@@ -1,7 +1,7 @@
 -- The fault that decides, as it is kept while one fault after the other is met.
 use Rattle.std.specs.Prelude.{List, [], ◌∷◌, Option, Some, None, if◌then◌else◌}
-use Rattle.oz_semantics.specs.Refusals.{comes_before}
-use Rattle.oz_semantics.specs.declared.outcome.Fault.{Fault}
+use Rattle.oz_language.specs.Refusals.{comes_before}
+use Rattle.oz_language.specs.declared.fault.Fault.{Fault}
 
 -- with one fault more
 abbrev pub keep : Fault → Option Fault → Option Fault

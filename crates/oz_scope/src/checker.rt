@@ -1,7 +1,7 @@
 //! The scope of each name of a phrase.
 ghost use Rattle.std.specs.Prelude.{◌≡◌, ◌++◌, [], None, IfOk, OnOk};
-ghost use Rattle.oz_semantics.specs.Grammar.{of_list};
-ghost use Rattle.oz_semantics.specs.Refusals.{use_faults, faults, faults_each, name_faults, feature_faults, variables_in, variables_in_each, parameters_in, with_names, declaring, first_scope, first_of};
+ghost use Rattle.oz_language.specs.Grammar.{of_list};
+ghost use Rattle.oz_language.specs.Refusals.{use_faults, faults, faults_each, name_faults, feature_faults, variables_in, variables_in_each, parameters_in, with_names, declaring, first_scope, first_of};
 ghost use Rattle.oz_syntax.specs.View.{view, views};
 ghost use Rattle.oz_scope.specs.Declares.{head_faults, scope_in};
 ghost use Rattle.oz_scope.specs.Keeps.{kept};
@@ -12,7 +12,7 @@ use crate::names::{
     add_parameters, add_variables, add_variables_of_each, declare, enter, meet_repeated_names,
 };
 use oz_base::Tally;
-use oz_semantics::{Fault, RefusalKind};
+use oz_language::{Fault, RefusalKind};
 use oz_syntax::Phrase;
 use std::alloc::{AllocError, Global};
 
@@ -182,8 +182,8 @@ impl Checker {
             }
             Phrase::Thread { body, .. } => self.phrase(body),
             Phrase::Choice { alternatives, .. } => self.each(alternatives),
-            Phrase::When { arms, .. } => self.each(arms),
-            Phrase::Choose {
+            Phrase::If { arms, .. } => self.each(arms),
+            Phrase::IfElse {
                 arms,
                 otherwise,
                 ..
@@ -195,7 +195,7 @@ impl Checker {
                 self.phrase(condition)?;
                 self.phrase(body)
             }
-            Phrase::Cases {
+            Phrase::Case {
                 subject,
                 clauses,
                 ..
@@ -203,7 +203,7 @@ impl Checker {
                 self.phrase(subject)?;
                 self.each(clauses)
             }
-            Phrase::CasesOr {
+            Phrase::CaseElse {
                 subject,
                 clauses,
                 otherwise,

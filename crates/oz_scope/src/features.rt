@@ -4,10 +4,10 @@ ghost use Rattle.std.specs.List.{list_any};
 ghost use Rattle.std.specs.Cmp.{partial_equiv_from_equiv};
 ghost use Rattle.std.specs.Hash as fed;
 ghost use Rattle.indexmap.specs.IndexSet.{insert_key};
-ghost use Rattle.oz_semantics.specs.Grammar.{Phrases, more, of_list};
-ghost use Rattle.oz_semantics.specs.Refusals.{features, feature_faults, repeat_faults, place_of, place_of_first, not_linear};
-ghost use Rattle.oz_semantics.specs.Values.{literal_eq, constant_eq};
-ghost use Rattle.oz_semantics.specs.declared.kernel.Constant.{Constant};
+ghost use Rattle.oz_language.specs.Grammar.{Phrases, more, of_list};
+ghost use Rattle.oz_language.specs.Refusals.{features, feature_faults, repeat_faults, place_of, place_of_first, not_linear};
+ghost use Rattle.oz_language.specs.Constants.{constant_eq};
+ghost use Rattle.oz_language.specs.declared.kernel.Constant.{Constant};
 ghost use Rattle.oz_syntax.specs.View.{view, views};
 ghost use Rattle.oz_scope.specs.Declares.{key_of};
 ghost use Rattle.oz_scope.specs.FeatureLaws.{literal_number, feature_number, constant_eq-equivalence, feature_alike};
@@ -15,33 +15,11 @@ ghost use Rattle.oz_scope.specs.Keeps.{kept};
 
 use crate::found::Found;
 use indexmap::IndexSet;
-use oz_semantics::{Constant, Fault, Literal, RefusalKind};
+use oz_language::{Constant, Fault, Literal, RefusalKind, constant_eq};
 use oz_syntax::Phrase;
 use std::alloc::{AllocError, Global};
 use std::hash::{Hash, Hasher};
 use std::marker::Model;
-
-fn literal_eq(left: Literal, right: Literal) -> bool
-    ensures { result ≡ literal_eq left right }
-{
-    match (left, right) {
-        (Literal::Atom(a), Literal::Atom(b)) => a == b,
-        (Literal::True, Literal::True) => true,
-        (Literal::False, Literal::False) => true,
-        (Literal::Unit, Literal::Unit) => true,
-        _ => false,
-    }
-}
-
-fn constant_eq(left: Constant, right: Constant) -> bool
-    ensures { result ≡ constant_eq left right }
-{
-    match (left, right) {
-        (Constant::Int(a), Constant::Int(b)) => a == b,
-        (Constant::Literal(a), Constant::Literal(b)) => literal_eq(a, b),
-        _ => false,
-    }
-}
 
 fn literal_number(literal: Literal) -> u32
     ensures { result ≡ literal_number literal }
@@ -128,10 +106,10 @@ fn place_of(phrase: &Phrase) -> usize
         Phrase::Local { at, .. } => *at,
         Phrase::Thread { at, .. } => *at,
         Phrase::Choice { at, .. } => *at,
-        Phrase::When { at, .. } => *at,
-        Phrase::Choose { at, .. } => *at,
-        Phrase::Cases { at, .. } => *at,
-        Phrase::CasesOr { at, .. } => *at,
+        Phrase::If { at, .. } => *at,
+        Phrase::IfElse { at, .. } => *at,
+        Phrase::Case { at, .. } => *at,
+        Phrase::CaseElse { at, .. } => *at,
         Phrase::Skip
         | Phrase::Connected { .. }
         | Phrase::Relate { .. }

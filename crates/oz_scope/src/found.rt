@@ -1,10 +1,10 @@
 //! The fault that decides.
 ghost use Rattle.std.specs.Prelude.{◌≡◌, Option, None};
-ghost use Rattle.oz_semantics.specs.Refusals.{comes_before, is_unbound};
-ghost use Rattle.oz_semantics.specs.declared.outcome.Fault.{Fault};
+ghost use Rattle.oz_language.specs.Refusals.{comes_before, is_unbound};
+ghost use Rattle.oz_language.specs.declared.fault.Fault.{Fault};
 ghost use Rattle.oz_scope.specs.Keeps.{keep};
 
-use oz_semantics::{Fault, RefusalKind};
+use oz_language::{Fault, RefusalKind};
 use std::marker::Model;
 
 fn is_unbound(fault: &Fault) -> bool

@@ -1,15 +1,15 @@
 //! What phrases declare, the variables in them, and those that stand twice.
 ghost use Rattle.std.specs.Prelude.{◌≡◌, ◌++◌, ◌∷◌, [], OnOk, IfOk, nat_eq, if◌then◌else◌};
 ghost use Rattle.std.specs.List.{list_any};
-ghost use Rattle.oz_semantics.specs.Grammar.{Phrase as Tree, connected, more, nothing, of_list};
-ghost use Rattle.oz_semantics.specs.Refusals.{declared_by, declaring, name_faults, name_in, not_linear, parameters_in, variables_in, variables_in_each, with_name, with_names};
+ghost use Rattle.oz_language.specs.Grammar.{Phrase as Tree, connected, more, nothing, of_list};
+ghost use Rattle.oz_language.specs.Refusals.{declared_by, declaring, name_faults, name_in, not_linear, parameters_in, variables_in, variables_in_each, with_name, with_names};
 ghost use Rattle.oz_syntax.specs.View.{view, views};
 ghost use Rattle.oz_scope.specs.Declares.{name_of};
 ghost use Rattle.oz_scope.specs.Keeps.{kept};
 
 use crate::found::Found;
 use oz_base::Tally;
-use oz_semantics::{Connective, Fault, RefusalKind};
+use oz_language::{Connective, Fault, RefusalKind};
 use oz_syntax::Phrase;
 use std::alloc::{AllocError, Global};
 

@@ -5,7 +5,7 @@ use crate::first_fault;
 use crate::tests::Step::{
     Bars, Body, Call, Cases, Clause, Equal, Head, Keyed, One, Plus, Proc, Record, Var,
 };
-use oz_semantics::{Connective, Constant, Fault, Literal, Operator, RefusalKind};
+use oz_language::{Connective, Constant, Fault, Literal, Operator, RefusalKind};
 use oz_syntax::Phrase;
 use std::alloc::{AllocError, Global};
 use std::process::Abort;
@@ -93,7 +93,7 @@ fn clause(alloc: Global, stack: &mut Vec<Phrase>) -> Result<Phrase, AllocError> 
 fn cases(alloc: Global, stack: &mut Vec<Phrase>, count: usize) -> Result<Phrase, AllocError> {
     let clauses = take_last(stack, count)?;
     let subject = take_boxed(alloc, stack)?;
-    Ok(Phrase::Cases {
+    Ok(Phrase::Case {
         at: 0,
         subject,
         clauses,

@@ -3,17 +3,17 @@ use Rattle.std.specs.Prelude.{◌≡◌, ℕ, zero, suc, ℤ, pos, negsuc, Optio
 use Rattle.std.specs.Coded.{Coded, code_by}
 use base.Stored.{Gv, gnil, gnum, gcons}
 use denote.Struct.Codes.{itself}
-use Rattle.oz_semantics.specs.Grammar.{Phrase, Phrases, nothing, more, var, any, int, string, literal, rec, keyed, list, paren, binary, bars, hashes, select, access, skip, fail, raise, connected, relate, call, dollar, head, proc, fun, local, thread, choice, when, choose, arm, cases, cases_or, clause, attempt, body}
-use Rattle.oz_semantics.specs.declared.kernel.Constant.{Constant}
-use Rattle.oz_semantics.specs.declared.kernel.Constant.TheVariants as constant
-use Rattle.oz_semantics.specs.declared.token.Literal.{Literal}
-use Rattle.oz_semantics.specs.declared.token.Literal.TheVariants as lit
-use Rattle.oz_semantics.specs.declared.token.Operator.{Operator}
-use Rattle.oz_semantics.specs.declared.token.Operator.TheVariants as operator
-use Rattle.oz_semantics.specs.declared.token.Comparison.{Comparison}
-use Rattle.oz_semantics.specs.declared.token.Comparison.TheVariants as comparison
-use Rattle.oz_semantics.specs.declared.token.Connective.{Connective}
-use Rattle.oz_semantics.specs.declared.token.Connective.TheVariants as connective
+use Rattle.oz_language.specs.Grammar.{Phrase, Phrases, nothing, more, var, any, int, string, literal, rec, keyed, list, paren, binary, bars, hashes, select, access, skip, fail, raise, connected, relate, call, dollar, head, proc, fun, local, thread, choice, when, choose, arm, cases, cases_or, clause, attempt, body}
+use Rattle.oz_language.specs.declared.kernel.Constant.{Constant}
+use Rattle.oz_language.specs.declared.kernel.Constant.TheVariants as constant
+use Rattle.oz_language.specs.declared.token.Literal.{Literal}
+use Rattle.oz_language.specs.declared.token.Literal.TheVariants as lit
+use Rattle.oz_language.specs.declared.token.Operator.{Operator}
+use Rattle.oz_language.specs.declared.token.Operator.TheVariants as operator
+use Rattle.oz_language.specs.declared.token.Comparison.{Comparison}
+use Rattle.oz_language.specs.declared.token.Comparison.TheVariants as comparison
+use Rattle.oz_language.specs.declared.token.Connective.{Connective}
+use Rattle.oz_language.specs.declared.token.Connective.TheVariants as connective
 
 -- ---- the tree of a phrase: a number for its kind, with what it says, and the phrases in it
 

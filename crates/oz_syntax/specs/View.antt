@@ -1,6 +1,6 @@
 -- The phrase of the grammar that a tree stands for.
 use Rattle.std.specs.Prelude.{List, map}
-use Rattle.oz_semantics.specs.Grammar.{Phrase, of_list, var, any, int, string, literal, rec, keyed, list, paren, binary, bars, hashes, select, access, skip, fail, raise, connected, relate, call, dollar, head, proc, fun, local, thread, choice, when, choose, arm, cases, cases_or, clause, attempt, body}
+use Rattle.oz_language.specs.Grammar.{Phrase, of_list, var, any, int, string, literal, rec, keyed, list, paren, binary, bars, hashes, select, access, skip, fail, raise, connected, relate, call, dollar, head, proc, fun, local, thread, choice, when, choose, arm, cases, cases_or, clause, attempt, body}
 use Rattle.oz_syntax.specs.declared.phrase.Phrase.{fold-Phrase}
 use Rattle.oz_syntax.specs.declared.phrase.Phrase.{Phrase as Tree}
 use Rattle.oz_syntax.specs.declared.phrase.Phrase.TheOpen.{Phrase-F}
@@ -34,11 +34,11 @@ view_step (Phrase-F.Fun a b c d) = fun a b c.value d.value
 view_step (Phrase-F.Local a xs c) = local a (of_list xs.items) c.value
 view_step (Phrase-F.Thread a b) = thread a b.value
 view_step (Phrase-F.Choice a xs) = choice a (of_list xs.items)
-view_step (Phrase-F.When a xs) = when a (of_list xs.items)
-view_step (Phrase-F.Choose a xs c) = choose a (of_list xs.items) c.value
+view_step (Phrase-F.If a xs) = when a (of_list xs.items)
+view_step (Phrase-F.IfElse a xs c) = choose a (of_list xs.items) c.value
 view_step (Phrase-F.Arm a b) = arm a.value b.value
-view_step (Phrase-F.Cases a b xs) = cases a b.value (of_list xs.items)
-view_step (Phrase-F.CasesOr a b xs d) = cases_or a b.value (of_list xs.items) d.value
+view_step (Phrase-F.Case a b xs) = cases a b.value (of_list xs.items)
+view_step (Phrase-F.CaseElse a b xs d) = cases_or a b.value (of_list xs.items) d.value
 view_step (Phrase-F.Clause a b) = clause a.value b.value
 view_step (Phrase-F.Try a xs) = attempt a.value (of_list xs.items)
 view_step (Phrase-F.Body xs ys) = body (of_list xs.items) (of_list ys.items)

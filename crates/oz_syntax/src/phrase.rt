@@ -1,5 +1,5 @@
 //! Phrases, as the grammar has them.
-use oz_semantics::{Comparison, Connective, Constant, Literal, Operator};
+use oz_language::{Comparison, Connective, Constant, Literal, Operator};
 
 /// A phrase of the language: an expression, a pattern, a statement, a declaration, a clause or a body. A place is that of a
 /// phrase's first byte.
@@ -137,12 +137,12 @@ pub enum Phrase {
         alternatives: Vec<Phrase>,
     },
     /// `if A elseif .. end`
-    When {
+    If {
         at: usize,
         arms: Vec<Phrase>,
     },
     /// `if A elseif .. else B end`
-    Choose {
+    IfElse {
         at: usize,
         arms: Vec<Phrase>,
         otherwise: Box<Phrase>,
@@ -153,13 +153,13 @@ pub enum Phrase {
         body: Box<Phrase>,
     },
     /// `case e of C [] .. end`
-    Cases {
+    Case {
         at: usize,
         subject: Box<Phrase>,
         clauses: Vec<Phrase>,
     },
     /// `case e of C [] .. else B end`
-    CasesOr {
+    CaseElse {
         at: usize,
         subject: Box<Phrase>,
         clauses: Vec<Phrase>,

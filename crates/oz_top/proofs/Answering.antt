@@ -3,29 +3,29 @@ use Rattle.std.proofs.Common.{◌≡◌, ◌≢◌, ◌⊎◌, inl, inr, ℕ, �
 use Rattle.std.proofs.lemmas.List.{drop_all}
 use Rattle.std.proofs.Math.Seq.{drop-append_seam}
 use Rattle.std.specs.Io.KnownBytes.{Appends, Consumes, IsAtEnd}
-use Rattle.oz_semantics.specs.Texts.{Printed, raise_text}
-use Rattle.oz_semantics.specs.Runs.{Ran, Ended, TopRaised, Over, run, opening}
-use Rattle.oz_semantics.specs.Search.{Found, depth_first, has_script, script_variable, search_space, with_root}
-use Rattle.oz_semantics.specs.Tokens.{Whole}
-use Rattle.oz_semantics.specs.Refusals.{Program, Accepts, IsRefused}
-use Rattle.oz_semantics.specs.Served.{IsServed, unserved_in}
-use Rattle.oz_semantics.specs.declared.token.Lexeme.{Lexeme}
+use Rattle.plain_semantics.specs.Texts.{Printed, raise_text}
+use Rattle.plain_semantics.specs.Runs.{Ran, Ended, TopRaised, Over, run, opening}
+use Rattle.plain_semantics.specs.Search.{Found, depth_first, has_script, script_variable, search_space, with_root}
+use Rattle.oz_language.specs.Tokens.{Whole}
+use Rattle.oz_language.specs.Refusals.{Program, Accepts, IsRefused}
+use Rattle.plain_replies.specs.Served.{IsServed, unserved_in}
+use Rattle.oz_language.specs.declared.token.Lexeme.{Lexeme}
 use Rattle.oz_lex.specs.Lexing.{OneReading}
-use Rattle.oz_semantics.specs.Translation.{kernel_of}
-use Rattle.oz_semantics.specs.Commands.{Spells, IsUsage}
-use Rattle.oz_semantics.specs.Replies.{Answer, IsReply, IsTextReply, Searches, line, shown_lines, spent, text_limit, usage_reply, too_large_reply, refused_answer, unless_unserved, answer_of_tree, answer_of_raise, searched, answer_of_top, all_answer, run_answer}
-use Rattle.oz_semantics.specs.declared.command.Command.{Command}
-use Rattle.oz_semantics.specs.declared.command.Command.TheVariants as commands
-use Rattle.oz_semantics.specs.declared.kernel.Kernel.{Kernel}
-use Rattle.oz_semantics.specs.declared.outcome.Fault.{Fault}
-use Rattle.oz_semantics.specs.declared.outcome.RefusalKind.TheVariants as kinds
-use Rattle.oz_semantics.specs.declared.configuration.Configuration.{Configuration}
-use Rattle.oz_semantics.specs.declared.outcome.State.{State}
-use Rattle.oz_semantics.specs.declared.outcome.Cause.{Cause}
-use Rattle.oz_semantics.specs.declared.outcome.Cause.TheVariants as causes
-use Rattle.oz_machine.specs.Machines.{Loaded}
-use Rattle.oz_machine.specs.Answers.{IsRun}
-use Rattle.oz_machine.specs.declared.machine.Ran.TheVariants as ran
+use Rattle.oz_language.specs.Translation.{kernel_of}
+use Rattle.oz_language.specs.Commands.{Spells, IsUsage}
+use Rattle.plain_replies.specs.Replies.{Answer, IsReply, IsTextReply, Searches, line, shown_lines, spent, text_limit, usage_reply, too_large_reply, refused_answer, unless_unserved, answer_of_tree, answer_of_raise, searched, answer_of_top, all_answer, run_answer}
+use Rattle.oz_language.specs.declared.command.Command.{Command}
+use Rattle.oz_language.specs.declared.command.Command.TheVariants as commands
+use Rattle.oz_language.specs.declared.kernel.Kernel.{Kernel}
+use Rattle.oz_language.specs.declared.fault.Fault.{Fault}
+use Rattle.oz_language.specs.declared.fault.RefusalKind.TheVariants as kinds
+use Rattle.plain_semantics.specs.declared.configuration.Configuration.{Configuration}
+use Rattle.plain_semantics.specs.declared.outcome.State.{State}
+use Rattle.plain_replies.specs.declared.cause.Cause.{Cause}
+use Rattle.plain_replies.specs.declared.cause.Cause.TheVariants as causes
+use Rattle.plain_machine.specs.Machines.{Loaded}
+use Rattle.plain_machine.specs.Answers.{IsRun}
+use Rattle.plain_machine.specs.declared.machine.Ran.TheVariants as ran
 use Rattle.oz_top.specs.Call.{Reading, Writing, answered, minded, answer_of, HasRead, ProgramGives, TextGives, ReadGives, AsText, IsCommand, Plans, IsDue, IsRead, Ends, IsExcused}
 
 -- a text gives the plan of the call

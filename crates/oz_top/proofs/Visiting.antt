@@ -1,21 +1,21 @@
 -- What a visit of one node finds.
 use Rattle.std.proofs.Common.{◌≡◌, ◌≢◌, ℕ, zero, suc, ◌+◌, ◌-◌, ◌≤◌, nat_le, if◌then◌else◌, true, List, [], ◌∷◌, ◌++◌, Some, None, refl, sym, subst, ap, ap₂, arith, ◌∙◌, append-nil}
 use Rattle.std.proofs.lemmas.Bool.Decides.{nat_tests}
-use Rattle.oz_semantics.specs.Spaces.{state}
-use Rattle.oz_semantics.specs.Runs as runs
-use Rattle.oz_semantics.specs.Search.{At, Beyond, Found, with_front, then_find, visit_all, node_in_state, node_of_run, node_at, found_at, found_in_state, explored, state_text}
-use Rattle.oz_semantics.specs.declared.kernel.Kernel.{Kernel}
-use Rattle.oz_semantics.specs.declared.configuration.Configuration.{Configuration}
-use Rattle.oz_semantics.specs.declared.outcome.State.{State}
-use Rattle.oz_semantics.specs.declared.outcome.State.TheVariants as states
-use Rattle.oz_semantics.specs.declared.outcome.Leaf.{Leaf}
-use Rattle.oz_laws.specs.Visits.{Visits, FindsNone}
-use Rattle.oz_laws.proofs.Trees.{front_nil}
-use Rattle.oz_machine.specs.Machines.{Loaded}
-use Rattle.oz_machine.specs.Answers.{IsRun}
-use Rattle.oz_machine.specs.Texts.{PrintsWithin}
-use Rattle.oz_machine.specs.declared.texts.Text.{Text}
-use Rattle.oz_machine.specs.declared.machine.Ran.TheVariants.{Ended}
+use Rattle.plain_semantics.specs.Spaces.{state}
+use Rattle.plain_semantics.specs.Runs as runs
+use Rattle.plain_semantics.specs.Search.{At, Beyond, Found, with_front, then_find, visit_all, node_in_state, node_of_run, node_at, found_at, found_in_state, explored, state_text}
+use Rattle.oz_language.specs.declared.kernel.Kernel.{Kernel}
+use Rattle.plain_semantics.specs.declared.configuration.Configuration.{Configuration}
+use Rattle.plain_semantics.specs.declared.outcome.State.{State}
+use Rattle.plain_semantics.specs.declared.outcome.State.TheVariants as states
+use Rattle.plain_semantics.specs.declared.outcome.Leaf.{Leaf}
+use Rattle.plain_laws.specs.Visits.{Visits, FindsNone}
+use Rattle.plain_laws.proofs.Trees.{front_nil}
+use Rattle.plain_machine.specs.Machines.{Loaded}
+use Rattle.plain_machine.specs.Answers.{IsRun}
+use Rattle.plain_machine.specs.Texts.{PrintsWithin}
+use Rattle.plain_machine.specs.declared.texts.Text.{Text}
+use Rattle.plain_machine.specs.declared.machine.Ran.TheVariants.{Ended}
 use Rattle.oz_top.specs.Searching.{children_by, leaf_by}
 
 abbrev Visit : Type 0

@@ -2,16 +2,16 @@
 use Rattle.std.specs.Prelude.{ℕ, ◌≡◌, ◌≢◌, ◌<◌, ◌≤◌, ◌+◌, ◌⊎◌, List, [], take, drop, length, Option, Some, None}
 use Rattle.std.specs.Io.KnownBytes.{Appends, Consumes, IsAtEnd}
 use Rattle.oz_outside.specs.Counts.{Rose}
-use Rattle.oz_semantics.specs.Refusals.{Program, Accepts, IsRefused}
-use Rattle.oz_semantics.specs.Served.{unserved_in}
-use Rattle.oz_semantics.specs.Translation.{kernel_of}
-use Rattle.oz_semantics.specs.Commands.{Spells, IsUsage}
-use Rattle.oz_semantics.specs.declared.command.Command.{Command}
-use Rattle.oz_semantics.specs.declared.command.Command.TheVariants as command
-use Rattle.oz_semantics.specs.Replies.{Answer, IsReply, text_limit, usage_reply, too_large_reply, refused_reply, refused_answer, unless_unserved, all_answer, run_answer, kernel_answer}
-use Rattle.oz_semantics.specs.declared.outcome.Fault.{Fault}
-use Rattle.oz_semantics.specs.declared.outcome.Cause.{Cause}
-use Rattle.oz_semantics.specs.declared.outcome.Cause.TheVariants as causes
+use Rattle.oz_language.specs.Refusals.{Program, Accepts, IsRefused}
+use Rattle.plain_replies.specs.Served.{unserved_in}
+use Rattle.oz_language.specs.Translation.{kernel_of}
+use Rattle.oz_language.specs.Commands.{Spells, IsUsage}
+use Rattle.oz_language.specs.declared.command.Command.{Command}
+use Rattle.oz_language.specs.declared.command.Command.TheVariants as command
+use Rattle.plain_replies.specs.Replies.{Answer, IsReply, text_limit, usage_reply, too_large_reply, refused_reply, refused_answer, unless_unserved, all_answer, run_answer, kernel_answer}
+use Rattle.oz_language.specs.declared.fault.Fault.{Fault}
+use Rattle.plain_replies.specs.declared.cause.Cause.{Cause}
+use Rattle.plain_replies.specs.declared.cause.Cause.TheVariants as causes
 
 -- what a call sees of its source, and of its sink
 pub record Reading : Type 0 where

@@ -1,13 +1,13 @@
 -- The search as it stands: the nodes whose alternatives wait, and what a node adds.
 use Rattle.std.specs.Prelude.{ℕ, ◌+◌, ◌≡◌, List, [], ◌∷◌, ◌++◌, Option, Some, None, map}
 use Rattle.std.specs.List.{range_with_len}
-use Rattle.oz_semantics.specs.Search.{Found, chosen_in, children}
-use Rattle.oz_semantics.specs.declared.kernel.Kernel.{Kernel}
-use Rattle.oz_semantics.specs.declared.configuration.Configuration.{Configuration}
-use Rattle.oz_semantics.specs.declared.outcome.State.{State}
-use Rattle.oz_semantics.specs.declared.outcome.State.TheVariants as states
-use Rattle.oz_semantics.specs.declared.outcome.Leaf.{Leaf}
-use Rattle.oz_machine.specs.Machines.{Loaded}
+use Rattle.plain_semantics.specs.Search.{Found, chosen_in, children}
+use Rattle.oz_language.specs.declared.kernel.Kernel.{Kernel}
+use Rattle.plain_semantics.specs.declared.configuration.Configuration.{Configuration}
+use Rattle.plain_semantics.specs.declared.outcome.State.{State}
+use Rattle.plain_semantics.specs.declared.outcome.State.TheVariants as states
+use Rattle.plain_semantics.specs.declared.outcome.Leaf.{Leaf}
+use Rattle.plain_machine.specs.Machines.{Loaded}
 use Rattle.oz_top.specs.declared.open.Open.{Open}
 
 -- the alternatives of a node that wait, from the left

@@ -1,21 +1,23 @@
 //! What a command answers for a program.
 ghost use Rattle.std.specs.Prelude.{◌≡◌, ◌++◌, [], IfOk, OnOk, codes};
-ghost use Rattle.oz_semantics.specs.Refusals.{Program};
-ghost use Rattle.oz_semantics.specs.Translation.{kernel_of};
-ghost use Rattle.oz_semantics.specs.Runs.{run, opening};
-ghost use Rattle.oz_semantics.specs.Search.{with_root, search_space, depth_first};
-ghost use Rattle.oz_semantics.specs.Texts.{raise_text};
-ghost use Rattle.oz_semantics.specs.Replies.{shown_lines, spent, answer_of_tree, answer_of_raise, searched, all_answer, run_answer, kernel_answer};
-ghost use Rattle.oz_machine.specs.Answers.{IsRun};
+ghost use Rattle.oz_language.specs.Refusals.{Program};
+ghost use Rattle.oz_language.specs.Translation.{kernel_of};
+ghost use Rattle.plain_semantics.specs.Runs.{run, opening};
+ghost use Rattle.plain_semantics.specs.Search.{with_root, search_space, depth_first};
+ghost use Rattle.plain_semantics.specs.Texts.{raise_text};
+ghost use Rattle.plain_replies.specs.Replies.{shown_lines, spent, answer_of_tree, answer_of_raise, searched, all_answer, run_answer, kernel_answer};
+ghost use Rattle.plain_machine.specs.Answers.{IsRun};
 ghost use Rattle.oz_top.specs.Call.{answered};
 
 use crate::reply::{add_decimal, add_leaves_reply, lines};
 use crate::search::depth_first;
 use kernel_form::kernel_text;
-use oz_base::{Ident, Sequence};
-use oz_machine::{Machine, Ran, exception_text};
+use oz_base::{Ident, SpaceName};
+use oz_language::{Command, Kernel};
 use oz_outside::Gate;
-use oz_semantics::{Cause, Command, Kernel, Raise};
+use plain_machine::{Machine, Ran, exception_text};
+use plain_replies::Cause;
+use plain_semantics::Raise;
 use std::alloc::{AllocError, Global};
 
 /// A cause, and what is to be written for it.
@@ -143,13 +145,12 @@ fn run_top(alloc: Global, kernel: Kernel, budget: u64) -> Result<(Machine, Ran),
     ensures run { IfOk result (λ ended. IsRun ended.0 [] budget (run kernel [] (opening kernel) budget) ended.1) }
 {
     let mut machine = Machine::load(alloc, kernel)?;
-    let top = Sequence::new(alloc);
-    let ran = machine.run(alloc, &top, budget)?;
+    let ran = machine.run(alloc, &SpaceName::top(), budget)?;
     Ok((machine, ran))
 }
 
 /// What `all` answers for a kernel.
-#[tactic(auto, unfolding(oz_semantics::specs::Replies::all_answer))]
+#[tactic(auto, unfolding(plain_replies::specs::Replies::all_answer))]
 fn all_answer<G: Gate>(
     alloc: Global,
     kernel: Kernel,
@@ -170,7 +171,7 @@ fn all_answer<G: Gate>(
 }
 
 /// What `run` answers for a kernel.
-#[tactic(auto, unfolding(oz_semantics::specs::Replies::run_answer))]
+#[tactic(auto, unfolding(plain_replies::specs::Replies::run_answer))]
 fn run_answer(alloc: Global, kernel: Kernel, budget: u64) -> Result<Plan, AllocError>
     ensures { IfOk result (λ plan. (plan.cause, plan.reply.items) ≡ run_answer kernel budget) }
 {

@@ -3,32 +3,33 @@ ghost use Rattle.std.specs.Prelude.{◌≡◌, ◌≢◌, ◌⊎◌, ◌≤◌, 
 ghost use Rattle.std.specs.String.{string_bytes};
 ghost use Rattle.std.specs.Io.KnownBytes.{Appends};
 ghost use Rattle.oz_outside.specs.Counts.{Rose};
-ghost use Rattle.oz_semantics.specs.Tokens.{Lexes, Whole};
-ghost use Rattle.oz_semantics.specs.Refusals.{Program, Accepts, IsRefused};
-ghost use Rattle.oz_semantics.specs.Served.{IsServed, unserved_in};
-ghost use Rattle.oz_semantics.specs.Translation.{statements_of, kernel_of};
-ghost use Rattle.oz_semantics.specs.KernelTexts.{kernel_text};
-ghost use Rattle.oz_semantics.specs.Commands.{Spells, IsUsage, AsksAll, AsksRun, AsksKernel};
-ghost use Rattle.oz_semantics.specs.Runs.{Ended, run, opening};
-ghost use Rattle.oz_semantics.specs.Replies.{IsReply, Searches, status_of, text_limit, usage_reply, too_large_reply, shown_lines, leaves_reply, kind_text, refused_reply, refused_answer, unless_unserved, all_answer, run_answer};
-ghost use Rattle.oz_semantics.specs.declared.command.Command.{Command};
-ghost use Rattle.oz_semantics.specs.declared.configuration.Configuration.{Configuration};
-ghost use Rattle.oz_semantics.specs.declared.token.Lexeme.{Lexeme};
-ghost use Rattle.oz_semantics.specs.declared.outcome.RefusalKind.{RefusalKind};
-ghost use Rattle.oz_semantics.specs.declared.outcome.Fault.{Fault};
-ghost use Rattle.oz_semantics.specs.declared.outcome.Leaf.{Leaf};
-ghost use Rattle.oz_semantics.specs.declared.outcome.Cause.{Cause};
+ghost use Rattle.oz_language.specs.Tokens.{Lexes, Whole};
+ghost use Rattle.oz_language.specs.Refusals.{Program, Accepts, IsRefused};
+ghost use Rattle.plain_replies.specs.Served.{IsServed, unserved_in};
+ghost use Rattle.oz_language.specs.Translation.{statements_of, kernel_of};
+ghost use Rattle.oz_language.specs.KernelTexts.{kernel_text};
+ghost use Rattle.oz_language.specs.Commands.{Spells, IsUsage, AsksAll, AsksRun, AsksKernel};
+ghost use Rattle.plain_semantics.specs.Runs.{Ended, run, opening};
+ghost use Rattle.plain_replies.specs.Replies.{IsReply, Searches, status_of, text_limit, usage_reply, too_large_reply, shown_lines, leaves_reply, kind_text, refused_reply, refused_answer, unless_unserved, all_answer, run_answer};
+ghost use Rattle.oz_language.specs.declared.command.Command.{Command};
+ghost use Rattle.plain_semantics.specs.declared.configuration.Configuration.{Configuration};
+ghost use Rattle.oz_language.specs.declared.token.Lexeme.{Lexeme};
+ghost use Rattle.oz_language.specs.declared.fault.RefusalKind.{RefusalKind};
+ghost use Rattle.oz_language.specs.declared.fault.Fault.{Fault};
+ghost use Rattle.plain_semantics.specs.declared.outcome.Leaf.{Leaf};
+ghost use Rattle.plain_replies.specs.declared.cause.Cause.{Cause};
 ghost use Rattle.oz_top.specs.Call.{answered, minded, answer_of, TextGives, AsText, IsCommand, Plans, IsDue, IsRead, Ends, Answers, IsExcused};
 
 use crate::answers::{Plan, answered};
 use crate::reply::add_decimal;
 use crate::served::first_unserved;
 use command_line::read_command;
+use kernel_trans::translate;
+use oz_language::{Command, Fault, RefusalKind};
 use oz_lex::one_reading;
 use oz_outside::{Gate, READ_LIMIT, ReadError as SourceError, Sink, Source, read_all, write_all};
 use oz_reader::{Program, ReadError, read_program};
-use oz_semantics::{Cause, Command, Fault, RefusalKind};
-use oz_translation::translate;
+use plain_replies::Cause;
 use std::alloc::{AllocError, Global};
 
 fn make_plan(alloc: Global, cause: Cause, reply: &[u8]) -> Result<Plan, AllocError>
@@ -80,12 +81,13 @@ fn minded(alloc: Global, command: Command, text: &[u8]) -> Result<Option<usize>,
 fn answer_served<G: Gate>(
     alloc: Global,
     command: Command,
-    program: &Program,
+    program: Program,
     gate: &G,
 ) -> Result<Plan, AllocError>
-    ensures { IfOk result (λ plan. (plan.cause, plan.reply.items) ≡ answered command program.now) }
+    ensures { IfOk result (λ plan. (plan.cause, plan.reply.items) ≡ answered command program) }
 {
-    let kernel = translate(alloc, program.words(), program.phrase())?;
+    let (words, phrase) = program.into_parts();
+    let kernel = translate(alloc, words, &phrase)?;
     answered(alloc, command, kernel, gate)
 }
 
@@ -94,10 +96,10 @@ fn answer_unless<G: Gate>(
     alloc: Global,
     command: Command,
     unserved: Option<usize>,
-    program: &Program,
+    program: Program,
     gate: &G,
 ) -> Result<Plan, AllocError>
-    ensures { IfOk result (λ plan. (plan.cause, plan.reply.items) ≡ unless_unserved unserved (answered command program.now)) }
+    ensures { IfOk result (λ plan. (plan.cause, plan.reply.items) ≡ unless_unserved unserved (answered command program)) }
 {
     match unserved {
         None => answer_served(alloc, command, program, gate),
@@ -116,10 +118,10 @@ fn answer_for<G: Gate>(
     alloc: Global,
     command: Command,
     text: &[u8],
-    program: &Program,
+    program: Program,
     gate: &G,
 ) -> Result<Plan, AllocError>
-    ensures { (a : Accepts text.now program.now) → IfOk result (λ plan. (plan.cause, plan.reply.items) ≡ answer_of command (unserved_in text.now a.lexemes) program.now) }
+    ensures { (a : Accepts text.now program) → IfOk result (λ plan. (plan.cause, plan.reply.items) ≡ answer_of command (unserved_in text.now a.lexemes) program) }
 {
     let unserved = minded(alloc, command, text)?;
     answer_unless(alloc, command, unserved, program, gate)
@@ -138,7 +140,7 @@ fn answer<G: Gate>(
 {
     one_reading();
     match read_program(alloc, text) {
-        Ok(program) => answer_for(alloc, command, text, &program, gate),
+        Ok(program) => answer_for(alloc, command, text, program, gate),
         Err(ReadError::Refused(fault)) => refused(alloc, fault),
         Err(ReadError::Memory) => Err(AllocError),
     }

@@ -1,7 +1,7 @@
 //! Nodes whose alternatives wait.
 ghost use Rattle.std.specs.Prelude.{◌+◌, ◌<◌, ◌^◌};
 
-use oz_machine::Machine;
+use plain_machine::Machine;
 
 /// A node of which so many alternatives were taken, and so many are left.
 #[derive(Drop)]

@@ -2,11 +2,11 @@
 ghost use Rattle.std.specs.Prelude.{◌≡◌, ◌++◌, IfOk, OnOk, codes, count_by};
 ghost use Rattle.std.specs.List.{flat_map};
 ghost use Rattle.std.specs.Fmt.{decimal};
-ghost use Rattle.oz_semantics.specs.Replies.{line, leaf_line, leaf_lines, is_solved, is_stuck, is_raised, is_suspended, total_line, leaves_reply};
-ghost use Rattle.oz_semantics.specs.declared.outcome.Leaf.{Leaf};
+ghost use Rattle.plain_replies.specs.Replies.{line, leaf_line, leaf_lines, is_solved, is_stuck, is_raised, is_suspended, total_line, leaves_reply};
+ghost use Rattle.plain_semantics.specs.declared.outcome.Leaf.{Leaf};
 
 use oz_base::Sequence;
-use oz_semantics::{Leaf, State};
+use plain_semantics::{Leaf, State};
 use std::alloc::{AllocError, Global};
 
 /// A line for each text.
@@ -151,7 +151,7 @@ fn total_line(alloc: Global, leaves: &[Leaf]) -> Result<Vec<u8>, AllocError>
 }
 
 /// Adds what a search that found these leaves writes.
-#[tactic(auto, unfolding(oz_semantics::specs::Replies::leaves_reply))]
+#[tactic(auto, unfolding(plain_replies::specs::Replies::leaves_reply))]
 pub fn add_leaves_reply(alloc: Global, leaves: &[Leaf], out: &mut Vec<u8>) -> Result<(), AllocError>
     ensures { OnOk result (out.new.items ≡ out.old.items ++ leaves_reply leaves.now) }
 {

@@ -1,22 +1,22 @@
 //! The depth-first search. Of each node with alternatives one machine is kept, and an alternative is copied from it when it
 //! is opened.
 ghost use Rattle.std.specs.Prelude.{◌≡◌, ◌+◌, ◌<◌, ◌++◌, ◌∷◌, [], ℕ, List, IfOk, OnOk, MatchOption};
-ghost use Rattle.oz_semantics.specs.Search.{depth_first};
-ghost use Rattle.oz_semantics.specs.declared.kernel.Kernel.{Kernel};
-ghost use Rattle.oz_laws.specs.Visits.{FindsNone, Visits};
+ghost use Rattle.plain_semantics.specs.Search.{depth_first};
+ghost use Rattle.oz_language.specs.declared.kernel.Kernel.{Kernel};
+ghost use Rattle.plain_laws.specs.Visits.{FindsNone, Visits};
 ghost use Rattle.oz_top.specs.Searching.{waiting, AreOf, OpensNext, children_by, leaf_by, leaves_of};
 
 use crate::open::Open;
-use oz_base::{Sequence, Stack};
-use oz_machine::{Machine, Ran, Text};
+use oz_base::{Sequence, SpaceName, Stack};
 use oz_outside::Gate;
-use oz_semantics::{Leaf, State};
+use plain_machine::{Machine, Ran, Text};
+use plain_semantics::{Leaf, State};
 use std::alloc::{AllocError, Global};
 
 /// Opens the next alternative of a node.
 fn open_next(
     alloc: Global,
-    space: &Sequence<u32>,
+    space: &SpaceName,
     node: Open,
     opened: &mut Stack<Open>,
 ) -> Result<Machine, AllocError>
@@ -45,7 +45,7 @@ fn open_next(
 /// Opens the leftmost alternative that waits, if there is one.
 fn take_next(
     alloc: Global,
-    space: &Sequence<u32>,
+    space: &SpaceName,
     opened: &mut Stack<Open>,
 ) -> Result<Option<Machine>, AllocError>
     ensures { IfOk result (λ next. MatchOption next (waiting space.now opened.old ≡ []) (OpensNext space.now opened.old opened.new)) }
@@ -89,7 +89,7 @@ fn keep(
 /// it does not suffice.
 fn visit(
     alloc: Global,
-    space: &Sequence<u32>,
+    space: &SpaceName,
     mut machine: Machine,
     fuel: u64,
     opened: &mut Stack<Open>,
@@ -116,11 +116,11 @@ fn visit(
 
 /// The leaves of the tree below a node that was just created, from left to right. `None` exactly where the tree takes more
 /// steps than the fuel. The gate is called round the solving of each node, by worker 1.
-#[tactic(auto, unfolding(oz_semantics::specs::Search::depth_first, oz_semantics::specs::Search::explored))]
+#[tactic(auto, unfolding(plain_semantics::specs::Search::depth_first, plain_semantics::specs::Search::explored))]
 pub fn depth_first<G: Gate>(
     alloc: Global,
     root: Machine,
-    space: &Sequence<u32>,
+    space: &SpaceName,
     fuel: u64,
     gate: &G,
 ) -> Result<Option<Sequence<Leaf>>, AllocError>

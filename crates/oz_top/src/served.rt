@@ -2,13 +2,13 @@
 ghost use Rattle.std.specs.Prelude.{◌≡◌, ◌&&◌, ◌||◌, List, [], IfOk, codes};
 ghost use Rattle.std.specs.List.{list_any};
 ghost use Rattle.oz_base.specs.Lists.{list_eq};
-ghost use Rattle.oz_semantics.specs.Tokens.{Lexes, Whole};
-ghost use Rattle.oz_semantics.specs.Wording.{bytes_of};
-ghost use Rattle.oz_semantics.specs.Served.{is_unserved, is_lazy, unserved_in};
-ghost use Rattle.oz_semantics.specs.declared.token.Lexeme.{Lexeme};
+ghost use Rattle.oz_language.specs.Tokens.{Lexes, Whole};
+ghost use Rattle.oz_language.specs.Wording.{bytes_of};
+ghost use Rattle.plain_replies.specs.Served.{is_unserved, is_lazy, unserved_in};
+ghost use Rattle.oz_language.specs.declared.token.Lexeme.{Lexeme};
 
+use oz_language::{Lexeme, Sort};
 use oz_lex::{lexemes, one_reading, unquoted};
-use oz_semantics::{Lexeme, Sort};
 use std::alloc::{AllocError, Global};
 
 /// Symbols and reserved words.

@@ -1,6 +1,7 @@
 use super::{Outcome, oz_call};
+use oz_language::{Fault, RefusalKind};
 use oz_outside::{Gate, HoldGate, MemSink, MemSource, OpenGate, READ_LIMIT};
-use oz_semantics::{Cause, Fault, RefusalKind};
+use plain_replies::Cause;
 use std::alloc::{AllocError, Global};
 use std::test::Fail;
 

@@ -1,10 +1,10 @@
 -- Facts on truth values, on lists of phrases and on runs.
 use Rattle.std.proofs.Common.{◌≡◌, ℕ, zero, suc, List, [], ◌∷◌, ◌++◌, Option, None, Bool, true, false, ◌&&◌, ◌||◌, nat_le, refl, sym, ap, ◌∙◌, append_assoc}
 use Rattle.std.proofs.lemmas.List.{append-nil}
-use Rattle.oz_semantics.specs.Grammar.{level_of, left_level, level_of_bars, level_of_hashes, tightest, at_least_two, Phrase, Phrases, nothing, more, keyed, bars, hashes, binary, var, dollar, head, arm, clause, of_list, tokens_of, each, separated, led, is_more, is_parameter, are_parameters, is_named_head, is_value_head, term, terms, fields as are_fields, expr, stmt, stmts, stmts_value, decl, decls, is_body, is_value_body, bodies, value_bodies, arms, value_arms, clauses, value_clauses}
-use Rattle.oz_semantics.specs.declared.token.Operator.{Operator}
-use Rattle.oz_semantics.specs.declared.token.Token.{Token}
-use Rattle.oz_semantics.specs.declared.token.Operator.TheVariants.{OrElse, AndThen, Plus, Minus, Times, Div, Mod}
+use Rattle.oz_language.specs.Grammar.{level_of, left_level, level_of_bars, level_of_hashes, tightest, at_least_two, Phrase, Phrases, nothing, more, keyed, bars, hashes, binary, var, dollar, head, arm, clause, of_list, tokens_of, each, separated, led, is_more, is_parameter, are_parameters, is_named_head, is_value_head, term, terms, fields as are_fields, expr, stmt, stmts, stmts_value, decl, decls, is_body, is_value_body, bodies, value_bodies, arms, value_arms, clauses, value_clauses}
+use Rattle.oz_language.specs.declared.token.Operator.{Operator}
+use Rattle.oz_language.specs.declared.token.Token.{Token}
+use Rattle.oz_language.specs.declared.token.Operator.TheVariants.{OrElse, AndThen, Plus, Minus, Times, Div, Mod}
 use Rattle.reader_law.specs.Machine.{Stack, guard, bind, binds, is_some_item, step, run}
 
 -- ---- truth values

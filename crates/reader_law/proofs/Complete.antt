@@ -1,8 +1,8 @@
 -- What is spelled is read: the steps over a phrase's tokens leave what the phrase, taken whole, leaves.
 use Rattle.std.proofs.Common.{◌≡◌, [], ◌∷◌, Some, None, true, false, refl, ap, ◌∙◌}
-use Rattle.oz_semantics.specs.Grammar.{Phrase, Phrases, nothing, more, var, any, int, string, literal, rec, keyed, list, paren, binary, bars, hashes, select, access, skip, fail, raise, connected, relate, call, proc, fun, local, thread, choice, when, choose, arm, cases, cases_or, clause, attempt, body, tokens_of, is_body}
-use Rattle.oz_semantics.specs.declared.token.Operator.TheVariants.{Plus, Minus, Times}
-use Rattle.oz_semantics.specs.declared.token.Connective.TheVariants.{Equates, Assigns, Bounds, BoundsEach}
+use Rattle.oz_language.specs.Grammar.{Phrase, Phrases, nothing, more, var, any, int, string, literal, rec, keyed, list, paren, binary, bars, hashes, select, access, skip, fail, raise, connected, relate, call, proc, fun, local, thread, choice, when, choose, arm, cases, cases_or, clause, attempt, body, tokens_of, is_body}
+use Rattle.oz_language.specs.declared.token.Operator.TheVariants.{Plus, Minus, Times}
+use Rattle.oz_language.specs.declared.token.Connective.TheVariants.{Equates, Assigns, Bounds, BoundsEach}
 use Rattle.reader_law.specs.Machine.{program, accepted, guard, bind, body_of, accepted_of, finish, parse}
 use Rattle.reader_law.proofs.CompleteSides.{SideReads, var_side, int_side, times_side, plus_side, minus_side, no_side}
 use Rattle.reader_law.proofs.CompletePhrases.{TermReads, LedReads, FieldsReads, ElementsReads, PartsReads, FeatureReads, AccessReads, StmtReads, ItemsReads, DeclsReads, BodyReads, BoxesReads, ArmsReads, ClausesReads, CatchesReads, no_term, no_feature, no_accessed, no_stmt, no_declarations, no_boxes, no_arms, no_clauses, no_catches, no_body, no_bars, no_hashes, term_var, term_any, term_int, term_string, term_literal, term_rec, term_list, term_paren, term_bars, term_hashes, term_binary, term_select, term_access, term_fail, term_raise, term_call, term_proc, term_fun, term_local, term_thread, term_choice, term_choose, term_cases, term_cases_or, led_nothing, led_more, fields_nothing, fields_keyed, fields_more, elements_nothing, elements_more, parts_nothing, parts_more, feature_literal, feature_int, feature_var, feature_paren, accessed_var, accessed_paren, selected_side}

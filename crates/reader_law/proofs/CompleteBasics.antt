@@ -1,8 +1,8 @@
 -- Facts on truth values and levels, and the two sorts of bodies, for the proof that what is spelled is read.
 use Rattle.std.proofs.Common.{◌≡◌, ℕ, zero, suc, nat_le, List, ◌∷◌, Option, Some, Bool, true, false, ◌&&◌, ◌||◌, refl, ap, ◌∙◌, arith}
 use Rattle.std.proofs.lemmas.Bool.Decides.{nat_tests}
-use Rattle.oz_semantics.specs.Grammar.{Phrase, Phrases, more, is_body, is_value_body, bodies, value_bodies, arms, value_arms, clauses, value_clauses, stmts, stmts_value, decls, body, arm, clause, term}
-use Rattle.oz_semantics.specs.declared.token.Token.{Token}
+use Rattle.oz_language.specs.Grammar.{Phrase, Phrases, more, is_body, is_value_body, bodies, value_bodies, arms, value_arms, clauses, value_clauses, stmts, stmts_value, decls, body, arm, clause, term}
+use Rattle.oz_language.specs.declared.token.Token.{Token}
 use Rattle.reader_law.proofs.Basics.{And, split, both, or_true}
 use Rattle.reader_law.specs.Machine.{Stack, may_state, is_alive, step, run}
 

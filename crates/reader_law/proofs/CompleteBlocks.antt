@@ -2,13 +2,13 @@
 use Rattle.std.proofs.Common.{◌≡◌, ℕ, zero, ◌+◌, nat_le, nat_lt, List, [], ◌∷◌, ◌++◌, Option, Some, Bool, true, false, ◌&&◌, ◌||◌, refl, sym, ap, ◌∙◌, subst, arith, append_assoc}
 use Rattle.std.proofs.lemmas.List.{append-nil}
 use Rattle.std.proofs.lemmas.Bool.Decides.{nat_tests}
-use Rattle.oz_semantics.specs.Grammar.{connective_token, level_of_selection, Phrase, Phrases, nothing, more, of_list, var, binary, connected, relate, body, skip, tokens_of, each, is_side, terms_in, terms_limit, term}
-use Rattle.oz_semantics.specs.declared.token.Token.{Token}
-use Rattle.oz_semantics.specs.declared.token.Comparison.{Comparison}
-use Rattle.oz_semantics.specs.declared.token.Connective.{Connective}
-use Rattle.oz_semantics.specs.declared.token.Token.TheVariants.{Var, Any, Int, String, Literal as Lit, Label, OpenParen, OpenBracket, OpenBrace, At, Fail, Raise, Proc, Fun, Local, Thread, Choice, If, Case, Skip, Try, In, Bar, Hash, Dot, Infix, Equals, Assign, Domain, Domains, Relates}
-use Rattle.oz_semantics.specs.declared.token.Operator.TheVariants.{Plus, Minus}
-use Rattle.oz_semantics.specs.declared.token.Connective.TheVariants.{Equates, Assigns, Bounds, BoundsEach}
+use Rattle.oz_language.specs.Grammar.{connective_token, level_of_selection, Phrase, Phrases, nothing, more, of_list, var, binary, connected, relate, body, skip, tokens_of, each, is_side, terms_in, terms_limit, term}
+use Rattle.oz_language.specs.declared.token.Token.{Token}
+use Rattle.oz_language.specs.declared.token.Comparison.{Comparison}
+use Rattle.oz_language.specs.declared.token.Connective.{Connective}
+use Rattle.oz_language.specs.declared.token.Token.TheVariants.{Var, Any, Int, String, Literal as Lit, Label, OpenParen, OpenBracket, OpenBrace, At, Fail, Raise, Proc, Fun, Local, Thread, Choice, If, Case, Skip, Try, In, Bar, Hash, Dot, Infix, Equals, Assign, Domain, Domains, Relates}
+use Rattle.oz_language.specs.declared.token.Operator.TheVariants.{Plus, Minus}
+use Rattle.oz_language.specs.declared.token.Connective.TheVariants.{Equates, Assigns, Bounds, BoundsEach}
 use Rattle.reader_law.specs.Machine.{Opener, declaring, block, whole, connecting, relating, Stack, binds, right_level, item, enter, declares, after, next, run}
 use Rattle.reader_law.proofs.Basics.{both, or_true, guard_true, list_of, of_list-list_of, then_run, term_binds}
 use Rattle.reader_law.proofs.CompleteBasics.{steps, chosen}

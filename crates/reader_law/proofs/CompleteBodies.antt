@@ -1,9 +1,9 @@
 -- Constructs that hold bodies. Each is read as a statement or as a value, as it is asked for.
 use Rattle.std.proofs.Common.{◌≡◌, ℕ, List, [], ◌∷◌, ◌++◌, Option, Some, None, Bool, true, false, ◌&&◌, ◌||◌, refl, ap, ◌∙◌, subst, append_assoc}
 use Rattle.std.proofs.lemmas.List.{append-nil}
-use Rattle.oz_semantics.specs.Grammar.{Phrase, Phrases, nothing, more, of_list, var, paren, head, dollar, proc, fun, local, thread, choice, when, choose, arm, cases, cases_or, clause, attempt, lazy_tokens, tokens_of, each, separated, is_single, is_named_head, is_value_head}
-use Rattle.oz_semantics.specs.declared.token.Token.{Token}
-use Rattle.oz_semantics.specs.declared.token.Token.TheVariants.{Var, CloseParen, CloseBrace, Dollar, Box, Catch, Case, Choice, Else, ElseIf, End, If, In, Local, Of, Then, Thread}
+use Rattle.oz_language.specs.Grammar.{Phrase, Phrases, nothing, more, of_list, var, paren, head, dollar, proc, fun, local, thread, choice, when, choose, arm, cases, cases_or, clause, attempt, lazy_tokens, tokens_of, each, separated, is_single, is_named_head, is_value_head}
+use Rattle.oz_language.specs.declared.token.Token.{Token}
+use Rattle.oz_language.specs.declared.token.Token.TheVariants.{Var, CloseParen, CloseBrace, Dollar, Box, Catch, Case, Choice, Else, ElseIf, End, If, In, Local, Of, Then, Thread}
 use Rattle.reader_law.specs.Machine.{Opener, declaring, of_local, of_proc, of_fun, of_thread, of_choice, of_then, of_else, of_clause, of_case_else, of_try, of_catch, of_paren, Maker, making_proc, making_fun, block, heading, heads, testing, matching, patterns, catching, Stack, guard, is_some_item, body_of, opened, made, may_state, in_block, may_value, had, is_alive, ends, run}
 use Rattle.reader_law.proofs.Basics.{guard_true, list_of, of_list-list_of, then_run}
 use Rattle.reader_law.proofs.CompleteBasics.{steps, chosen, chosen_both, alive}

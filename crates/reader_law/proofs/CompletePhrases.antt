@@ -1,10 +1,10 @@
 -- Each sort of phrase and how it is read, and the expressions and patterns, each from its parts.
 use Rattle.std.proofs.Common.{◌≡◌, ℕ, ℤ, suc, nat_le, List, [], ◌∷◌, ◌++◌, Option, Some, Bool, true, false, ◌&&◌, ◌||◌, refl, sym, ap, ◌∙◌, true≢false}
-use Rattle.oz_semantics.specs.declared.token.Literal.{Literal}
-use Rattle.oz_semantics.specs.declared.kernel.Constant.{Constant}
-use Rattle.oz_semantics.specs.Grammar.{level_of, left_level, level_of_bars, level_of_hashes, level_of_selection, Phrase, Phrases, nothing, more, of_list, var, any, int, string, literal, rec, keyed, list, paren, binary, bars, hashes, select, access, fail, raise, call, proc, fun, local, thread, choice, choose, cases, cases_or, lazy_tokens, tokens_of, separated, is_more, at_least_two, is_named_head, is_value_head, term, terms, fields as are_fields, feature, accessed, stmt, decls, is_body, is_value_body, value_bodies, arms, value_arms, clauses, value_clauses}
-use Rattle.oz_semantics.specs.declared.token.Operator.{Operator}
-use Rattle.oz_semantics.specs.declared.token.Token.TheVariants.{Box, End, Fun, Proc}
+use Rattle.oz_language.specs.declared.token.Literal.{Literal}
+use Rattle.oz_language.specs.declared.kernel.Constant.{Constant}
+use Rattle.oz_language.specs.Grammar.{level_of, left_level, level_of_bars, level_of_hashes, level_of_selection, Phrase, Phrases, nothing, more, of_list, var, any, int, string, literal, rec, keyed, list, paren, binary, bars, hashes, select, access, fail, raise, call, proc, fun, local, thread, choice, choose, cases, cases_or, lazy_tokens, tokens_of, separated, is_more, at_least_two, is_named_head, is_value_head, term, terms, fields as are_fields, feature, accessed, stmt, decls, is_body, is_value_body, value_bodies, arms, value_arms, clauses, value_clauses}
+use Rattle.oz_language.specs.declared.token.Operator.{Operator}
+use Rattle.oz_language.specs.declared.token.Token.TheVariants.{Box, End, Fun, Proc}
 use Rattle.reader_law.specs.Machine.{Opener, declaring, of_local, of_proc, of_fun, of_thread, of_choice, of_else, of_case_else, making_proc, making_fun, block, whole, left_of, dotted, accessing, fields, key, listing, enclosing, parts, raising, matching, Stack, opened, is_some_item, may_state, run}
 use Rattle.reader_law.proofs.Basics.{split, both, list_of, some_snoc}
 use Rattle.reader_law.proofs.CompleteBasics.{le_through, le_self, steps, chosen, sort_body, sort_stmts, sort_bodies, sort_arms, sort_clauses}

@@ -1,14 +1,14 @@
 -- Where expressions and patterns may stand, and how the stack that their tokens lead to is that of the whole phrase.
 use Rattle.std.proofs.Common.{◌≡◌, ℕ, suc, nat_le, List, [], ◌∷◌, ◌++◌, Option, Some, None, Bool, true, false, ◌&&◌, ◌||◌, if◌then◌else◌, refl, sym, ap, ◌∙◌}
-use Rattle.oz_semantics.specs.declared.token.Literal.{Literal}
-use Rattle.oz_semantics.specs.declared.kernel.Constant.{Constant}
-use Rattle.oz_semantics.specs.Grammar.{level_of, left_level, level_of_bars, level_of_hashes, level_of_selection, Phrase, Phrases, of_list, binary, bars, hashes}
-use Rattle.oz_semantics.specs.declared.token.Token.{Token}
-use Rattle.oz_semantics.specs.declared.token.Operator.{Operator}
-use Rattle.oz_semantics.specs.declared.token.Connective.{Connective}
-use Rattle.oz_semantics.specs.declared.token.Token.TheVariants.{Var, Any, Int, String, Literal as Lit, Label, OpenParen, CloseParen, OpenBracket, CloseBracket, OpenBrace, CloseBrace, At, Bar, Hash, Dot, Infix, Fail, Raise, Proc, Fun, Local, Thread, Choice, If, Case}
-use Rattle.oz_semantics.specs.declared.token.Operator.TheVariants.{OrElse, AndThen, Plus, Minus, Times, Div, Mod}
-use Rattle.oz_semantics.specs.declared.token.Connective.TheVariants.{Equates, Assigns, Bounds, BoundsEach}
+use Rattle.oz_language.specs.declared.token.Literal.{Literal}
+use Rattle.oz_language.specs.declared.kernel.Constant.{Constant}
+use Rattle.oz_language.specs.Grammar.{level_of, left_level, level_of_bars, level_of_hashes, level_of_selection, Phrase, Phrases, of_list, binary, bars, hashes}
+use Rattle.oz_language.specs.declared.token.Token.{Token}
+use Rattle.oz_language.specs.declared.token.Operator.{Operator}
+use Rattle.oz_language.specs.declared.token.Connective.{Connective}
+use Rattle.oz_language.specs.declared.token.Token.TheVariants.{Var, Any, Int, String, Literal as Lit, Label, OpenParen, CloseParen, OpenBracket, CloseBracket, OpenBrace, CloseBrace, At, Bar, Hash, Dot, Infix, Fail, Raise, Proc, Fun, Local, Thread, Choice, If, Case}
+use Rattle.oz_language.specs.declared.token.Operator.TheVariants.{OrElse, AndThen, Plus, Minus, Times, Div, Mod}
+use Rattle.oz_language.specs.declared.token.Connective.TheVariants.{Equates, Assigns, Bounds, BoundsEach}
 use Rattle.reader_law.specs.Machine.{Opener, of_paren, Frame, block, whole, left_of, barred, hashed, connecting, fields, key, listing, enclosing, parts, raising, testing, matching, patterns, catching, right_level, Stack, guard, Kind, expression, pattern, side, kind_by, kind_of, may_value, had, begins, Reduced, reduce, binds, allows, add_bar, add_hash, add_term, shift_in, is_operator, behind, after, next}
 use Rattle.reader_law.proofs.Basics.{guard_true, or_true}
 use Rattle.reader_law.proofs.CompleteBasics.{le_through, above}

@@ -1,13 +1,13 @@
 -- What comes behind a phrase: the next one begins as if it had been taken in. Records, lists, calls and heads.
 use Rattle.std.proofs.Common.{◌≡◌, ℕ, nat_le, List, [], ◌∷◌, ◌++◌, Option, Some, Bool, true, false, ◌&&◌, refl, sym, ap, ◌∙◌, subst, append_assoc, suc}
 use Rattle.std.proofs.lemmas.List.{append-nil}
-use Rattle.oz_semantics.specs.declared.token.Literal.{Literal}
-use Rattle.oz_semantics.specs.declared.kernel.Constant.{Constant}
-use Rattle.oz_semantics.specs.declared.kernel.Constant.TheVariants as constant
-use Rattle.oz_semantics.specs.Grammar.{left_level, level_of, level_of_hashes, level_of_selection, Phrase, Phrases, nothing, more, of_list, var, any, int, string, literal, rec, keyed, list, paren, binary, bars, hashes, select, access, fail, raise, call, proc, fun, local, thread, choice, when, choose, cases, cases_or, attempt, skip, connected, relate, head, key_token, tokens_of, each, led, term, terms, fields as are_fields, are_parameters, stmt, decl, level_of_bars}
-use Rattle.oz_semantics.specs.declared.token.Token.{Token}
-use Rattle.oz_semantics.specs.declared.token.Token.TheVariants.{Var, Any, Int, String, Literal as Lit, Label, OpenParen, CloseParen, OpenBracket, CloseBracket, OpenBrace, CloseBrace, Colon, Equals, Assign, Domain, Domains, Relates, At, Bar, Hash, Dot, Infix, Fail, Raise, Proc, Fun, Local, Thread, Choice, If, Case, Skip, Try}
-use Rattle.oz_semantics.specs.declared.token.Connective.TheVariants.{Equates, Assigns, Bounds, BoundsEach}
+use Rattle.oz_language.specs.declared.token.Literal.{Literal}
+use Rattle.oz_language.specs.declared.kernel.Constant.{Constant}
+use Rattle.oz_language.specs.declared.kernel.Constant.TheVariants as constant
+use Rattle.oz_language.specs.Grammar.{left_level, level_of, level_of_hashes, level_of_selection, Phrase, Phrases, nothing, more, of_list, var, any, int, string, literal, rec, keyed, list, paren, binary, bars, hashes, select, access, fail, raise, call, proc, fun, local, thread, choice, when, choose, cases, cases_or, attempt, skip, connected, relate, head, key_token, tokens_of, each, led, term, terms, fields as are_fields, are_parameters, stmt, decl, level_of_bars}
+use Rattle.oz_language.specs.declared.token.Token.{Token}
+use Rattle.oz_language.specs.declared.token.Token.TheVariants.{Var, Any, Int, String, Literal as Lit, Label, OpenParen, CloseParen, OpenBracket, CloseBracket, OpenBrace, CloseBrace, Colon, Equals, Assign, Domain, Domains, Relates, At, Bar, Hash, Dot, Infix, Fail, Raise, Proc, Fun, Local, Thread, Choice, If, Case, Skip, Try}
+use Rattle.oz_language.specs.declared.token.Connective.TheVariants.{Equates, Assigns, Bounds, BoundsEach}
 use Rattle.reader_law.specs.Machine.{fields, key, listing, parts, heads, Maker, made, opened, Stack, is_some_item, kind_by, had, begins, after, next, run}
 use Rattle.reader_law.proofs.Basics.{split, guard_true, list_of, of_list-list_of, then_run}
 use Rattle.reader_law.proofs.CompleteBasics.{never, zero_least, steps, chosen}

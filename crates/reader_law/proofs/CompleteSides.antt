@@ -1,12 +1,12 @@
 -- The right side of a relation: integers, references, products and sums.
 use Rattle.std.proofs.Common.{◌≡◌, ℕ, ℤ, suc, ◌+◌, nat_le, nat_lt, ◌∷◌, Some, Bool, true, false, not, ◌&&◌, ◌||◌, if◌then◌else◌, refl, sym, ap, ◌∙◌, arith, true≢false}
 use Rattle.std.proofs.lemmas.Bool.Decides.{nat_tests}
-use Rattle.oz_semantics.specs.Grammar.{Phrase, var, int, binary, select, tokens_of, is_small, is_small_int, is_reference, is_product, is_side_term, is_side, level_of_selection, term, feature, terms_in, terms_limit}
-use Rattle.oz_semantics.specs.declared.token.Token.{Token}
-use Rattle.oz_semantics.specs.declared.token.Operator.{Operator}
-use Rattle.oz_semantics.specs.declared.token.Comparison.{Comparison}
-use Rattle.oz_semantics.specs.declared.token.Token.TheVariants.{Var, Int, Dot, Infix}
-use Rattle.oz_semantics.specs.declared.token.Operator.TheVariants.{Plus, Minus, Times}
+use Rattle.oz_language.specs.Grammar.{Phrase, var, int, binary, select, tokens_of, is_small, is_small_int, is_reference, is_product, is_side_term, is_side, level_of_selection, term, feature, terms_in, terms_limit}
+use Rattle.oz_language.specs.declared.token.Token.{Token}
+use Rattle.oz_language.specs.declared.token.Operator.{Operator}
+use Rattle.oz_language.specs.declared.token.Comparison.{Comparison}
+use Rattle.oz_language.specs.declared.token.Token.TheVariants.{Var, Int, Dot, Infix}
+use Rattle.oz_language.specs.declared.token.Operator.TheVariants.{Plus, Minus, Times}
 use Rattle.reader_law.specs.Machine.{whole, left_of, dotted, relating, Stack, guard, side, kind_of, had, begins, takes_int, takes_factor, shift_in, reduce, next, run}
 use Rattle.reader_law.proofs.Basics.{split, or_true, guard_true, then_run}
 use Rattle.reader_law.proofs.CompleteBasics.{le_through, steps}

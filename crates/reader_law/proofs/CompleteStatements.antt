@@ -1,9 +1,9 @@
 -- Statements, declarations and bodies, each from its parts.
 use Rattle.std.proofs.Common.{◌≡◌, ℕ, ◌+◌, nat_le, List, [], ◌∷◌, ◌++◌, Option, Some, Bool, true, false, ◌&&◌, refl, ap, ◌∙◌}
-use Rattle.oz_semantics.specs.Grammar.{level_of_hashes, level_of_selection, Phrase, Phrases, nothing, more, var, paren, skip, fail, raise, connected, relate, call, proc, fun, local, thread, choice, when, choose, arm, cases, cases_or, clause, attempt, body, lazy_tokens, tokens_of, each, is_more, is_side, is_named_head, is_value_head, term, stmt, stmts, stmts_value, decls, is_body, is_value_body, bodies, arms, clauses, terms_in, terms_limit}
-use Rattle.oz_semantics.specs.declared.token.Comparison.{Comparison}
-use Rattle.oz_semantics.specs.declared.token.Token.TheVariants.{End, Fun, Proc}
-use Rattle.oz_semantics.specs.declared.token.Connective.TheVariants.{Equates, Assigns, Bounds, BoundsEach}
+use Rattle.oz_language.specs.Grammar.{level_of_hashes, level_of_selection, Phrase, Phrases, nothing, more, var, paren, skip, fail, raise, connected, relate, call, proc, fun, local, thread, choice, when, choose, arm, cases, cases_or, clause, attempt, body, lazy_tokens, tokens_of, each, is_more, is_side, is_named_head, is_value_head, term, stmt, stmts, stmts_value, decls, is_body, is_value_body, bodies, arms, clauses, terms_in, terms_limit}
+use Rattle.oz_language.specs.declared.token.Comparison.{Comparison}
+use Rattle.oz_language.specs.declared.token.Token.TheVariants.{End, Fun, Proc}
+use Rattle.oz_language.specs.declared.token.Connective.TheVariants.{Equates, Assigns, Bounds, BoundsEach}
 use Rattle.reader_law.specs.Machine.{Opener, declaring, of_local, of_proc, of_fun, of_thread, of_choice, of_then, of_else, of_clause, of_case_else, of_try, of_catch, of_paren, making_proc, making_fun, block, whole, connecting, raising, testing, matching, patterns, catching, Stack, is_some_item}
 use Rattle.reader_law.proofs.Basics.{split, list_of}
 use Rattle.reader_law.proofs.CompleteBasics.{steps, chosen_both, sort_stmts, body_parts, bodies_parts, arm_parts, clause_parts}

@@ -1,12 +1,12 @@
 -- Expressions and patterns: leaves, operators, chains, selections, parentheses, records, lists and calls.
 use Rattle.std.proofs.Common.{◌≡◌, ℕ, ℤ, suc, nat_le, List, [], ◌∷◌, ◌++◌, Some, Bool, true, false, ◌&&◌, refl, sym, ap, ◌∙◌, subst, append_assoc}
 use Rattle.std.proofs.lemmas.List.{append-nil}
-use Rattle.oz_semantics.specs.declared.token.Literal.{Literal}
-use Rattle.oz_semantics.specs.Grammar.{level_of, left_level, level_of_hashes, level_of_selection, tightest, Phrase, Phrases, nothing, more, of_list, var, any, int, string, literal, paren, binary, select, access, fail, raise, tokens_of, each, separated, led, term}
-use Rattle.oz_semantics.specs.declared.token.Token.{Token}
-use Rattle.oz_semantics.specs.declared.token.Operator.{Operator}
-use Rattle.oz_semantics.specs.declared.token.Token.TheVariants.{Var, Any, Int, String, Literal as Lit, OpenParen, CloseParen, At, Bar, Hash, Dot, Infix, Fail, Raise, End}
-use Rattle.oz_semantics.specs.declared.token.Operator.TheVariants.{OrElse, AndThen, Plus, Minus, Times, Div, Mod}
+use Rattle.oz_language.specs.declared.token.Literal.{Literal}
+use Rattle.oz_language.specs.Grammar.{level_of, left_level, level_of_hashes, level_of_selection, tightest, Phrase, Phrases, nothing, more, of_list, var, any, int, string, literal, paren, binary, select, access, fail, raise, tokens_of, each, separated, led, term}
+use Rattle.oz_language.specs.declared.token.Token.{Token}
+use Rattle.oz_language.specs.declared.token.Operator.{Operator}
+use Rattle.oz_language.specs.declared.token.Token.TheVariants.{Var, Any, Int, String, Literal as Lit, OpenParen, CloseParen, At, Bar, Hash, Dot, Infix, Fail, Raise, End}
+use Rattle.oz_language.specs.declared.token.Operator.TheVariants.{OrElse, AndThen, Plus, Minus, Times, Div, Mod}
 use Rattle.reader_law.specs.Machine.{of_paren, block, whole, left_of, dotted, accessing, enclosing, raising, Stack, guard, kind_by, kind_of, is_alive, had, value, begins, reduce, binds, allows, add_bar, add_hash, shift_in, next, run}
 use Rattle.reader_law.proofs.Basics.{both, or_true, guard_true, list_of, of_list-list_of, then_run, term_binds}
 use Rattle.reader_law.proofs.CompleteBasics.{le_through, le_self, le_next, steps, chosen}

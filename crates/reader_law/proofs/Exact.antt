@@ -1,7 +1,7 @@
 -- The machine accepts exactly the programs, and goes through exactly what begins one.
 use Rattle.std.proofs.Common.{◌≡◌, List, ◌++◌, Option, Some, None, refl, sym, ap, ◌∙◌, subst}
-use Rattle.oz_semantics.specs.declared.token.Token.{Token}
-use Rattle.oz_semantics.specs.Grammar.{Phrase, Derives, Begins}
+use Rattle.oz_language.specs.declared.token.Token.{Token}
+use Rattle.oz_language.specs.Grammar.{Phrase, Derives, Begins}
 use Rattle.reader_law.specs.Machine.{Stack, bind, run, start, finish, parse}
 use Rattle.reader_law.specs.Laws.{ParsesLaw, BeginsLaw}
 use Rattle.reader_law.proofs.Basics.{run_append, run_none}

@@ -1,12 +1,12 @@
 -- What holds of every stack that the machine comes to.
 use Rattle.std.proofs.Common.{◌≡◌, ℕ, zero, suc, List, [], ◌∷◌, ◌++◌, Option, Some, None, Bool, true, false, ◌&&◌, ◌||◌, nat_le, nat_lt, ◌+◌, refl, ap}
-use Rattle.oz_semantics.specs.Grammar.{level_of, left_level, level_of_bars, level_of_hashes, level_of_selection, tightest, Phrase, head, of_list, key_token, connective_token, lazy_tokens, tokens_of, each, separated, declared, is_more, is_var, is_named_head, is_value_head, is_small_int, is_reference, is_product, is_side_term, is_side, terms_in, terms_limit, term, terms, fields as are_fields, expr, pattern as is_pattern, stmt, stmts, decl, decls, is_body, bodies, value_bodies, arms, value_arms, clauses, value_clauses}
-use Rattle.oz_semantics.specs.declared.token.Operator.{Operator}
-use Rattle.oz_semantics.specs.declared.token.Token.{Token}
-use Rattle.oz_semantics.specs.declared.token.Connective.{Connective}
-use Rattle.oz_semantics.specs.declared.token.Token.TheVariants.{Label, OpenParen, OpenBracket, OpenBrace, Colon, Box, Bar, Hash, Dot, At, Infix, Relates, Case, Catch, Choice, Else, ElseIf, Fun, If, In, Local, Of, Proc, Raise, Then, Thread, Try}
-use Rattle.oz_semantics.specs.declared.token.Operator.TheVariants.{OrElse, AndThen, Plus, Minus, Times, Div, Mod}
-use Rattle.oz_semantics.specs.declared.token.Connective.TheVariants.{Equates, Assigns, Bounds, BoundsEach}
+use Rattle.oz_language.specs.Grammar.{level_of, left_level, level_of_bars, level_of_hashes, level_of_selection, tightest, Phrase, head, of_list, key_token, connective_token, lazy_tokens, tokens_of, each, separated, declared, is_more, is_var, is_named_head, is_value_head, is_small_int, is_reference, is_product, is_side_term, is_side, terms_in, terms_limit, term, terms, fields as are_fields, expr, pattern as is_pattern, stmt, stmts, decl, decls, is_body, bodies, value_bodies, arms, value_arms, clauses, value_clauses}
+use Rattle.oz_language.specs.declared.token.Operator.{Operator}
+use Rattle.oz_language.specs.declared.token.Token.{Token}
+use Rattle.oz_language.specs.declared.token.Connective.{Connective}
+use Rattle.oz_language.specs.declared.token.Token.TheVariants.{Label, OpenParen, OpenBracket, OpenBrace, Colon, Box, Bar, Hash, Dot, At, Infix, Relates, Case, Catch, Choice, Else, ElseIf, Fun, If, In, Local, Of, Proc, Raise, Then, Thread, Try}
+use Rattle.oz_language.specs.declared.token.Operator.TheVariants.{OrElse, AndThen, Plus, Minus, Times, Div, Mod}
+use Rattle.oz_language.specs.declared.token.Connective.TheVariants.{Equates, Assigns, Bounds, BoundsEach}
 use Rattle.reader_law.specs.Machine.{Opener, program, declaring, of_local, of_proc, of_fun, of_thread, of_choice, of_then, of_else, of_clause, of_case_else, of_try, of_catch, of_paren, Maker, making_proc, making_fun, Frame, block, whole, left_of, barred, hashed, dotted, accessing, connecting, relating, fields, key, listing, enclosing, parts, heading, heads, raising, testing, matching, patterns, catching, accepted, Stack, is_some_item, may_state, Kind, expression, pattern, side, kind_by, kind_of, is_alive, takes_factor, binds, right_level, allows, declares}
 use Rattle.reader_law.proofs.Basics.{or_true, trailed}
 

@@ -3,16 +3,16 @@ use Rattle.std.proofs.Common.{◌≡◌, ℕ, arith, zero, ◌+◌, List, [], �
 use Rattle.std.proofs.lemmas.List.{append-nil}
 use Rattle.std.proofs.lemmas.Bool.{eqb-true}
 use Rattle.std.proofs.lemmas.Bool.Decides.{nat_tests}
-use Rattle.oz_semantics.specs.Grammar.{level_of_hashes, level_of_selection, Phrase, Phrases, of_list, var, any, int, literal, rec, keyed, list, paren, raise, connected, relate, call, dollar, head, connective_token, tokens_of, each, declared, is_more, is_var, is_parameter, is_named_head, is_value_head, is_side, terms_in, terms_limit, term, terms, fields as are_fields, feature, stmt, stmts, decl, decls, expr, pattern as is_pattern, Derives}
-use Rattle.oz_semantics.specs.Wording.{lazy_word}
-use Rattle.oz_semantics.specs.declared.token.Literal.{Literal}
-use Rattle.oz_semantics.specs.declared.token.Literal.TheVariants.{Atom}
-use Rattle.oz_semantics.specs.declared.kernel.Constant.{Constant}
-use Rattle.oz_semantics.specs.declared.token.Comparison.{Comparison}
-use Rattle.oz_semantics.specs.declared.token.Token.{Token}
-use Rattle.oz_semantics.specs.declared.token.Connective.{Connective}
-use Rattle.oz_semantics.specs.declared.token.Token.TheVariants.{Var, Any, Literal as Lit, Label, CloseParen, OpenBracket, CloseBracket, OpenBrace, CloseBrace, Colon, Equals, Assign, Domain, Domains, Dollar, Relates, End, Fun, Of, Then}
-use Rattle.oz_semantics.specs.declared.token.Connective.TheVariants.{Equates, Assigns, Bounds, BoundsEach}
+use Rattle.oz_language.specs.Grammar.{level_of_hashes, level_of_selection, Phrase, Phrases, of_list, var, any, int, literal, rec, keyed, list, paren, raise, connected, relate, call, dollar, head, connective_token, tokens_of, each, declared, is_more, is_var, is_parameter, is_named_head, is_value_head, is_side, terms_in, terms_limit, term, terms, fields as are_fields, feature, stmt, stmts, decl, decls, expr, pattern as is_pattern, Derives}
+use Rattle.oz_language.specs.Wording.{lazy_word}
+use Rattle.oz_language.specs.declared.token.Literal.{Literal}
+use Rattle.oz_language.specs.declared.token.Literal.TheVariants.{Atom}
+use Rattle.oz_language.specs.declared.kernel.Constant.{Constant}
+use Rattle.oz_language.specs.declared.token.Comparison.{Comparison}
+use Rattle.oz_language.specs.declared.token.Token.{Token}
+use Rattle.oz_language.specs.declared.token.Connective.{Connective}
+use Rattle.oz_language.specs.declared.token.Token.TheVariants.{Var, Any, Literal as Lit, Label, CloseParen, OpenBracket, CloseBracket, OpenBrace, CloseBrace, Colon, Equals, Assign, Domain, Domains, Dollar, Relates, End, Fun, Of, Then}
+use Rattle.oz_language.specs.declared.token.Connective.TheVariants.{Equates, Assigns, Bounds, BoundsEach}
 use Rattle.reader_law.specs.Machine.{Opener, program, Maker, making_proc, making_fun, block, whole, dotted, accessing, connecting, relating, fields, key, listing, enclosing, parts, heading, heads, raising, testing, matching, patterns, catching, accepted, Stack, guard, bind, is_some_item, body_of, opened, may_state, in_block, may_value, expression, kind_by, kind_of, had, value, binds, reduce, right_level, shift_in, is_operator, item, declares, item_over, behind_item, next_field, turn_key, behind_field, behind_value, next_element, next_part, close_paren, raised, tested, subjected, claused, caught, open_head, made, first_head, next_head, behind, settled, step, run, start, accepted_of, finish, parse}
 use Rattle.reader_law.proofs.Basics.{split, both, or_true, each_snoc, term_at, terms_snoc, is_field, fields_snoc, term_field, named_snoc, value_snoc, run_none}
 use Rattle.reader_law.proofs.Good.{maker_tokens, spelled, Says, Stands, Makes, GoodItems, GoodOpener, Connects, connected_level, Has, Under, Good, Leads, spot_stands}

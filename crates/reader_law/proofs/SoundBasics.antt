@@ -1,10 +1,10 @@
 -- What follows from good stacks at once, for the steps of the machine.
 use Rattle.std.proofs.Common.{◌≡◌, ℕ, ℤ, arith, zero, suc, ◌+◌, List, [], ◌∷◌, ◌++◌, Option, Some, None, Bool, true, false, not, ◌&&◌, ◌||◌, nat_le, nat_lt, refl, sym, ap, ◌∙◌, subst}
 use Rattle.std.proofs.lemmas.Bool.Decides.{nat_tests}
-use Rattle.oz_semantics.specs.Grammar.{level_of_selection, tightest, Phrase, var, int, binary, select, tokens_of, is_small, is_small_int, is_reference, is_product, is_side_term, is_side, terms_in, terms_limit, term, stmt, decl}
-use Rattle.oz_semantics.specs.declared.token.Operator.{Operator}
-use Rattle.oz_semantics.specs.declared.token.Token.{Token}
-use Rattle.oz_semantics.specs.declared.token.Operator.TheVariants.{Plus, Minus, Times}
+use Rattle.oz_language.specs.Grammar.{level_of_selection, tightest, Phrase, var, int, binary, select, tokens_of, is_small, is_small_int, is_reference, is_product, is_side_term, is_side, terms_in, terms_limit, term, stmt, decl}
+use Rattle.oz_language.specs.declared.token.Operator.{Operator}
+use Rattle.oz_language.specs.declared.token.Token.{Token}
+use Rattle.oz_language.specs.declared.token.Operator.TheVariants.{Plus, Minus, Times}
 use Rattle.reader_law.specs.Machine.{block, whole, left_of, barred, hashed, dotted, accessing, relating, fields, key, listing, enclosing, heading, heads, accepted, Stack, guard, may_state, Kind, side, kind_by, kind_of, had, takes_int, binds, allows, takes_factor, declares}
 use Rattle.reader_law.proofs.Basics.{split, both, or_left}
 use Rattle.reader_law.proofs.Good.{spelled, Says, Spot, Stands, is_kind_of_patterns, in_pattern, Expresses, Holds, Encloses, Makes, is_looser, is_factor, fits_side, fits_sign, FitsSign, GoodItems, Has, Under, Good, Leads, spot_stands, fits_kind, kind_pattern, looser_tightest}

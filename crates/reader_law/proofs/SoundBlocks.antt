@@ -1,9 +1,9 @@
 -- Blocks spell their tokens, and leave what is open good.
 use Rattle.std.proofs.Common.{◌≡◌, ℕ, zero, List, [], ◌∷◌, ◌++◌, Option, Some, None, Bool, true, false, ◌&&◌, ◌||◌, refl, sym, ap, ◌∙◌, subst, append_assoc}
 use Rattle.std.proofs.lemmas.List.{append-nil}
-use Rattle.oz_semantics.specs.Grammar.{tightest, Phrase, Phrases, nothing, more, of_list, var, paren, skip, proc, fun, local, thread, choice, when, choose, arm, cases, cases_or, clause, attempt, tokens_of, declared, is_more, is_single, is_named_head, is_value_head, terms, stmt, stmts, stmts_value, decl, decls, is_body, is_value_body, bodies, value_bodies, arms, value_arms, clauses, value_clauses, expr, pattern as is_pattern}
-use Rattle.oz_semantics.specs.declared.token.Token.{Token}
-use Rattle.oz_semantics.specs.declared.token.Token.TheVariants.{Var, Any, Int, String, Literal as Lit, Label, OpenParen, CloseParen, OpenBracket, OpenBrace, Box, At, Case, Catch, Choice, Else, ElseIf, End, Fail, Fun, If, In, Local, Of, Proc, Raise, Skip, Thread, Try}
+use Rattle.oz_language.specs.Grammar.{tightest, Phrase, Phrases, nothing, more, of_list, var, paren, skip, proc, fun, local, thread, choice, when, choose, arm, cases, cases_or, clause, attempt, tokens_of, declared, is_more, is_single, is_named_head, is_value_head, terms, stmt, stmts, stmts_value, decl, decls, is_body, is_value_body, bodies, value_bodies, arms, value_arms, clauses, value_clauses, expr, pattern as is_pattern}
+use Rattle.oz_language.specs.declared.token.Token.{Token}
+use Rattle.oz_language.specs.declared.token.Token.TheVariants.{Var, Any, Int, String, Literal as Lit, Label, OpenParen, CloseParen, OpenBracket, OpenBrace, Box, At, Case, Catch, Choice, Else, ElseIf, End, Fail, Fun, If, In, Local, Of, Proc, Raise, Skip, Thread, Try}
 use Rattle.reader_law.specs.Machine.{Opener, program, declaring, of_local, of_proc, of_fun, of_thread, of_choice, of_then, of_else, of_clause, of_case_else, of_try, of_catch, of_paren, making_proc, making_fun, block, whole, heading, testing, patterns, catching, Stack, guard, is_some_item, body_of, opened, may_state, had, is_alive, ends, expression_begins, binds, close, enter_body, enter, item, declares, item_over}
 use Rattle.reader_law.proofs.Basics.{split, both, or_true, and_false, more_snoc, each_snoc, trailed_snoc, separated_snoc, stmts_snoc, stmts_value_snoc, decls_snoc, bodies_snoc, value_bodies_snoc, arms_snoc, value_arms_snoc, clauses_snoc, value_clauses_snoc}
 use Rattle.reader_law.proofs.Good.{opener_tokens, spelled, Says, IsNil, Expresses, GoodItems, GoodOpener, Under, Good, Leads}

@@ -3,13 +3,13 @@ use Rattle.std.proofs.Common.{◌≡◌, ℕ, arith, zero, suc, ◌+◌, [], ◌
 use Rattle.std.proofs.lemmas.Bool.{leb-true, le-leb}
 use Rattle.std.proofs.Math.Nat.{le_trans}
 use Rattle.std.proofs.lemmas.Bool.Decides.{nat_tests}
-use Rattle.oz_semantics.specs.Grammar.{level_of, left_level, level_of_bars, level_of_hashes, level_of_selection, Phrase, binary, tokens_of, is_reference, is_side_term, is_side, terms_in, terms_limit, term}
-use Rattle.oz_semantics.specs.declared.token.Operator.{Operator}
-use Rattle.oz_semantics.specs.declared.token.Comparison.{Comparison}
-use Rattle.oz_semantics.specs.declared.token.Token.{Token}
-use Rattle.oz_semantics.specs.declared.token.Token.TheVariants.{Bar, Hash, Dot, Infix}
-use Rattle.oz_semantics.specs.declared.token.Operator.TheVariants.{OrElse, AndThen, Plus, Minus, Times, Div, Mod}
-use Rattle.oz_semantics.specs.declared.token.Connective.TheVariants.{Equates, Assigns, Bounds, BoundsEach}
+use Rattle.oz_language.specs.Grammar.{level_of, left_level, level_of_bars, level_of_hashes, level_of_selection, Phrase, binary, tokens_of, is_reference, is_side_term, is_side, terms_in, terms_limit, term}
+use Rattle.oz_language.specs.declared.token.Operator.{Operator}
+use Rattle.oz_language.specs.declared.token.Comparison.{Comparison}
+use Rattle.oz_language.specs.declared.token.Token.{Token}
+use Rattle.oz_language.specs.declared.token.Token.TheVariants.{Bar, Hash, Dot, Infix}
+use Rattle.oz_language.specs.declared.token.Operator.TheVariants.{OrElse, AndThen, Plus, Minus, Times, Div, Mod}
+use Rattle.oz_language.specs.declared.token.Connective.TheVariants.{Equates, Assigns, Bounds, BoundsEach}
 use Rattle.reader_law.specs.Machine.{whole, left_of, barred, hashed, dotted, connecting, relating, Stack, guard, Kind, expression, pattern, side, kind_by, kind_of, binds, Reduced, reduce, allows, add_bar, shift_bar, add_hash, shift_hash, shift_expression, shift_pattern, add_term, shift_sign, takes_factor, shift_side, shift_in, declares}
 use Rattle.reader_law.proofs.Basics.{split, both, some_snoc, trailed_snoc, term_at, terms_snoc}
 use Rattle.reader_law.proofs.Good.{spelled, is_kind_of_patterns, in_pattern, is_looser, is_factor, fits_side, fits_sign, Fits, FitsSign, Selects, Has, Waits, Under, Good, Leads, kind_pattern}

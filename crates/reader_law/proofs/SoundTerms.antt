@@ -1,9 +1,9 @@
 -- Operands and operators spell their tokens, and leave what is open good.
 use Rattle.std.proofs.Common.{◌≡◌, ℕ, zero, suc, List, [], ◌∷◌, ◌++◌, Some, Bool, true, false, ◌&&◌, nat_le, nat_lt, if◌then◌else◌, refl, sym, ap, ◌∙◌, subst, append_assoc}
-use Rattle.oz_semantics.specs.Grammar.{level_of, left_level, level_of_bars, level_of_hashes, level_of_selection, tightest, Phrase, of_list, var, any, int, string, literal, binary, bars, hashes, select, access, fail, tokens_of, at_least_two, is_small, term, terms, feature, accessed, decl}
-use Rattle.oz_semantics.specs.declared.token.Operator.{Operator}
-use Rattle.oz_semantics.specs.declared.token.Token.{Token}
-use Rattle.oz_semantics.specs.declared.token.Token.TheVariants.{Var, Any, Int, String, Literal as Lit, Label, OpenParen, OpenBracket, OpenBrace, Bar, Hash, At, Case, Choice, Fail, Fun, If, Local, Proc, Raise, Thread}
+use Rattle.oz_language.specs.Grammar.{level_of, left_level, level_of_bars, level_of_hashes, level_of_selection, tightest, Phrase, of_list, var, any, int, string, literal, binary, bars, hashes, select, access, fail, tokens_of, at_least_two, is_small, term, terms, feature, accessed, decl}
+use Rattle.oz_language.specs.declared.token.Operator.{Operator}
+use Rattle.oz_language.specs.declared.token.Token.{Token}
+use Rattle.oz_language.specs.declared.token.Token.TheVariants.{Var, Any, Int, String, Literal as Lit, Label, OpenParen, OpenBracket, OpenBrace, Bar, Hash, At, Case, Choice, Fail, Fun, If, Local, Proc, Raise, Thread}
 use Rattle.reader_law.specs.Machine.{left_of, barred, hashed, dotted, accessing, Stack, is_some_item, may_state, Kind, expression, pattern, side, kind_of, value, expression_begins, pattern_begins, takes_int, side_begins, begins, operand, feature_begins, access_begins, binds, Reduced, reduce, declares}
 use Rattle.reader_law.proofs.Basics.{both, or_true, more_snoc, separated_snoc, level_zero, term_at, terms_snoc}
 use Rattle.reader_law.proofs.Good.{spelled, Says, Spot, Stands, is_kind_of_patterns, in_pattern, Expresses, Holds, is_looser, fits_side, Fits, FitsSign, Selects, Has, GoodFrame, Under, Good, Leads, spot_stands, fits_kind, looser_tightest}

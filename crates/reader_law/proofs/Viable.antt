@@ -1,12 +1,12 @@
 -- What is open can be completed.
 use Rattle.std.proofs.Common.{◌≡◌, ℕ, List, [], ◌∷◌, ◌++◌, Option, Some, None, Bool, true, false, ◌&&◌, ◌||◌, if◌then◌else◌, refl, ap, sym, ◌∙◌}
-use Rattle.oz_semantics.specs.Grammar.{Phrase, more, nothing, of_list, var, dollar, rec, keyed, list, paren, binary, bars, hashes, select, access, skip, raise, connected, relate, call, head, proc, fun, local, thread, choice, when, choose, arm, cases, cases_or, clause, attempt, is_var, is_named_head, is_value_head}
-use Rattle.oz_semantics.specs.declared.token.Operator.{Operator}
-use Rattle.oz_semantics.specs.declared.token.Token.{Token}
-use Rattle.oz_semantics.specs.declared.token.Connective.{Connective}
-use Rattle.oz_semantics.specs.declared.token.Token.TheVariants.{Var, CloseParen, CloseBracket, OpenBrace, CloseBrace, Equals, Dollar, Catch, Else, End, In, Of, Skip, Then}
-use Rattle.oz_semantics.specs.declared.token.Operator.TheVariants.{OrElse, AndThen, Plus, Minus, Times, Div, Mod}
-use Rattle.oz_semantics.specs.declared.token.Connective.TheVariants.{Equates, Assigns, Bounds, BoundsEach}
+use Rattle.oz_language.specs.Grammar.{Phrase, more, nothing, of_list, var, dollar, rec, keyed, list, paren, binary, bars, hashes, select, access, skip, raise, connected, relate, call, head, proc, fun, local, thread, choice, when, choose, arm, cases, cases_or, clause, attempt, is_var, is_named_head, is_value_head}
+use Rattle.oz_language.specs.declared.token.Operator.{Operator}
+use Rattle.oz_language.specs.declared.token.Token.{Token}
+use Rattle.oz_language.specs.declared.token.Connective.{Connective}
+use Rattle.oz_language.specs.declared.token.Token.TheVariants.{Var, CloseParen, CloseBracket, OpenBrace, CloseBrace, Equals, Dollar, Catch, Else, End, In, Of, Skip, Then}
+use Rattle.oz_language.specs.declared.token.Operator.TheVariants.{OrElse, AndThen, Plus, Minus, Times, Div, Mod}
+use Rattle.oz_language.specs.declared.token.Connective.TheVariants.{Equates, Assigns, Bounds, BoundsEach}
 use Rattle.reader_law.specs.Machine.{Opener, program, declaring, of_local, of_proc, of_fun, of_thread, of_choice, of_then, of_else, of_clause, of_case_else, of_try, of_catch, of_paren, Maker, making_proc, making_fun, Frame, block, whole, left_of, barred, hashed, dotted, accessing, connecting, relating, fields, key, listing, enclosing, parts, heading, heads, raising, testing, matching, patterns, catching, accepted, Stack, guard, bind, is_some_item, body_of, may_state, Kind, expression, pattern, side, kind_of, had, is_alive, begins, operand, in_block, shift_in, accepted_of, is_operator, settled, after, enter_body, declares, step, run, finish}
 use Rattle.reader_law.proofs.Basics.{both, or_true, and_true, guard_true, some_snoc}
 use Rattle.reader_law.proofs.Good.{Spot, Stands, Connects, Makes, GoodOpener, Under, Good, spot_stands}

@@ -1,7 +1,7 @@
 -- What the machine has to do with the grammar.
 use Rattle.std.specs.Prelude.{◌≡◌, ◌↔◌, List, Some}
-use Rattle.oz_semantics.specs.declared.token.Token.{Token}
-use Rattle.oz_semantics.specs.Grammar.{Phrase, Derives, Begins}
+use Rattle.oz_language.specs.declared.token.Token.{Token}
+use Rattle.oz_language.specs.Grammar.{Phrase, Derives, Begins}
 use Rattle.reader_law.specs.Machine.{Stack, start, run, parse}
 
 -- it accepts exactly what the grammar derives

@@ -1,18 +1,18 @@
 -- The reader's steps, one token after another, over the constructs that are open.
 use Rattle.std.specs.Prelude.{ℕ, zero, suc, ◌+◌, List, [], ◌∷◌, ◌++◌, Option, Some, None, Bool, true, false, not, nat_le, nat_lt, nat_eq, ◌&&◌, ◌||◌, if◌then◌else◌}
-use Rattle.oz_semantics.specs.declared.token.Literal.{Literal}
-use Rattle.oz_semantics.specs.declared.token.Literal.TheVariants.{Atom}
-use Rattle.oz_semantics.specs.declared.kernel.Constant.{Constant}
-use Rattle.oz_semantics.specs.declared.kernel.Constant.TheVariants as constant
-use Rattle.oz_semantics.specs.Grammar.{level_of, left_level, level_of_bars, level_of_hashes, level_of_selection, tightest, Phrase, of_list, var, any, int, string, literal, rec, keyed, list, paren, binary, bars, hashes, select, access, skip, fail, raise, connected, relate, call, dollar, head, proc, fun, local, thread, choice, when, choose, arm, cases, cases_or, clause, attempt, body, is_single, is_var, is_named_head, is_value_head, is_small, is_small_int, is_reference, is_side, terms_in, terms_limit}
-use Rattle.oz_semantics.specs.Wording.{lazy_word}
-use Rattle.oz_semantics.specs.declared.token.Operator.{Operator}
-use Rattle.oz_semantics.specs.declared.token.Comparison.{Comparison}
-use Rattle.oz_semantics.specs.declared.token.Token.{Token}
-use Rattle.oz_semantics.specs.declared.token.Connective.{Connective}
-use Rattle.oz_semantics.specs.declared.token.Token.TheVariants.{Var, Any, Int, String, Literal as Lit, Label, OpenParen, CloseParen, OpenBracket, CloseBracket, OpenBrace, CloseBrace, Colon, Equals, Assign, Domain, Domains, Box, Bar, Hash, Dot, At, Dollar, Infix, Relates, Case, Catch, Choice, Else, ElseIf, End, Fail, Fun, If, In, Local, Of, Proc, Raise, Skip, Then, Thread, Try}
-use Rattle.oz_semantics.specs.declared.token.Operator.TheVariants.{Plus, Minus, Times}
-use Rattle.oz_semantics.specs.declared.token.Connective.TheVariants.{Equates, Assigns, Bounds, BoundsEach}
+use Rattle.oz_language.specs.declared.token.Literal.{Literal}
+use Rattle.oz_language.specs.declared.token.Literal.TheVariants.{Atom}
+use Rattle.oz_language.specs.declared.kernel.Constant.{Constant}
+use Rattle.oz_language.specs.declared.kernel.Constant.TheVariants as constant
+use Rattle.oz_language.specs.Grammar.{level_of, left_level, level_of_bars, level_of_hashes, level_of_selection, tightest, Phrase, of_list, var, any, int, string, literal, rec, keyed, list, paren, binary, bars, hashes, select, access, skip, fail, raise, connected, relate, call, dollar, head, proc, fun, local, thread, choice, when, choose, arm, cases, cases_or, clause, attempt, body, is_single, is_var, is_named_head, is_value_head, is_small, is_small_int, is_reference, is_side, terms_in, terms_limit}
+use Rattle.oz_language.specs.Wording.{lazy_word}
+use Rattle.oz_language.specs.declared.token.Operator.{Operator}
+use Rattle.oz_language.specs.declared.token.Comparison.{Comparison}
+use Rattle.oz_language.specs.declared.token.Token.{Token}
+use Rattle.oz_language.specs.declared.token.Connective.{Connective}
+use Rattle.oz_language.specs.declared.token.Token.TheVariants.{Var, Any, Int, String, Literal as Lit, Label, OpenParen, CloseParen, OpenBracket, CloseBracket, OpenBrace, CloseBrace, Colon, Equals, Assign, Domain, Domains, Box, Bar, Hash, Dot, At, Dollar, Infix, Relates, Case, Catch, Choice, Else, ElseIf, End, Fail, Fun, If, In, Local, Of, Proc, Raise, Skip, Then, Thread, Try}
+use Rattle.oz_language.specs.declared.token.Operator.TheVariants.{Plus, Minus, Times}
+use Rattle.oz_language.specs.declared.token.Connective.TheVariants.{Equates, Assigns, Bounds, BoundsEach}
 
 -- what holds a sequence of phrases, with what was read before it. Where earlier bodies count, two flags tell whether all of them
 -- are bodies of statements, and whether all are bodies with a value

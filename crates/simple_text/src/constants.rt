@@ -2,26 +2,26 @@
 ghost use Rattle.std.specs.Prelude.{◌≡◌, ◌++◌, codes, if◌then◌else◌, OnOk};
 ghost use Rattle.std.specs.Fmt.{decimal};
 ghost use Rattle.std.specs.List.{flat_map};
-ghost use Rattle.oz_semantics.specs.Kernels.{word_text};
-ghost use Rattle.oz_semantics.specs.Texts.{integer_text, escaped, quoted, atom_text, literal_text, constant_text, simple_text, is_atom};
+ghost use Rattle.oz_language.specs.Kernels.{word_text};
+ghost use Rattle.oz_language.specs.SimpleTexts.{integer_text, escaped, quoted, atom_text, literal_text, constant_text, simple_text, is_atom};
 
 use crate::plain::{is_plain, same_bytes};
-use oz_base::Sequence;
-use oz_semantics::{Constant, Literal};
+use oz_base::Words;
+use oz_language::{Constant, Literal};
 use std::alloc::{AllocError, Global};
 
 /// The word with this number, or no bytes where there is none.
-pub fn word_text(words: &[Sequence<u8>], number: u32) -> &[u8]
+pub fn word_text(words: &Words, number: u32) -> &[u8]
     ensures { result.now ≡ word_text words.now number }
 {
-    match words.get(number as usize) {
-        Some(word) => word.as_slice(),
+    match words.text(number) {
+        Some(text) => text,
         None => &[],
     }
 }
 
 /// Whether a literal is the atom of this text.
-pub fn is_atom(words: &[Sequence<u8>], text: &[u8], literal: Literal) -> bool
+pub fn is_atom(words: &Words, text: &[u8], literal: Literal) -> bool
     ensures { result ≡ is_atom words.now text.now literal }
 {
     match literal {
@@ -78,11 +78,7 @@ fn add_atom(word: &[u8], out: &mut Vec<u8>) -> Result<(), AllocError>
 }
 
 /// Adds an atom, in quotes where it needs them, or `true`, `false` or `unit`. It refuses where there is no memory.
-pub fn add_literal(
-    words: &[Sequence<u8>],
-    literal: Literal,
-    out: &mut Vec<u8>,
-) -> Result<(), AllocError>
+pub fn add_literal(words: &Words, literal: Literal, out: &mut Vec<u8>) -> Result<(), AllocError>
     ensures { OnOk result (out.new.items ≡ out.old.items ++ literal_text words.now literal) }
 {
     match literal {
@@ -114,7 +110,7 @@ pub fn add_integer(alloc: Global, integer: i128, out: &mut Vec<u8>) -> Result<()
 /// Adds an integer or a literal. It refuses where there is no memory.
 pub fn add_constant(
     alloc: Global,
-    words: &[Sequence<u8>],
+    words: &Words,
     constant: Constant,
     out: &mut Vec<u8>,
 ) -> Result<(), AllocError>
@@ -127,11 +123,7 @@ pub fn add_constant(
 }
 
 /// Adds a literal that is the value of a term: the atom `fail` has no quotes there.
-fn add_simple_literal(
-    words: &[Sequence<u8>],
-    literal: Literal,
-    out: &mut Vec<u8>,
-) -> Result<(), AllocError>
+fn add_simple_literal(words: &Words, literal: Literal, out: &mut Vec<u8>) -> Result<(), AllocError>
     ensures { OnOk result (out.new.items ≡ out.old.items ++ (if is_atom words.now (codes "fail") literal then codes "fail" else literal_text words.now literal)) }
 {
     if is_atom(words, b"fail", literal) {
@@ -144,7 +136,7 @@ fn add_simple_literal(
 /// memory.
 pub fn add_simple(
     alloc: Global,
-    words: &[Sequence<u8>],
+    words: &Words,
     constant: Constant,
     out: &mut Vec<u8>,
 ) -> Result<(), AllocError>

@@ -1,11 +1,11 @@
 //! The form in which a record is written.
 ghost use Rattle.std.specs.Prelude.{◌≡◌};
-ghost use Rattle.oz_semantics.specs.Texts.{count_from, form_of, is_bars, is_chain};
+ghost use Rattle.oz_language.specs.SimpleTexts.{count_from, form_of, is_bars, is_chain};
 
 use crate::constants::is_atom;
 use crate::keys::is_number;
-use oz_base::Sequence;
-use oz_semantics::{Constant, Form, Literal};
+use oz_base::Words;
+use oz_language::{Constant, Form, Literal};
 
 /// Whether the features are 1, 2, ..
 fn count_from_one(features: &[Constant]) -> bool
@@ -22,7 +22,7 @@ fn count_from_one(features: &[Constant]) -> bool
 }
 
 /// The form of a record with this label and these features.
-pub fn form_of(words: &[Sequence<u8>], label: Literal, features: &[Constant]) -> Form
+pub fn form_of(words: &Words, label: Literal, features: &[Constant]) -> Form
     ensures { result ≡ form_of words.now label features.now }
 {
     if is_atom(words, b"|", label) && count_from_one(features) && features.len() == 2 {

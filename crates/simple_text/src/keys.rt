@@ -1,12 +1,12 @@
 //! The keys of fields. The features 1, 2, .. are left out as far as they go without a gap.
 ghost use Rattle.std.specs.Prelude.{◌≡◌, ◌++◌, pos, OnOk, IfOk};
-ghost use Rattle.oz_semantics.specs.Values.{constant_eq};
-ghost use Rattle.oz_semantics.specs.declared.kernel.Constant.TheVariants as constants;
+ghost use Rattle.oz_language.specs.Constants.{constant_eq};
+ghost use Rattle.oz_language.specs.declared.kernel.Constant.TheVariants as constants;
 ghost use Rattle.simple_text.specs.Keys.{key_text, next_after};
 
 use crate::constants::add_constant;
-use oz_base::Sequence;
-use oz_semantics::Constant;
+use oz_base::Words;
+use oz_language::Constant;
 use std::alloc::{AllocError, Global};
 
 /// Whether a feature is this number.
@@ -23,7 +23,7 @@ pub fn is_number(feature: Constant, number: u64) -> bool
 /// refuses where there is no memory.
 pub fn add_key(
     alloc: Global,
-    words: &[Sequence<u8>],
+    words: &Words,
     feature: Constant,
     next: u64,
     out: &mut Vec<u8>,

@@ -2,9 +2,9 @@
 ghost use Rattle.std.specs.Prelude.{◌≡◌, is_some};
 ghost use Rattle.std.specs.List.{list_all, list_any};
 ghost use Rattle.oz_base.specs.Lists.{list_eq};
-ghost use Rattle.oz_semantics.specs.Tokens.{is_lower, goes_on_word, is_small_word, is_reserved};
-ghost use Rattle.oz_semantics.specs.Wording.{constant_of};
-ghost use Rattle.oz_semantics.specs.Texts.{is_plain};
+ghost use Rattle.oz_language.specs.Tokens.{is_lower, goes_on_word, is_small_word, is_reserved};
+ghost use Rattle.oz_language.specs.Wording.{constant_of};
+ghost use Rattle.oz_language.specs.SimpleTexts.{is_plain};
 
 /// The reserved words that are no literals.
 static RESERVED: [&[u8]; 45] = [

@@ -1,12 +1,14 @@
 use crate::{add_key, add_simple, form_of};
-use oz_base::Sequence;
-use oz_semantics::{Constant, Form, Literal};
+use oz_base::Words;
+use oz_language::{Constant, Form, Literal};
 use std::alloc::{AllocError, Global};
 use std::test::Fail;
 
 /// This text as the only word.
-fn one_word(alloc: Global, text: &[u8]) -> Result<Vec<Sequence<u8>>, AllocError> {
-    Ok(vec![in alloc; Sequence::from_vec(text.to_vec(alloc)?)]?)
+fn one_word(alloc: Global, text: &[u8]) -> Result<Words, AllocError> {
+    let mut words = Words::new(alloc);
+    words.number(text)?;
+    Ok(words)
 }
 
 /// Whether the atom of this text is written so.
@@ -14,7 +16,7 @@ fn is_written(alloc: Global, text: &[u8], written: &[u8]) -> Result<bool, AllocE
     let words = one_word(alloc, text)?;
     let mut out = Vec::new(alloc);
     let atom = Constant::Literal(Literal::Atom(0));
-    add_simple(alloc, words.as_slice(), atom, &mut out)?;
+    add_simple(alloc, &words, atom, &mut out)?;
     Ok(out.as_slice() == written)
 }
 
@@ -43,7 +45,7 @@ fn the_key_of_the_atom_fail(rt: HostRuntime) -> Result<(), Fail> {
     let words = one_word(alloc, b"fail")?;
     let mut out = Vec::new(alloc);
     let atom = Constant::Literal(Literal::Atom(0));
-    let next = add_key(alloc, words.as_slice(), atom, 3, &mut out)?;
+    let next = add_key(alloc, &words, atom, 3, &mut out)?;
     assert!(rt; next == 3);
     assert!(rt; out.as_slice() == b"'fail':".as_slice());
     Ok(())
@@ -56,10 +58,10 @@ fn forms_of_records(rt: HostRuntime) -> Result<(), Fail> {
     let bar = one_word(alloc, b"|")?;
     let hash = one_word(alloc, b"#")?;
     let label = Literal::Atom(0);
-    assert!(rt; form_of(bar.as_slice(), label, &features[..2]) == Form::Bars);
-    assert!(rt; form_of(bar.as_slice(), label, &features) == Form::Other);
-    assert!(rt; form_of(hash.as_slice(), label, &features) == Form::Hashes);
-    assert!(rt; form_of(hash.as_slice(), label, &features[..1]) == Form::Other);
-    assert!(rt; form_of(hash.as_slice(), label, &features[1..]) == Form::Other);
+    assert!(rt; form_of(&bar, label, &features[..2]) == Form::Bars);
+    assert!(rt; form_of(&bar, label, &features) == Form::Other);
+    assert!(rt; form_of(&hash, label, &features) == Form::Hashes);
+    assert!(rt; form_of(&hash, label, &features[..1]) == Form::Other);
+    assert!(rt; form_of(&hash, label, &features[1..]) == Form::Other);
     Ok(())
 }

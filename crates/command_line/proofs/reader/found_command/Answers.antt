@@ -1,6 +1,6 @@
 use Rattle.std.proofs.Common.{◌≡◌, ◌≤◌, ◌∙◌, ap, arith, refl}
 use Rattle.std.specs.Prelude.{unwrap_or}
-use Rattle.oz_semantics.specs.Commands.{Verb, all, run, kernel, workers, value_in, verb_word}
+use Rattle.oz_language.specs.Commands.{Verb, all, run, kernel, workers, value_in, verb_word}
 use Rattle.command_line.proofs.Numbers.{found_name, found_rows, value_most}
 use Rattle.command_line.proofs.reader.found_command.Goals as goal
 

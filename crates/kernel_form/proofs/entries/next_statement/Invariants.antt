@@ -1,5 +1,5 @@
 use Rattle.std.proofs.Common.{ℕ, List, map}
-use Rattle.oz_semantics.specs.declared.kernel.Statement.{Statement}
+use Rattle.oz_language.specs.declared.kernel.Statement.{Statement}
 use Rattle.kernel_form.specs.Entries.{left_of, weights}
 use Rattle.kernel_form.specs.Pending.{Leads}
 use Rattle.kernel_form.proofs.entries.next_statement.Given as goal

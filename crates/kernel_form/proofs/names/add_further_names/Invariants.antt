@@ -1,6 +1,6 @@
 use Rattle.std.proofs.Common.{◌≡◌, ◌++◌, drop, codes}
-use Rattle.oz_semantics.specs.Texts.{gapped}
-use Rattle.oz_semantics.specs.KernelTexts.{name_texts}
+use Rattle.oz_language.specs.SimpleTexts.{gapped}
+use Rattle.oz_language.specs.KernelTexts.{name_texts}
 use Rattle.kernel_form.proofs.names.add_further_names.Given as goal
 
 abbrev pub invariant-names : goal.invariant-names

@@ -1,5 +1,5 @@
 use Rattle.std.proofs.Common.{◌≡◌, ◌++◌, drop, map}
-use Rattle.oz_semantics.specs.declared.kernel.Piece.TheVariants.{Variable}
+use Rattle.oz_language.specs.declared.kernel.Piece.TheVariants.{Variable}
 use Rattle.kernel_form.specs.Fields.{rest_of}
 use Rattle.kernel_form.specs.Nodes.{nodes_text}
 use Rattle.kernel_form.proofs.patterns.add_fields.Given as goal

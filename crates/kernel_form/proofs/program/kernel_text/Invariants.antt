@@ -1,6 +1,6 @@
 use Rattle.std.proofs.Common.{◌≡◌, map}
-use Rattle.oz_semantics.specs.Kernels.{Stmts, numbered}
-use Rattle.oz_semantics.specs.KernelTexts.{kernel_text}
+use Rattle.oz_language.specs.Kernels.{Stmts, numbered}
+use Rattle.oz_language.specs.KernelTexts.{kernel_text}
 use Rattle.kernel_form.specs.Whole.{AreWhole}
 use Rattle.kernel_form.specs.Entries.{left_of}
 use Rattle.kernel_form.specs.Pending.{Leads}

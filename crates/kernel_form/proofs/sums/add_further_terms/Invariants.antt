@@ -1,6 +1,6 @@
 use Rattle.std.proofs.Common.{◌≡◌, ◌++◌, drop, map, codes}
-use Rattle.oz_semantics.specs.Texts.{gapped}
-use Rattle.oz_semantics.specs.KernelTexts.{linear_text}
+use Rattle.oz_language.specs.SimpleTexts.{gapped}
+use Rattle.oz_language.specs.KernelTexts.{linear_text}
 use Rattle.kernel_form.proofs.sums.add_further_terms.Given as goal
 
 abbrev pub invariant-terms : goal.invariant-terms

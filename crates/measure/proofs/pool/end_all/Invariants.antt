@@ -1,5 +1,5 @@
 use Rattle.std.proofs.Common.{◌≡◌, None}
-use Rattle.oz_semantics.specs.Histories.{claim_of}
+use Rattle.oz_search.specs.Histories.{claim_of}
 use Rattle.measure.proofs.pool.end_all.Given as goal
 
 -- worker 0 has no claim out

@@ -1,5 +1,5 @@
 use Rattle.std.proofs.Common.{◌≡◌, ◌≤◌, ◌-◌, length, drop}
-use Rattle.oz_semantics.specs.Tokens.{close_length}
+use Rattle.oz_language.specs.Tokens.{close_length}
 use Rattle.oz_lex.proofs.Closings.{behind}
 use Rattle.oz_lex.proofs.gaps.close_len.Given as goal
 

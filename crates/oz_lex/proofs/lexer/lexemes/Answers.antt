@@ -1,6 +1,6 @@
 use Rattle.std.proofs.Common.{◌≡◌, ◌≤◌, ◌+◌, length, drop, subst, sym, ap, ◌∙◌, arith, length-drop, true, false}
 use Rattle.std.proofs.lemmas.List.{drop-drop}
-use Rattle.oz_semantics.specs.Tokens.{gap_length, IsLongest, is_broken_number}
+use Rattle.oz_language.specs.Tokens.{gap_length, IsLongest, is_broken_number}
 use Rattle.oz_lex.specs.Scanning.{IsBadFront}
 use Rattle.oz_lex.proofs.Readings.{Front, gap_step, token_step, bad_byte, bad_fraction, finished}
 use Rattle.oz_lex.proofs.lexer.lexemes.Goals as goal

@@ -1,5 +1,5 @@
 use Rattle.std.proofs.Common.{◌≡◌, ◌++◌, drop}
-use Rattle.oz_semantics.specs.Wording.{meant}
+use Rattle.oz_language.specs.Wording.{meant}
 use Rattle.oz_lex.proofs.MeaningLaws.{meant_from}
 use Rattle.oz_lex.proofs.meanings.meant.Given as goal
 

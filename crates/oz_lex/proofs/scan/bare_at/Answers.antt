@@ -1,5 +1,5 @@
 use Rattle.std.proofs.Common.{◌≡◌, rules, true}
-use Rattle.oz_semantics.specs.Tokens.{is_upper, is_digit}
+use Rattle.oz_language.specs.Tokens.{is_upper, is_digit}
 use Rattle.oz_lex.specs.Scanning.{begins}
 use Rattle.oz_lex.proofs.Longest.{var_longest, int_longest}
 use Rattle.oz_lex.proofs.scan.bare_at.Goals as goal

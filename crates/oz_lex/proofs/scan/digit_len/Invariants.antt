@@ -1,6 +1,6 @@
 use Rattle.std.proofs.Common.{◌≡◌, ◌+◌, drop}
 use Rattle.std.specs.List.{prefix_len}
-use Rattle.oz_semantics.specs.Tokens.{is_digit}
+use Rattle.oz_language.specs.Tokens.{is_digit}
 use Rattle.oz_lex.proofs.scan.digit_len.Given as goal
 
 abbrev pub invariant-loop-place : goal.invariant-loop-place

@@ -1,6 +1,6 @@
 use Rattle.std.proofs.Common.{sym, ap, ◌∙◌, arith}
 use Rattle.std.specs.List.{prefix_len}
-use Rattle.oz_semantics.specs.Tokens.{is_digit}
+use Rattle.oz_language.specs.Tokens.{is_digit}
 use Rattle.oz_lex.proofs.Closings.{tail}
 use Rattle.oz_lex.proofs.Longest.{negative_longest, negative_none}
 use Rattle.oz_lex.proofs.scan.negative_at.Goals as goal

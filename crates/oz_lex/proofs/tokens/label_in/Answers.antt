@@ -1,6 +1,6 @@
 use Rattle.std.proofs.Common.{◌≡◌, ◌∙◌, sym, subst}
 use Rattle.std.specs.Prelude.{OnOk, OnErr}
-use Rattle.oz_semantics.specs.Wording.{with_word}
+use Rattle.oz_language.specs.Wording.{with_word}
 use Rattle.oz_lex.specs.Lexing.{TakesMemory}
 use Rattle.oz_lex.proofs.TokenLaws.{bare_word, err_takes}
 use Rattle.oz_lex.proofs.tokens.label_in.Goals as goal

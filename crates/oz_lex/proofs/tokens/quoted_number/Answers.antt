@@ -1,7 +1,7 @@
 use Rattle.std.proofs.Common.{◌≡◌, ◌∙◌, ℕ, List, Some, None, inr, sym, ap, subst}
 use Rattle.std.specs.Prelude.{OnOk, OnErr, IfOk}
 use Rattle.oz_base.specs.Words.{with_text, number_in}
-use Rattle.oz_semantics.specs.Wording.{meant, unquoted, number_of}
+use Rattle.oz_language.specs.Wording.{meant, unquoted, number_of}
 use Rattle.oz_lex.specs.Lexing.{has_escape, KeepsNumbers}
 use Rattle.oz_lex.proofs.TokenLaws.{escape_inside, plain_meant, on_err, err_takes, stays}
 use Rattle.oz_lex.proofs.tokens.quoted_number.Goals as goal

@@ -1,7 +1,7 @@
 use Rattle.std.proofs.Common.{◌≡◌, ◌∙◌, true, ap, sym, Some, subst}
 use Rattle.std.specs.Prelude.{OnErr}
-use Rattle.oz_semantics.specs.Tokens.{sort_of, is_literal}
-use Rattle.oz_semantics.specs.Wording.{bytes_of, word_in, label_word, label_in}
+use Rattle.oz_language.specs.Tokens.{sort_of, is_literal}
+use Rattle.oz_language.specs.Wording.{bytes_of, word_in, label_word, label_in}
 use Rattle.oz_lex.specs.Lexing.{IsNew, TakesMemory}
 use Rattle.oz_lex.proofs.TokenLaws.{int_bytes, label_bytes, var_token, small_tokens, label_token, quoted_token, string_token, word_of_small, word_of_label, longer_takes, err_takes, on_err}
 use Rattle.oz_lex.proofs.tokens.token_of.Goals as goal

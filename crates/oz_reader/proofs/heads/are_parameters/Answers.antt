@@ -1,7 +1,7 @@
 use Rattle.std.proofs.Common.{◌∙◌, rules, tests}
 use Rattle.std.proofs.lemmas.Iterator.{YieldsList-from_slice}
 use Rattle.std.proofs.lemmas.Iterator.Search.{all_from_yields_List}
-use Rattle.oz_semantics.specs.Grammar.{is_parameter}
+use Rattle.oz_language.specs.Grammar.{is_parameter}
 use Rattle.oz_syntax.specs.declared.phrase.Phrase.{Phrase as Tree}
 use Rattle.oz_syntax.specs.View.{view}
 use Rattle.oz_reader.proofs.HeadLaws.{all_parameters}

@@ -1,11 +1,11 @@
 use Rattle.std.proofs.Common.{◌≡◌, ◌≤◌, ◌<◌, ◌+◌, ℕ, nat_lt, true, false, ap, List, [], take, length, slice_index_or, slice_get, Some, sym, ◌∙◌, subst, arith}
 use Rattle.std.proofs.lemmas.Option.{slice_get-get_or}
-use Rattle.oz_semantics.specs.Grammar.{Phrase, Derives}
-use Rattle.oz_semantics.specs.Refusals.{Open, IsRefused, depth_limit, depth_of, text_open}
-use Rattle.oz_semantics.specs.Tokens.{Whole}
-use Rattle.oz_semantics.specs.Wording.{tokens_in}
-use Rattle.oz_semantics.specs.declared.token.Lexeme.{Lexeme}
-use Rattle.oz_semantics.specs.declared.token.Sort.TheVariants as sort
+use Rattle.oz_language.specs.Grammar.{Phrase, Derives}
+use Rattle.oz_language.specs.Refusals.{Open, IsRefused, depth_limit, depth_of, text_open}
+use Rattle.oz_language.specs.Tokens.{Whole}
+use Rattle.oz_language.specs.Wording.{tokens_in}
+use Rattle.oz_language.specs.declared.token.Lexeme.{Lexeme}
+use Rattle.oz_language.specs.declared.token.Sort.TheVariants as sort
 use Rattle.oz_syntax.specs.View.{view}
 use Rattle.reader_law.specs.Machine.{Stack, step, finish}
 use Rattle.oz_reader.specs.Reading.{Faults}

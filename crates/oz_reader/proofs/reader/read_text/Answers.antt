@@ -1,7 +1,7 @@
 use Rattle.std.proofs.Common.{List, sym, ap, ◌∙◌, subst}
-use Rattle.oz_semantics.specs.Grammar.{Phrase}
-use Rattle.oz_semantics.specs.Refusals.{IsRefused, faults, first_scope, first_of}
-use Rattle.oz_semantics.specs.declared.token.Lexeme.{Lexeme}
+use Rattle.oz_language.specs.Grammar.{Phrase}
+use Rattle.oz_language.specs.Refusals.{IsRefused, faults, first_scope, first_of}
+use Rattle.oz_language.specs.declared.token.Lexeme.{Lexeme}
 use Rattle.oz_reader.specs.Reading.{Faults, IsRead, error_of}
 use Rattle.oz_reader.proofs.Progress.{err_is, lex_refused, names_refused, names_accepted}
 use Rattle.oz_reader.proofs.reader.read_text.Goals as goal

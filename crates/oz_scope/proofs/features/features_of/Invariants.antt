@@ -1,6 +1,6 @@
 use Rattle.std.proofs.Common.{◌≡◌, ◌≤◌, ◌+◌, ◌++◌, drop}
-use Rattle.oz_semantics.specs.Grammar.{of_list}
-use Rattle.oz_semantics.specs.Refusals.{features}
+use Rattle.oz_language.specs.Grammar.{of_list}
+use Rattle.oz_language.specs.Refusals.{features}
 use Rattle.oz_syntax.specs.View.{views}
 use Rattle.oz_scope.proofs.features.features_of.Given as goal
 

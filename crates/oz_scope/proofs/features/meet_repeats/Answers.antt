@@ -1,5 +1,5 @@
 use Rattle.std.proofs.Common.{pos}
-use Rattle.oz_semantics.specs.declared.kernel.Constant.TheVariants.{Int}
+use Rattle.oz_language.specs.declared.kernel.Constant.TheVariants.{Int}
 use Rattle.oz_scope.proofs.FieldLaws.{repeats_step}
 use Rattle.oz_scope.proofs.features.meet_repeats.Goals as goal
 

@@ -1,6 +1,6 @@
 use Rattle.std.proofs.Common.{◌≡◌, [], drop}
-use Rattle.oz_semantics.specs.Values.{constant_eq}
-use Rattle.oz_semantics.specs.Refusals.{repeat_faults}
+use Rattle.oz_language.specs.Constants.{constant_eq}
+use Rattle.oz_language.specs.Refusals.{repeat_faults}
 use Rattle.oz_scope.specs.Keeps.{kept}
 use Rattle.oz_scope.proofs.features.meet_repeats.Given as goal
 

@@ -1,6 +1,6 @@
 use Rattle.std.proofs.Common.{◌≡◌, length}
-use Rattle.oz_semantics.specs.Grammar.{of_list}
-use Rattle.oz_semantics.specs.Refusals.{declaring}
+use Rattle.oz_language.specs.Grammar.{of_list}
+use Rattle.oz_language.specs.Refusals.{declaring}
 use Rattle.oz_syntax.specs.View.{views}
 use Rattle.oz_scope.proofs.names.declare.Given as goal
 

@@ -1,5 +1,5 @@
 use Rattle.std.proofs.Common.{◌≡◌, length}
-use Rattle.oz_semantics.specs.Refusals.{with_names}
+use Rattle.oz_language.specs.Refusals.{with_names}
 use Rattle.oz_scope.proofs.names.enter.Given as goal
 
 abbrev pub invariant-variables : goal.invariant-variables

@@ -1,5 +1,5 @@
 use Rattle.std.proofs.Common.{◌≡◌, [], drop, nat_eq}
-use Rattle.oz_semantics.specs.Refusals.{repeat_faults}
+use Rattle.oz_language.specs.Refusals.{repeat_faults}
 use Rattle.oz_scope.specs.Keeps.{kept}
 use Rattle.oz_scope.proofs.names.meet_repeated_names.Given as goal
 

@@ -1,11 +1,11 @@
 -- The clauses of the call that follow from its plan and from how the writing ended.
 use Rattle.std.proofs.Common.{ℕ, List, Some, None, map, ◌≡◌, ◌⊎◌, ◌++◌, ◌∙◌, refl, ap, sym, subst, append_assoc}
 use Rattle.std.specs.String.{string_bytes}
-use Rattle.oz_semantics.specs.Replies.{Answer, shown_lines, leaves_reply}
-use Rattle.oz_semantics.specs.Translation.{statements_of, kernel_of}
-use Rattle.oz_semantics.specs.KernelTexts.{kernel_text}
-use Rattle.oz_semantics.specs.declared.command.Command.TheVariants as commands
-use Rattle.oz_semantics.specs.declared.outcome.Cause.TheVariants as causes
+use Rattle.plain_replies.specs.Replies.{Answer, shown_lines, leaves_reply}
+use Rattle.oz_language.specs.Translation.{statements_of, kernel_of}
+use Rattle.oz_language.specs.KernelTexts.{kernel_text}
+use Rattle.oz_language.specs.declared.command.Command.TheVariants as commands
+use Rattle.plain_replies.specs.declared.cause.Cause.TheVariants as causes
 use Rattle.oz_top.specs.Call.{Reading, Writing, Plans, Ends, IsExcused}
 use Rattle.oz_top.proofs.Answering.{Replied, replied, read_by, usage_ended, asked_large, asked_refused, asked_accepted, asked_unserved, written, served_answer, searched_all, ended_run}
 use Rattle.oz_top.proofs.call.oz_call.Given as given

@@ -1,6 +1,6 @@
 use Rattle.std.proofs.Common.{◌≡◌, ◌++◌, drop}
 use Rattle.std.specs.List.{flat_map}
-use Rattle.oz_semantics.specs.Replies.{line}
+use Rattle.plain_replies.specs.Replies.{line}
 use Rattle.oz_top.proofs.reply.lines.Given as goal
 
 -- the lines so far, and then those of the other texts

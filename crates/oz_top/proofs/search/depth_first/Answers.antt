@@ -1,10 +1,10 @@
 use Rattle.std.proofs.Common.{◌≤◌, ◌∙◌, List, ◌∷◌, suc, sym, subst, ap, ap₂, arith, refl}
-use Rattle.oz_semantics.specs.Search.{with_front, visit_all, explored, depth_first}
-use Rattle.oz_semantics.specs.declared.kernel.Kernel.{Kernel}
-use Rattle.oz_semantics.specs.declared.outcome.Leaf.{Leaf}
-use Rattle.oz_semantics.specs.declared.configuration.Configuration.{Configuration}
-use Rattle.oz_laws.specs.Visits.{Visits, FindsNone}
-use Rattle.oz_laws.proofs.Trees.{search_more}
+use Rattle.plain_semantics.specs.Search.{with_front, visit_all, explored, depth_first}
+use Rattle.oz_language.specs.declared.kernel.Kernel.{Kernel}
+use Rattle.plain_semantics.specs.declared.outcome.Leaf.{Leaf}
+use Rattle.plain_semantics.specs.declared.configuration.Configuration.{Configuration}
+use Rattle.plain_laws.specs.Visits.{Visits, FindsNone}
+use Rattle.plain_laws.proofs.Trees.{search_more}
 use Rattle.oz_top.specs.declared.open.Open.{Open}
 use Rattle.oz_top.specs.Searching.{waiting, AreOf, leaves_of}
 use Rattle.oz_top.proofs.Visiting.{single_found, none_found}

@@ -1,5 +1,5 @@
 use Rattle.std.proofs.Common.{◌≡◌, ◌≤◌, suc}
-use Rattle.oz_semantics.specs.Search.{with_front, visit_all, explored, depth_first}
+use Rattle.plain_semantics.specs.Search.{with_front, visit_all, explored, depth_first}
 use Rattle.oz_top.specs.Searching.{waiting, AreOf}
 use Rattle.oz_top.proofs.search.depth_first.Given as goal
 

@@ -1,5 +1,5 @@
 use Rattle.std.proofs.Common.{◌≡◌, length}
-use Rattle.oz_semantics.specs.declared.kernel.Kernel.{Kernel}
+use Rattle.oz_language.specs.declared.kernel.Kernel.{Kernel}
 use Rattle.oz_top.specs.Searching.{waiting, AreOf}
 use Rattle.oz_top.proofs.search.take_next.Given as goal
 

@@ -1,6 +1,6 @@
 use Rattle.std.proofs.Common.{◌≡◌, ◌++◌, take}
 use Rattle.std.specs.List.{flat_map}
-use Rattle.oz_semantics.specs.Texts.{escaped}
+use Rattle.oz_language.specs.SimpleTexts.{escaped}
 use Rattle.simple_text.proofs.constants.add_all_escaped.Given as goal
 
 abbrev pub invariant-loop-byte : goal.invariant-loop-byte

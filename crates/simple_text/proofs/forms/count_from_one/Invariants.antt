@@ -1,5 +1,5 @@
 use Rattle.std.proofs.Common.{◌≡◌, suc, drop}
-use Rattle.oz_semantics.specs.Texts.{count_from}
+use Rattle.oz_language.specs.SimpleTexts.{count_from}
 use Rattle.simple_text.proofs.forms.count_from_one.Given as goal
 
 abbrev pub invariant-loop-feature : goal.invariant-loop-feature

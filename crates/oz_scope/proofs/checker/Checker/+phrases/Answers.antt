@@ -1,6 +1,6 @@
 use Rattle.std.proofs.Common.{◌≡◌, ◌∙◌, ap, sym}
-use Rattle.oz_semantics.specs.Grammar.{Phrase, of_list, rec, binary, select, connected, relate, head, proc, fun, local, choose, arm, cases, cases_or, clause, attempt, body}
-use Rattle.oz_semantics.specs.Refusals.{faults, faults_each, feature_faults, name_faults, variables_in, parameters_in, with_names, declaring}
+use Rattle.oz_language.specs.Grammar.{Phrase, of_list, rec, binary, select, connected, relate, head, proc, fun, local, choose, arm, cases, cases_or, clause, attempt, body}
+use Rattle.oz_language.specs.Refusals.{faults, faults_each, feature_faults, name_faults, variables_in, parameters_in, with_names, declaring}
 use Rattle.oz_syntax.specs.declared.phrase.Phrase.TheOpen.{Phrase-F}
 use Rattle.oz_syntax.specs.declared.phrase.Phrase.TheFolds.{fold-roll-Phrase}
 use Rattle.oz_syntax.specs.View.{view, views, view_step}
@@ -58,15 +58,15 @@ parts-returns-in_ok-phrase-in-Arm-clause-found t c =
     c.args.self.now.found c.phrase-in-Arm.new.self.found c.phrase-in-Arm-2.new.self.found
     c.in_ok-phrase-in-Arm.ensures.found (rw c.in_ok-phrase-in-Arm.ensures.scope at c.phrase-in-Arm-2.ensures.found))
 
-pub parts-returns-in_ok-phrase-in-Cases-clause-found : goal.parts-returns-in_ok-phrase-in-Cases-clause-found
+pub parts-returns-in_ok-phrase-in-Case-clause-found : goal.parts-returns-in_ok-phrase-in-Case-clause-found
 unfolding Rattle.oz_syntax.specs.declared.phrase.Phrase.TheViews.roll-Phrase denote.Hole.Carrier.roll
-parts-returns-in_ok-phrase-in-Cases-clause-found t c =
-    let seen : view c.args.phrase.now ≡ cases c.in-Cases.at (view c.deref-in-Cases.result.now) (of_list (views c.deref-in-Cases-2.result.now)) =
-    rw (c.deref-in-Cases.ensures, c.deref-in-Cases-2.ensures.value) (ap view c.in-Cases.is ∙ fold-roll-Phrase Phrase view_step (Phrase-F.Cases c.in-Cases.at c.in-Cases.subject c.in-Cases.clauses)) in
+parts-returns-in_ok-phrase-in-Case-clause-found t c =
+    let seen : view c.args.phrase.now ≡ cases c.in-Case.at (view c.deref-in-Case.result.now) (of_list (views c.deref-in-Case-2.result.now)) =
+    rw (c.deref-in-Case.ensures, c.deref-in-Case-2.ensures.value) (ap view c.in-Case.is ∙ fold-roll-Phrase Phrase view_step (Phrase-F.Case c.in-Case.at c.in-Case.subject c.in-Case.clauses)) in
     rw seen
-    (two_kept c.each-in-Cases.result (faults c.args.self.now.scope (view c.deref-in-Cases.result.now)) (faults_each c.args.self.now.scope (of_list (views c.deref-in-Cases-2.result.now)))
-    c.args.self.now.found c.phrase-in-Cases.new.self.found c.each-in-Cases.new.self.found
-    c.in_ok-phrase-in-Cases.ensures.found (rw c.in_ok-phrase-in-Cases.ensures.scope at c.each-in-Cases.ensures.found))
+    (two_kept c.each-in-Case.result (faults c.args.self.now.scope (view c.deref-in-Case.result.now)) (faults_each c.args.self.now.scope (of_list (views c.deref-in-Case-2.result.now)))
+    c.args.self.now.found c.phrase-in-Case.new.self.found c.each-in-Case.new.self.found
+    c.in_ok-phrase-in-Case.ensures.found (rw c.in_ok-phrase-in-Case.ensures.scope at c.each-in-Case.ensures.found))
 
 pub parts-returns-in_ok-phrase-in-Try-clause-found : goal.parts-returns-in_ok-phrase-in-Try-clause-found
 unfolding Rattle.oz_syntax.specs.declared.phrase.Phrase.TheViews.roll-Phrase denote.Hole.Carrier.roll
@@ -78,15 +78,15 @@ parts-returns-in_ok-phrase-in-Try-clause-found t c =
     c.args.self.now.found c.phrase-in-Try.new.self.found c.each-in-Try.new.self.found
     c.in_ok-phrase-in-Try.ensures.found (rw c.in_ok-phrase-in-Try.ensures.scope at c.each-in-Try.ensures.found))
 
-pub parts-returns-in_ok-each-in-Choose-clause-found : goal.parts-returns-in_ok-each-in-Choose-clause-found
+pub parts-returns-in_ok-each-in-IfElse-clause-found : goal.parts-returns-in_ok-each-in-IfElse-clause-found
 unfolding Rattle.oz_syntax.specs.declared.phrase.Phrase.TheViews.roll-Phrase denote.Hole.Carrier.roll
-parts-returns-in_ok-each-in-Choose-clause-found t c =
-    let seen : view c.args.phrase.now ≡ choose c.in-Choose.at (of_list (views c.deref-in-Choose.result.now)) (view c.deref-in-Choose-2.result.now) =
-    rw (c.deref-in-Choose.ensures.value, c.deref-in-Choose-2.ensures) (ap view c.in-Choose.is ∙ fold-roll-Phrase Phrase view_step (Phrase-F.Choose c.in-Choose.at c.in-Choose.arms c.in-Choose.otherwise)) in
+parts-returns-in_ok-each-in-IfElse-clause-found t c =
+    let seen : view c.args.phrase.now ≡ choose c.in-IfElse.at (of_list (views c.deref-in-IfElse.result.now)) (view c.deref-in-IfElse-2.result.now) =
+    rw (c.deref-in-IfElse.ensures.value, c.deref-in-IfElse-2.ensures) (ap view c.in-IfElse.is ∙ fold-roll-Phrase Phrase view_step (Phrase-F.IfElse c.in-IfElse.at c.in-IfElse.arms c.in-IfElse.otherwise)) in
     rw seen
-    (two_kept c.phrase-in-Choose.result (faults_each c.args.self.now.scope (of_list (views c.deref-in-Choose.result.now))) (faults c.args.self.now.scope (view c.deref-in-Choose-2.result.now))
-    c.args.self.now.found c.each-in-Choose.new.self.found c.phrase-in-Choose.new.self.found
-    c.in_ok-each-in-Choose.ensures.found (rw c.in_ok-each-in-Choose.ensures.scope at c.phrase-in-Choose.ensures.found))
+    (two_kept c.phrase-in-IfElse.result (faults_each c.args.self.now.scope (of_list (views c.deref-in-IfElse.result.now))) (faults c.args.self.now.scope (view c.deref-in-IfElse-2.result.now))
+    c.args.self.now.found c.each-in-IfElse.new.self.found c.phrase-in-IfElse.new.self.found
+    c.in_ok-each-in-IfElse.ensures.found (rw c.in_ok-each-in-IfElse.ensures.scope at c.phrase-in-IfElse.ensures.found))
 
 pub parts-returns-in_ok-declarations-in-Local-clause-found : goal.parts-returns-in_ok-declarations-in-Local-clause-found
 unfolding Rattle.oz_syntax.specs.declared.phrase.Phrase.TheViews.roll-Phrase denote.Hole.Carrier.roll
@@ -150,16 +150,16 @@ parts-returns-in_ok-enter_parameters-in-Fun-clause-found t c =
     (c.in_ok-enter_parameters-in-Fun.ensures.found ∙ c.in_ok-phrase-in-Fun.ensures.found)
     (rw (c.in_ok-enter_parameters-in-Fun.ensures.scope, c.in_ok-phrase-in-Fun.ensures.scope, again) at c.phrase-in-Fun-2.ensures.found))
 
-pub parts-returns-in_ok-each-in-CasesOr-clause-found : goal.parts-returns-in_ok-each-in-CasesOr-clause-found
+pub parts-returns-in_ok-each-in-CaseElse-clause-found : goal.parts-returns-in_ok-each-in-CaseElse-clause-found
 unfolding Rattle.oz_syntax.specs.declared.phrase.Phrase.TheViews.roll-Phrase denote.Hole.Carrier.roll
-parts-returns-in_ok-each-in-CasesOr-clause-found t c =
-    let seen : view c.args.phrase.now ≡ cases_or c.in-CasesOr.at (view c.deref-in-CasesOr.result.now) (of_list (views c.deref-in-CasesOr-2.result.now)) (view c.deref-in-CasesOr-3.result.now) =
-    rw (c.deref-in-CasesOr.ensures, c.deref-in-CasesOr-2.ensures.value, c.deref-in-CasesOr-3.ensures) (ap view c.in-CasesOr.is ∙ fold-roll-Phrase Phrase view_step (Phrase-F.CasesOr c.in-CasesOr.at c.in-CasesOr.subject c.in-CasesOr.clauses c.in-CasesOr.otherwise)) in
+parts-returns-in_ok-each-in-CaseElse-clause-found t c =
+    let seen : view c.args.phrase.now ≡ cases_or c.in-CaseElse.at (view c.deref-in-CaseElse.result.now) (of_list (views c.deref-in-CaseElse-2.result.now)) (view c.deref-in-CaseElse-3.result.now) =
+    rw (c.deref-in-CaseElse.ensures, c.deref-in-CaseElse-2.ensures.value, c.deref-in-CaseElse-3.ensures) (ap view c.in-CaseElse.is ∙ fold-roll-Phrase Phrase view_step (Phrase-F.CaseElse c.in-CaseElse.at c.in-CaseElse.subject c.in-CaseElse.clauses c.in-CaseElse.otherwise)) in
     rw seen
-    (three_kept c.phrase-in-CasesOr-2.result (faults c.args.self.now.scope (view c.deref-in-CasesOr.result.now)) (faults_each c.args.self.now.scope (of_list (views c.deref-in-CasesOr-2.result.now))) (faults c.args.self.now.scope (view c.deref-in-CasesOr-3.result.now))
-    c.args.self.now.found c.phrase-in-CasesOr.new.self.found c.each-in-CasesOr.new.self.found c.phrase-in-CasesOr-2.new.self.found
-    c.in_ok-phrase-in-CasesOr.ensures.found (rw c.in_ok-phrase-in-CasesOr.ensures.scope at c.in_ok-each-in-CasesOr.ensures.found)
-    (rw (c.in_ok-each-in-CasesOr.ensures.scope, c.in_ok-phrase-in-CasesOr.ensures.scope) at c.phrase-in-CasesOr-2.ensures.found))
+    (three_kept c.phrase-in-CaseElse-2.result (faults c.args.self.now.scope (view c.deref-in-CaseElse.result.now)) (faults_each c.args.self.now.scope (of_list (views c.deref-in-CaseElse-2.result.now))) (faults c.args.self.now.scope (view c.deref-in-CaseElse-3.result.now))
+    c.args.self.now.found c.phrase-in-CaseElse.new.self.found c.each-in-CaseElse.new.self.found c.phrase-in-CaseElse-2.new.self.found
+    c.in_ok-phrase-in-CaseElse.ensures.found (rw c.in_ok-phrase-in-CaseElse.ensures.scope at c.in_ok-each-in-CaseElse.ensures.found)
+    (rw (c.in_ok-each-in-CaseElse.ensures.scope, c.in_ok-phrase-in-CaseElse.ensures.scope) at c.phrase-in-CaseElse-2.ensures.found))
 
 pub parts-returns-in_ok-phrase-in-Clause-clause-found : goal.parts-returns-in_ok-phrase-in-Clause-clause-found
 unfolding Rattle.oz_syntax.specs.declared.phrase.Phrase.TheViews.roll-Phrase denote.Hole.Carrier.roll

@@ -1,6 +1,6 @@
 use Rattle.std.proofs.Common.{◌≡◌, drop}
-use Rattle.oz_semantics.specs.Grammar.{of_list}
-use Rattle.oz_semantics.specs.Refusals.{faults_each}
+use Rattle.oz_language.specs.Grammar.{of_list}
+use Rattle.oz_language.specs.Refusals.{faults_each}
 use Rattle.oz_syntax.specs.View.{views}
 use Rattle.oz_scope.specs.Keeps.{kept}
 use Rattle.oz_scope.proofs.checker.Checker.+phrases.Given as goal

@@ -1,0 +1,11 @@
+use Rattle.kernel_trans.specs.Tasks.{state_of}
+use Rattle.std.proofs.Common.{◌∙◌}
+use Rattle.kernel_trans.proofs.Steps.{put_on}
+use Rattle.kernel_trans.proofs.Building.{alternative_law}
+use Rattle.kernel_trans.proofs.writer.Writer.alternative.Goals as goal
+
+pub returns : goal.returns
+returns c words =
+    alternative_law words c.put-2.new.self c.args.goal c.args.bodies c.args.phrase c.args.phrases c.args.self.now.tasks (state_of c.args.self.now)
+    (put_on c.in_ok-put-2.ensures.tasks (put_on c.in_ok-put.ensures.tasks c.in_ok-begin.ensures.tasks))
+    (c.in_ok-put-2.ensures.state ∙ c.in_ok-put.ensures.state ∙ c.in_ok-begin.ensures.state)

@@ -1,0 +1,5 @@
+pub mod Domains
+pub mod Positions
+pub mod Relations
+pub mod Passes
+pub mod Splits

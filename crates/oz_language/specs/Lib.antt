@@ -1,0 +1,11 @@
+pub mod Tokens
+pub mod Wording
+pub mod Kernels
+pub mod Constants
+pub mod Arities
+pub mod Grammar
+pub mod Refusals
+pub mod Translation
+pub mod SimpleTexts
+pub mod KernelTexts
+pub mod Commands

@@ -1,0 +1,13 @@
+pub mod Names
+pub mod Values
+pub mod Store
+pub mod Entailment
+pub mod Matching
+pub mod Configurations
+pub mod Builtins
+pub mod Statements
+pub mod Spaces
+pub mod Schedule
+pub mod Texts
+pub mod Runs
+pub mod Search
