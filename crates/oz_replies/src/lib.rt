@@ -1,0 +1,6 @@
+//! What the program answers to words and a text: the definitions `Served` and `Replies`, and why a call ended.
+#![tactic(auto)]
+
+mod cause;
+
+pub use cause::Cause;

@@ -1,0 +1,65 @@
+-- What a statement answers: it can't step yet, it raises an exception, or it acts.
+use Rattle.std.specs.Prelude.{ℕ, List, [], ◌∷◌, slice_get, unwrap_or, Option, Some, None}
+use Rattle.oz_base.specs.declared.names.Ident.{Ident}
+use Rattle.environments.specs.Environments.{Environment, nowhere}
+use Rattle.oz_language.specs.declared.kernel.Constant.{Constant}
+use Rattle.oz_language.specs.declared.kernel.Identifier.{Identifier}
+use Rattle.oz_semantics.specs.Store.{View, value_of}
+use Rattle.oz_semantics.specs.Terms.{Term}
+use Rattle.oz_semantics.specs.Sights.{Readiness, Waits}
+use Rattle.oz_semantics.specs.declared.value.Value.{Value}
+use Rattle.oz_semantics.specs.declared.value.Value.TheVariants as value
+use Rattle.oz_semantics.specs.declared.configuration.Frame.{Frame}
+use Rattle.oz_semantics.specs.declared.outcome.RaiseKind.{RaiseKind}
+use Rattle.oz_semantics.specs.declared.outcome.RaiseKind.TheVariants as raise
+
+-- what a step does, in words of the thread and of its space
+pub data Act : Type 0 where
+  -- nothing
+  Passes : Act
+  -- these go on, before what is left of the stack
+  GoesOn : List Frame → Act
+  -- a body goes on, in which these identifiers stand for new variables
+  Declares : Environment → List Identifier → List ℕ → Act
+  -- a new thread with these
+  Starts : List Frame → Act
+  -- x is this value
+  GivesValue : Ident → Value → Act
+  -- x is this term
+  GivesTerm : Ident → Term → Act
+  -- x is what y is
+  GivesVariable : Ident → Ident → Act
+  -- x is a new procedure, by its parameters, its body and its environment
+  MakesProcedure : Ident → List Identifier → List ℕ → Environment → Act
+  -- the text of x is shown
+  Shows : Ident → Act
+
+pub data Answer : Type 0 where
+  -- a step
+  Acts : Act → Answer
+  -- a step too: an exception of the machine
+  RaisesKind : RaiseKind → Answer
+  -- and the exception that is the term of x
+  RaisesTerm : Ident → Answer
+  -- it can't step yet
+  Rests : Readiness → Answer
+
+abbrev pub gives_constant : Ident → Constant → Answer
+gives_constant x c = Acts (GivesValue x (value.Constant c))
+
+-- the n-th argument, from 0, of a call with as many as the built-in takes
+abbrev pub argument : List Ident → ℕ → Ident
+argument xs n = unwrap_or (slice_get xs n) nowhere
+
+-- with the value of an input, which is waited for
+abbrev pub given : Ident → Option Value → (Value → Answer) → Answer
+given x None go = Rests (Waits (x ∷ []))
+given x (Some v) go = go v
+
+abbrev pub with_value : View → Ident → (Value → Answer) → Answer
+with_value view x go = given x (value_of view x) go
+
+-- with what a value is of a kind, or the exception that it is not
+abbrev pub of_kind : {A : Type 0} → Option A → (A → Answer) → Answer
+of_kind None go = RaisesKind raise.BadKind
+of_kind (Some a) go = go a

@@ -1,0 +1,83 @@
+//! Values, and what a space is told of variables (CTM 2.2, 2.3).
+use environments::Environment;
+use oz_base::{Copies, Ident, Sequence, Shared};
+use oz_language::{Constant, Identifier, Literal, Operation};
+use std::alloc::{AllocError, Global};
+
+/// A procedure value: a name of its own, its parameters and body, and the environment in which it was made.
+#[derive(Drop)]
+pub struct Procedure {
+    pub name: Ident,
+    pub parameters: Sequence<Identifier>,
+    pub body: Sequence<u32>,
+    pub environment: Environment,
+}
+
+/// A record: a label, its features in the order of arities, and a variable for each of them.
+#[derive(Drop)]
+pub struct Record {
+    pub label: Literal,
+    pub features: Sequence<Constant>,
+    pub fields: Sequence<Ident>,
+}
+
+/// A procedure of the language itself.
+#[derive(Clone, Copy, Debug, PartialEq, Eq)]
+pub enum Builtin {
+    /// What an operator calls.
+    Operation(Operation),
+    /// `Label`, of two parameters: the label of a record.
+    Label,
+    /// `Width`, of two parameters: how many features a record has.
+    Width,
+    /// `Arity`, of two parameters: the list of the features of a record.
+    Arity,
+    /// `Wait`, of one parameter: until it is determined.
+    Wait,
+    /// `Show`, of one parameter: writes the text of a term as a line.
+    Show,
+}
+
+/// A value of the language. Copies of a record and of a procedure share it.
+#[derive(Drop)]
+pub enum Value {
+    Constant(Constant),
+    Record(Shared<Record>),
+    Procedure(Shared<Procedure>),
+    Builtin(Builtin),
+}
+
+impl Copies for Value {
+    fn copied(&self, alloc: Global) -> Result<Self, AllocError> {
+        match self {
+            Value::Constant(constant) => Ok(Value::Constant(*constant)),
+            Value::Record(record) => Ok(Value::Record(record.copied(alloc)?)),
+            Value::Procedure(procedure) => Ok(Value::Procedure(procedure.copied(alloc)?)),
+            Value::Builtin(builtin) => Ok(Value::Builtin(*builtin)),
+        }
+    }
+}
+
+/// What a space was told.
+#[derive(Drop)]
+pub enum Tell {
+    /// `x=y`
+    Equal { left: Ident, right: Ident },
+    /// `x=v`
+    Is { variable: Ident, value: Value },
+}
+
+impl Copies for Tell {
+    fn copied(&self, alloc: Global) -> Result<Self, AllocError> {
+        match self {
+            Tell::Equal { left, right } => Ok(Tell::Equal {
+                left: left.copied(alloc)?,
+                right: right.copied(alloc)?,
+            }),
+            Tell::Is { variable, value } => Ok(Tell::Is {
+                variable: variable.copied(alloc)?,
+                value: value.copied(alloc)?,
+            }),
+        }
+    }
+}
