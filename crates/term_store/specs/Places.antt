@@ -1,0 +1,31 @@
+-- The places of values among those of their class.
+use Rattle.std.specs.Prelude.{ℕ, ◌≡◌, ◌≢◌, ◌↔◌, Bool, false, IsTrue, List, [], ◌∷◌, ◌++◌, Option, Some, None, is_some, position, slice_get, slice_set, slice_index_or, min}
+use Rattle.std.specs.Option.{option_and_then}
+use Rattle.std.specs.List.{zip}
+use Rattle.oz_base.specs.declared.names.Ident.{Ident}
+use Rattle.oz_semantics.specs.Values.{is_like, fields_of}
+use Rattle.oz_semantics.specs.Store.{same, value_given, value_of}
+use Rattle.oz_semantics.specs.declared.value.Value.{Value}
+use Rattle.oz_semantics.specs.declared.value.Tell.{Tell}
+use Rattle.oz_semantics.specs.declared.value.Tell.TheVariants.{Equal, Is}
+
+abbrev pub value_told : Option Tell → Option Value
+value_told None = None
+value_told (Some (Equal x y)) = None
+value_told (Some (Is x v)) = Some v
+
+-- whether a tell gives the class of a variable a value
+abbrev pub gives_value : List Tell → Ident → Tell → Bool
+gives_value ts x t = is_some (value_given (λ y. same ts y x) t)
+
+-- the place of the first value that was told of the class of a variable
+abbrev pub value_place : List Tell → Ident → Option ℕ
+value_place ts x = position (gives_value ts x) ts
+
+-- variables whose classes have values are equal exactly where these places are
+abbrev pub PlacesTellApart : Type 0
+PlacesTellApart = (ts : List Tell) (x y : Ident) (p q : ℕ) → value_place ts x ≡ Some p → value_place ts y ≡ Some q → IsTrue (same ts x y) ↔ (p ≡ q)
+
+-- the place of a variable's value, if it has one
+abbrev pub PlacesTellValues : Type 0
+PlacesTellValues = (ts : List Tell) (x : Ident) → value_of ts x ≡ option_and_then (λ p. value_told (slice_get ts p)) (value_place ts x)
