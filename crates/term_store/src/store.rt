@@ -56,10 +56,16 @@ impl Store {
         None
     }
 
-    /// Tells it all of this. False exactly where that is inconsistent with what it was told before: then it is as it was. An error
-    /// is for lack of memory, and leaves it as it was too.
-    pub fn tell(&mut self, _alloc: Global, tells: &[Tell]) -> Result<bool, AllocError>
-        ensures told { IfOk result (IsTold self.old tells.now self.new) }
+    /// Tells it all of this, and notes variables of the classes that are joined, or told a value and had none. False exactly where
+    /// it is inconsistent with what was told before: then the store is as it was. An error is for lack of memory, and leaves it as
+    /// it was too.
+    pub fn tell(
+        &mut self,
+        _alloc: Global,
+        tells: &[Tell],
+        touched: &mut Vec<Ident>,
+    ) -> Result<bool, AllocError>
+        ensures told { IfOk result (IsTold self.old tells.now self.new touched.old.items touched.new.items) }
         ensures err { OnErr result (self.new ≡ self.old) }
     {
         let _ = &self.classes;
