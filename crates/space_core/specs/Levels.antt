@@ -1,0 +1,35 @@
+-- What the calls on the layers of a configuration come to.
+use Rattle.std.specs.Prelude.{ℕ, ◌≡◌, Bool, true, false, List, [], ◌∷◌, ◌++◌, Option, Some, None, slice_get, drop}
+use Rattle.oz_base.specs.declared.names.Ident.{Ident}
+use Rattle.oz_semantics.specs.Store.{is_consistent}
+use Rattle.oz_semantics.specs.Configurations.{view, in_layer, telling, with_frames, stack_of}
+use Rattle.oz_semantics.specs.Exceptions.{unwound}
+use Rattle.oz_semantics.specs.Settling.{without_inconsistent, top_is_inconsistent}
+use Rattle.oz_semantics.specs.declared.value.Tell.{Tell}
+use Rattle.oz_semantics.specs.declared.configuration.Frame.{Frame}
+use Rattle.oz_semantics.specs.declared.configuration.Layer.{Layer}
+
+-- what is said of the layer at a place
+abbrev pub OfLayer : List Layer → ℕ → (Layer → Type 0) → Type 0
+OfLayer layers place says = (l : Layer) → slice_get layers place ≡ Some l → says l
+
+-- a space was told this, and each space below it that sees what is inconsistent has failed; or it was not, since that is
+-- inconsistent with what it sees
+abbrev pub IsToldTo : List ℕ → List Tell → List Layer → List Layer → Bool → Type 0
+IsToldTo space ts old new true =
+    (new ≡ without_inconsistent (in_layer space (telling ts) old)) × (is_consistent (view old space ++ ts) ≡ true)
+    × (top_is_inconsistent (in_layer space (telling ts) old) ≡ false)
+IsToldTo space ts old new false = (new ≡ old) × (is_consistent (view old space ++ ts) ≡ false)
+
+-- the stack that an exception leaves took the place of the thread's; or the thread's has no mark
+abbrev pub caught_by : Option (List Frame) → Ident → List Layer → List Layer
+caught_by None id layers = layers
+caught_by (Some frames) id layers = in_layer id.space (with_frames id.number (λ rest. frames)) layers
+
+abbrev pub IsUnwound : Ident → Ident → List Layer → List Layer → Bool → Type 0
+IsUnwound x id old new true = (frames : List Frame) × (unwound x (stack_of old id) ≡ Some frames) × (new ≡ caught_by (Some frames) id old)
+IsUnwound x id old new false = (unwound x (stack_of old id) ≡ None) × (new ≡ old)
+
+-- other statements in the place of the one on top of a stack
+abbrev pub replacing : List Frame → List Frame → List Frame
+replacing frames stack = frames ++ drop 1 stack

@@ -1,0 +1,282 @@
+//! The layers.
+ghost use Rattle.std.specs.Prelude.{◌≡◌, ◌<◌, ◌∷◌, ◌++◌, [], true, length, drop, position, is_some, IfOk, OnOk, OnErr, option_copied};
+ghost use Rattle.oz_base.specs.Lists.{first};
+ghost use Rattle.oz_semantics.specs.Names.{parent_of};
+ghost use Rattle.oz_semantics.specs.Configurations.{is_of, layer_at, layer_of, view, ancestor_variables, stack_of, new_layer, next_child, in_layer, with_frames, without_terminated, giving_out, counting_procedure, spawning, failed, raised_by, ending};
+ghost use Rattle.oz_semantics.specs.Spaces.{alike_on, is_held};
+ghost use Rattle.oz_semantics.specs.Edits.{created};
+ghost use Rattle.oz_semantics.specs.Settling.{inconsistent_spaces};
+ghost use Rattle.space_core.specs.Levels.{OfLayer, IsToldTo, IsUnwound, replacing};
+
+use oz_base::{Copies, Ident, SpaceName};
+use oz_semantics::{Frame, Next, Status, Tell, Thread};
+use std::alloc::{AllocError, Global};
+use std::marker::Model;
+use term_store::Store;
+
+/// The layers of all spaces, in the order of their names, with what each space sees. Contracts see the list of layers.
+#[derive(Drop)]
+pub struct Levels {
+    next: Next,
+    status: Status,
+    space: SpaceName,
+    threads: Vec<Thread>,
+    store: Store,
+}
+
+impl Model for Levels {
+    ghost use Rattle.std.specs.Prelude.{List, []};
+    ghost use Rattle.std.specs.Coded.{codes};
+    ghost use Rattle.environments.specs.contracts.environment.Environment as environment;
+    ghost use Rattle.oz_semantics.specs.declared.configuration.Layer.{Layer};
+
+    ghost Value = { List Layer };
+
+    ghost coded = { Prim.hlevel (codes, environment.the_row.coded) };
+
+    ghost view = { λ l. [] };
+
+    ghost invariant = { λ l. ⊥ };
+}
+
+impl Levels {
+    /// The top alone, which was told nothing and has no thread.
+    pub fn new(_alloc: Global) -> Result<Levels, AllocError>
+        ensures { IfOk result (λ levels. levels ≡ new_layer [] ∷ []) }
+    {
+        Err(AllocError)
+    }
+
+    /// How many spaces there are.
+    pub fn len(&self) -> usize
+        ensures { result ≡ length self.now }
+    {
+        let _ = &self.store;
+        0
+    }
+
+    /// The place of a space.
+    pub fn place(&self, space: &SpaceName) -> Option<usize>
+        ensures { result ≡ position (is_of space.now) self.now }
+    {
+        let _ = &self.store;
+        None
+    }
+
+    /// The name of the space at a place.
+    pub fn space_at(&self, place: usize) -> &SpaceName
+        requires { place < length self.now }
+        ensures { OfLayer self.now place (λ l. result.now ≡ l.space) }
+    {
+        let _ = &self.store;
+        &self.space
+    }
+
+    pub fn status_at(&self, place: usize) -> &Status
+        requires { place < length self.now }
+        ensures { OfLayer self.now place (λ l. result.now ≡ l.status) }
+    {
+        let _ = &self.store;
+        &self.status
+    }
+
+    pub fn threads_at(&self, place: usize) -> &[Thread]
+        requires { place < length self.now }
+        ensures { OfLayer self.now place (λ l. result.now ≡ l.threads) }
+    {
+        let _ = &self.store;
+        self.threads.as_slice()
+    }
+
+    /// The numbers that the space gives out next.
+    pub fn next_at(&self, place: usize) -> Next
+        requires { place < length self.now }
+        ensures { OfLayer self.now place (λ l. result ≡ l.next) }
+    {
+        let _ = &self.store;
+        self.next
+    }
+
+    /// What the space sees.
+    pub fn store_at(&self, place: usize) -> &Store
+        requires { place < length self.now }
+        ensures { OfLayer self.now place (λ l. result.now ≡ view self.now l.space) }
+    {
+        let _ = &self.store;
+        &self.store
+    }
+
+    /// What is on top of a thread's stack.
+    pub fn top_frame(&self, id: &Ident) -> Option<&Frame>
+        ensures { option_copied result ≡ first (stack_of self.now id.now) }
+    {
+        let _ = &self.store;
+        None
+    }
+
+    /// Whether the space at a place tells its ancestors nothing: it sees the same values and equalities of their variables as its
+    /// parent does.
+    pub fn is_silent(&self, place: usize) -> bool
+        requires { place < length self.now }
+        ensures { OfLayer self.now place (λ l. result ≡ alike_on (ancestor_variables self.now l.space) (view self.now l.space) (view self.now (parent_of l.space))) }
+    {
+        let _ = &self.store;
+        true
+    }
+
+    /// Whether a variable, as the space at the place `seen_at` sees it, has no value and is equal to a variable of a proper ancestor
+    /// of another space.
+    pub fn is_held(&self, seen_at: usize, space: &SpaceName, variable: &Ident) -> bool
+        requires { seen_at < length self.now }
+        ensures { OfLayer self.now seen_at (λ l. result ≡ is_held (view self.now l.space) (ancestor_variables self.now space.now) variable.now) }
+    {
+        let _ = &self.store;
+        true
+    }
+
+    /// Takes the statement off the top of a thread's stack.
+    pub fn pop(&mut self, id: &Ident) -> Option<Frame>
+        ensures frame { result ≡ first (stack_of self.old id.now) }
+        ensures popped { self.new ≡ in_layer id.now.space (with_frames id.now.number (λ stack. drop 1 stack)) self.old }
+    {
+        let _ = &self.store;
+        None
+    }
+
+    /// Puts statements on top of a thread's stack, the first of them uppermost.
+    pub fn push(&mut self, id: &Ident, frames: Vec<Frame>) -> Result<(), AllocError>
+        ensures ok { OnOk result (self.new ≡ in_layer id.now.space (with_frames id.now.number (λ stack. frames.items ++ stack)) self.old) }
+        ensures err { OnErr result (self.new ≡ self.old) }
+    {
+        let _ = &self.store;
+        Err(AllocError)
+    }
+
+    /// Puts statements in the place of the one on top of a thread's stack.
+    pub fn replace_top(&mut self, id: &Ident, frames: Vec<Frame>) -> Result<(), AllocError>
+        ensures ok { OnOk result (self.new ≡ in_layer id.now.space (with_frames id.now.number (replacing frames.items)) self.old) }
+        ensures err { OnErr result (self.new ≡ self.old) }
+    {
+        let _ = &self.store;
+        Err(AllocError)
+    }
+
+    /// Takes all statements off a thread's stack.
+    pub fn clear(&mut self, id: &Ident)
+        ensures { self.new ≡ in_layer id.now.space (with_frames id.now.number (λ stack. [])) self.old }
+    {
+        let _ = &self.store;
+    }
+
+    /// Threads of the space without statements are terminated.
+    pub fn drop_terminated(&mut self, space: &SpaceName)
+        ensures { self.new ≡ in_layer space.now without_terminated self.old }
+    {
+        let _ = &self.store;
+    }
+
+    /// A new thread of the space with these statements, the first of them uppermost. It refuses for want of memory, or where the
+    /// space gave out 2^64 - 1 threads.
+    pub fn spawn(&mut self, space: &SpaceName, frames: Vec<Frame>) -> Result<(), AllocError>
+        ensures ok { OnOk result (self.new ≡ in_layer space.now (spawning frames.items) self.old) }
+        ensures err { OnErr result (self.new ≡ self.old) }
+    {
+        let _ = &self.store;
+        Err(AllocError)
+    }
+
+    /// The space gives out so many variables. It refuses where these would be more than 2^64 - 1.
+    pub fn give_out(&mut self, space: &SpaceName, count: u64) -> Result<(), AllocError>
+        ensures ok { OnOk result (self.new ≡ in_layer space.now (giving_out count) self.old) }
+        ensures err { OnErr result (self.new ≡ self.old) }
+    {
+        let _ = &self.store;
+        Err(AllocError)
+    }
+
+    /// The space gives out a number for a procedure. It refuses where these would be more than 2^64 - 1.
+    pub fn count_procedure(&mut self, space: &SpaceName) -> Result<(), AllocError>
+        ensures ok { OnOk result (self.new ≡ in_layer space.now counting_procedure self.old) }
+        ensures err { OnErr result (self.new ≡ self.old) }
+    {
+        let _ = &self.store;
+        Err(AllocError)
+    }
+
+    /// Tells a space that is there, and fails each space below it that then sees what is inconsistent. False exactly where it is
+    /// inconsistent with what the space sees: then nothing changes.
+    pub fn tell(
+        &mut self,
+        _alloc: Global,
+        space: &SpaceName,
+        tells: &[Tell],
+    ) -> Result<bool, AllocError>
+        requires { is_some (layer_at self.old space.now) ≡ true }
+        ensures told { IfOk result (IsToldTo space.now tells.now self.old self.new) }
+        ensures err { OnErr result (self.new ≡ self.old) }
+    {
+        let _ = &self.store;
+        Err(AllocError)
+    }
+
+    /// An exception goes to the nearest mark of a thread's stack. False exactly where there is none: then nothing changes.
+    pub fn unwind(
+        &mut self,
+        _alloc: Global,
+        id: &Ident,
+        exception: &Ident,
+    ) -> Result<bool, AllocError>
+        ensures unwound { IfOk result (IsUnwound exception.now id.now self.old self.new) }
+        ensures err { OnErr result (self.new ≡ self.old) }
+    {
+        let _ = &self.store;
+        Err(AllocError)
+    }
+
+    /// A space fails, and all below it is gone.
+    pub fn fail(&mut self, _alloc: Global, space: &SpaceName) -> Result<(), AllocError>
+        ensures ok { OnOk result (self.new ≡ ending space.now failed self.old) }
+        ensures err { OnErr result (self.new ≡ self.old) }
+    {
+        let _ = &self.store;
+        Err(AllocError)
+    }
+
+    /// A space is ended by the exception that is the variable's term, and all below it is gone.
+    pub fn end(&mut self, space: &SpaceName, exception: Ident)
+        ensures { self.new ≡ ending space.now (raised_by exception) self.old }
+    {
+        let _ = &self.store;
+    }
+
+    /// A new child of a space that is there, in which a thread applies the procedure to the root variable. The child's name.
+    pub fn create(
+        &mut self,
+        _alloc: Global,
+        parent: &SpaceName,
+        procedure: Ident,
+    ) -> Result<SpaceName, AllocError>
+        requires { is_some (layer_at self.old parent.now) ≡ true }
+        ensures name { IfOk result (λ child. child ≡ next_child (layer_of self.old parent.now)) }
+        ensures ok { OnOk result (self.new ≡ created parent.now procedure self.old) }
+        ensures err { OnErr result (self.new ≡ self.old) }
+    {
+        let _ = &self.store;
+        Err(AllocError)
+    }
+
+    /// What each space that may fail sees is consistent. Nothing: it holds a law.
+    pub fn consistent(&self)
+        ensures { inconsistent_spaces self.now ≡ [] }
+    {
+        let _ = &self.store;
+    }
+}
+
+impl Copies for Levels {
+    /// It shares what the spaces were told. It takes the time and memory of the spaces' threads and their stacks.
+    fn copied(&self, _alloc: Global) -> Result<Self, AllocError> {
+        let _ = &self.store;
+        Err(AllocError)
+    }
+}

@@ -1,0 +1,7 @@
+//! The tree of computation spaces (CTM 12.4; Schulte 4): what each was told and sees, its threads, and the edits of which the
+//! machine's steps are made.
+#![tactic(auto)]
+
+mod levels;
+
+pub use levels::Levels;
