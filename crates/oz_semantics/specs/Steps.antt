@@ -14,7 +14,7 @@ use Rattle.oz_semantics.specs.Changes.{Change, changed_all, done}
 use Rattle.oz_semantics.specs.Effects.{Effect, Makes, Tells, ShowsText, act_effect}
 use Rattle.oz_semantics.specs.Exceptions.{is_failure, unwound}
 use Rattle.oz_semantics.specs.Texts.{Printed, term_text}
-use Rattle.oz_semantics.specs.Settling.{Turned, settled, term_variable, with_raised, top_ended}
+use Rattle.oz_semantics.specs.Settling.{Turned, settled, term_variable, with_raised, top_ended, without_inconsistent}
 use Rattle.oz_semantics.specs.declared.value.Tell.{Tell}
 use Rattle.oz_semantics.specs.declared.configuration.Frame.{Frame}
 use Rattle.oz_semantics.specs.declared.configuration.Layer.{Layer}
@@ -32,10 +32,11 @@ went_on statements id cost layers c = settled statements (Some id) cost (record 
 abbrev pub ended_by : View → Ident → Layer → Layer
 ended_by view x l = if is_failure view x then failed l else raised_by x l
 
--- one that no mark takes ends the run, or the child space
+-- one that no mark takes ends the run, where spaces that see what is inconsistent fail besides, or the child space
 abbrev pub uncaught : List Statement → Ident → Ident → List Layer → Configuration → Turned
 uncaught statements id x layers c =
-    if is_top id.space then top_ended 1 x (in_layer id.space (λ l. without_terminated (with_frames id.number (λ frames. []) l)) layers) c
+    if is_top id.space
+    then top_ended 1 x (without_inconsistent (in_layer id.space (λ l. without_terminated (with_frames id.number (λ frames. []) l)) layers)) c
     else settled statements (Some id) 1 (record c { layers = ending id.space (ended_by (view layers id.space) x) layers })
 
 abbrev pub raised_to : List Statement → Ident → Ident → Option (List Frame) → List Layer → Configuration → Turned
