@@ -1,0 +1,9 @@
+pub mod QueueLaws
+pub mod TopLaws
+pub mod TurnLaws
+pub mod RunLaws
+pub mod MakerLaws
+pub mod VisitLaws
+pub mod SpaceLaws
+pub mod RestLaws
+pub mod OpeningLaws

@@ -1,0 +1,189 @@
+-- A run from where all that can step is queued ends where nothing of its space can step.
+use Rattle.std.proofs.Common.{◌≡◌, ℕ, zero, suc, ◌+◌, ◌-◌, nat_le, Bool, true, false, cond, if◌then◌else◌, List, [], ◌∷◌, Option, Some, None, option_map, refl, sym, ap, ◌∙◌, subst, true≢false}
+use Rattle.std.specs.List.{find}
+use Rattle.std.proofs.lemmas.Option.{same_Some}
+use Rattle.oz_base.specs.Lists.{is_empty}
+use Rattle.oz_base.specs.ListLaws.{list_eq-decides}
+use Rattle.oz_base.specs.declared.names.Ident.{Ident}
+use Rattle.oz_language.specs.declared.kernel.Statement.{Statement}
+use Rattle.oz_language.specs.declared.kernel.Kernel.{Kernel}
+use Rattle.oz_search.specs.declared.leaf.Outcome.{Outcome}
+use Rattle.oz_search.specs.declared.tree.Kind.{Kind}
+use Rattle.oz_search.specs.declared.tree.Kind.TheVariants.{Alternatives, End}
+use Rattle.oz_search.specs.Paths.{is_among}
+use Rattle.oz_search.specs.Nodes.{Reached, Met, Node, OutOfFuel, NotANode, met_last, met_by_kind, met_next, met_from}
+use Rattle.oz_search.specs.Plain.{outcomes}
+use Rattle.oz_semantics.specs.Configurations.{is_of, layer_at}
+use Rattle.oz_semantics.specs.Sights.{Offer}
+use Rattle.oz_semantics.specs.Spaces.{state, goes_on, is_stable, offer_in, stable_state, open_state, state_by}
+use Rattle.oz_semantics.specs.Settling.{Turned, top_failed, without_inconsistent, runnable, requeued}
+use Rattle.oz_semantics.specs.Edits.{created, committed}
+use Rattle.oz_semantics.specs.Texts.{Printed}
+use Rattle.oz_semantics.specs.Schedule.{turn_of, turn}
+use Rattle.oz_semantics.specs.Runs.{Ran, Ended, TopRaised, Over, after_turn, left_by, run_for, run}
+use Rattle.oz_semantics.specs.Search.{chosen_in, state_text, kind_of, node_of_kind, node_in_state, node_of_run, node_at, maker}
+use Rattle.oz_semantics.specs.declared.configuration.Thread.{Thread}
+use Rattle.oz_semantics.specs.declared.configuration.Status.{Status}
+use Rattle.oz_semantics.specs.declared.configuration.Status.TheVariants as status
+use Rattle.oz_semantics.specs.declared.configuration.Layer.{Layer}
+use Rattle.oz_semantics.specs.declared.configuration.Configuration.{Configuration}
+use Rattle.oz_semantics.specs.declared.outcome.State.{State}
+use Rattle.oz_semantics.specs.declared.outcome.State.TheVariants.{Running, Suspended, Solved, Stuck}
+use Rattle.oz_semantics.specs.declared.outcome.Stepped.TheVariants.{Moved, Quiescent, TopEnded}
+use Rattle.machine_search.specs.Rests.{IsSettled, SettledLaw, RootLaw, ChosenLaw, RestLaw, StateLaw, NodesLaw}
+use Rattle.machine_search.proofs.QueueLaws.{all_queued, nothing_goes_on}
+use Rattle.machine_search.proofs.TopLaws.{still_consistent, committed_top, created_top}
+use Rattle.machine_search.proofs.TurnLaws.{IsStep, turn_step}
+use Rattle.machine_search.proofs.RunLaws.{same_config, no_raise}
+
+pub settled_law : SettledLaw
+settled_law statements mover cost c consistent =
+    let P : Bool → Type 0 = λ b. IsSettled statements (left_by (if b then top_failed cost c else (Moved cost, requeued statements mover c (without_inconsistent c.layers)))) in
+    subst P (sym consistent) (still_consistent c.layers consistent, all_queued (runnable statements (without_inconsistent c.layers)) mover c.queue)
+
+pub root_law : RootLaw
+root_law statements procedure c h = settled_law statements None 1 (record c { layers = created [] procedure c.layers }) (created_top [] procedure c.layers ∙ h.0)
+
+pub chosen_law : ChosenLaw
+chosen_law statements space i c h = settled_law statements None 1 (record c { layers = committed statements space i c.layers }) (committed_top statements space i c.layers ∙ h.0)
+
+module _ (k : Kernel) (space : List ℕ) where
+  abbrev Rests : Configuration → Type 0
+  Rests d = (goes_on k.statements d.layers space ≡ false) × IsSettled k.statements d
+
+  ended : (c d : Configuration) (f left : ℕ) → Rests c → ◌≡◌ {A = Ran} (Ended c f) (Ended d left) → Rests d
+  ended c d f left rests e = subst (λ (x : Configuration). Rests x) (same_config c d f left e) rests
+
+  abbrev Ends : ℕ → Type 0
+  Ends n = (c : Configuration) (f : ℕ) (d : Configuration) (left : ℕ) → IsSettled k.statements c → run_for k space n c f ≡ Ended d left → Rests d
+
+  by_step : (n : ℕ) → Ends n → (c : Configuration) (f : ℕ) (d : Configuration) (left : ℕ) (t : Turned) → IsStep k.statements t → after_turn (run_for k space n) f c t ≡ Ended d left → Rests d
+  by_step n rest c f d left (Moved cost, x) step e = by (nat_le cost f) e
+    where
+      by : (b : Bool) → (if b then run_for k space n x (f - cost) else Over c) ≡ Ended d left → Rests d
+      by true e = rest x (f - cost) d left step.1 e
+      by false e = absurd (cc (e))
+  by_step n rest c f d left (TopEnded exception cost, x) step e = absurd (no_raise k space cost f (λ g. TopRaised x g exception) c d left (λ g i. cc) e)
+  by_step n rest c f d left (Quiescent, x) step e = absurd step
+
+  by_queue : (n : ℕ) → Ends n → (c : Configuration) (f : ℕ) (d : Configuration) (left : ℕ) → IsSettled k.statements c → goes_on k.statements c.layers space ≡ true
+      → (queue : List Ident) → c.queue ≡ queue → after_turn (run_for k space n) f c (turn_of k c queue) ≡ Ended d left → Rests d
+  by_queue n rest c f d left queued going [] empty e = absurd (true≢false (sym going ∙ nothing_goes_on k.statements c space queued.1 empty))
+  by_queue n rest c f d left queued going (id ∷ queue) is e = by_step n rest c f d left (turn_of k c (id ∷ queue)) (turn_step k c id queue) e
+
+  by_going : (n : ℕ) → Ends n → (c : Configuration) (f : ℕ) (d : Configuration) (left : ℕ) → IsSettled k.statements c → (b : Bool) → goes_on k.statements c.layers space ≡ b
+      → (if b then after_turn (run_for k space n) f c (turn k c) else Ended c f) ≡ Ended d left → Rests d
+  by_going n rest c f d left queued true going e = by_queue n rest c f d left queued going c.queue refl e
+  by_going n rest c f d left queued false not_going e = ended c d f left (not_going, queued) e
+
+  ends : (n : ℕ) → Ends n
+  unfolding run_for
+  ends zero c f d left queued e = absurd (cc (e))
+  ends (suc n) c f d left queued e = by_going n (ends n) c f d left queued (goes_on k.statements c.layers space) refl e
+
+pub rest_law : RestLaw
+rest_law k space c fuel d left queued e = ends k space (suc fuel) c fuel d left queued e
+
+-- ---- so no space runs there
+find_holds : {A : Type 0} (p : A → Bool) (xs : List A) (x : A) → find p xs ≡ Some x → p x ≡ true
+find_holds p [] x e = absurd (cc (e))
+find_holds p (y ∷ ys) x e = by (p y) refl (find_holds p ys x) e
+  where
+    by : (b : Bool) → p y ≡ b → (find p ys ≡ Some x → p x ≡ true) → cond b (Some y) (find p ys) ≡ Some x → p x ≡ true
+    by true i rest e = ap p (sym (same_Some y x e)) ∙ i
+    by false i rest e = rest e
+
+stable_not : (o : Option Offer) (threads : List Thread) → stable_state o threads ≡ Running → ⊥
+stable_not (Some offer) threads e = cc
+stable_not None threads e = by (is_empty threads) e
+  where
+    by : (b : Bool) → (if b then Solved else Stuck) ≡ Running → ⊥
+    by true e = cc
+    by false e = cc
+
+open_not : (statements : List Statement) (layers : List Layer) (l : Layer) → goes_on statements layers l.space ≡ false → open_state statements layers l ≡ Running → ⊥
+open_not statements layers l not_going e = go (is_stable statements layers l.space) (sym (ap (λ b. if b then Running else rest) not_going) ∙ e)
+  where
+    rest : State
+    rest = if is_stable statements layers l.space then stable_state (offer_in statements layers l) l.threads else Suspended
+
+    go : (b : Bool) → (if b then stable_state (offer_in statements layers l) l.threads else Suspended) ≡ Running → ⊥
+    go true e = stable_not (offer_in statements layers l) l.threads e
+    go false e = cc
+
+not_running : (statements : List Statement) (layers : List Layer) (l : Layer) (s : Status) → goes_on statements layers l.space ≡ false → state_by statements layers l s ≡ Running → ⊥
+not_running statements layers l status.Open not_going e = open_not statements layers l not_going e
+not_running statements layers l status.Failed not_going e = cc
+not_running statements layers l (status.Raised x) not_going e = cc
+
+no_state : (statements : List Statement) (layers : List Layer) (space : List ℕ) → goes_on statements layers space ≡ false → (o : Option Layer) → layer_at layers space ≡ o
+    → option_map (λ (l : Layer). state_by statements layers l l.status) o ≡ Some Running → ⊥
+no_state statements layers space not_going None there e = cc
+no_state statements layers space not_going (Some l) there e =
+    let same : l.space ≡ space = (list_eq-decides l.space space).0 (find_holds (is_of space) layers l there) in
+    not_running statements layers l l.status (ap (goes_on statements layers) same ∙ not_going) (same_Some _ _ e)
+
+pub state_law : StateLaw
+state_law k space c fuel d left queued e running = no_state k.statements d.layers space (rest_law k space c fuel d left queued e).0 (layer_at d.layers space) refl running
+
+-- ---- nor in any node
+node_in : Met Configuration Outcome → Reached Configuration Outcome → Reached Configuration Outcome
+node_in (Node r) other = r
+node_in (OutOfFuel at) other = other
+node_in (NotANode at) other = other
+
+same_node : (x r : Reached Configuration Outcome) → ◌≡◌ {A = Met Configuration Outcome} (Node x) (Node r) → x ≡ r
+unfolding node_in
+same_node x r e = ap (λ m. node_in m x) e
+
+module _ (k : Kernel) (space : List ℕ) where
+  kind_rests : (d : Configuration) → Rests k space d → (steps : ℕ) (o : Option (Kind Outcome)) (r : Reached Configuration Outcome) → node_of_kind d steps o ≡ Some r → Rests k space r.config
+  kind_rests d h steps None r e = absurd (cc (e))
+  kind_rests d h steps (Some kind) r e = subst (λ (x : Configuration). Rests k space x) (ap (λ (x : Reached Configuration Outcome). x.config) (same_Some _ r e)) h
+
+  state_rests : (f : ℕ) (d : Configuration) (left : ℕ) → Rests k space d → (o : Option State) (r : Reached Configuration Outcome) → node_in_state k space (suc f) d left o ≡ Some r → Rests k space r.config
+  state_rests f d left h None r e = absurd (cc (e))
+  state_rests f d left h (Some s) r e = by (nat_le printed.nodes left) e
+    where
+      printed : Printed
+      printed = state_text k.words d space s
+
+      by : (b : Bool) → (if b then node_of_kind d (suc f - left + printed.nodes) (kind_of s printed.bytes) else None) ≡ Some r → Rests k space r.config
+      by true e = kind_rests d h (suc f - left + printed.nodes) (kind_of s printed.bytes) r e
+      by false e = absurd (cc (e))
+
+  run_rests : (f : ℕ) (c : Configuration) → IsSettled k.statements c → (o : Ran) → run k space c f ≡ o → (r : Reached Configuration Outcome) → node_of_run k space (suc f) o ≡ Some r → Rests k space r.config
+  run_rests f c h (Ended d left) ran r e = state_rests f d left (rest_law k space c f d left h ran) (state k.statements d.layers space) r e
+  run_rests f c h (TopRaised d left exception) ran r e = absurd (cc (e))
+  run_rests f c h (Over d) ran r e = absurd (cc (e))
+
+  node_rests : (f : ℕ) (c : Configuration) → IsSettled k.statements c → (r : Reached Configuration Outcome) → node_at k space f c ≡ Some r → Rests k space r.config
+  node_rests zero c h r e = absurd (cc (e))
+  node_rests (suc f) c h r e = run_rests f c h (run k space c f) refl r e
+
+  last_rests : (at : ℕ) (o : Option (Reached Configuration Outcome)) (r : Reached Configuration Outcome) → met_last outcomes at o ≡ Node r → o ≡ Some r
+  last_rests at None r e = absurd (cc (e))
+  last_rests at (Some x) r e = ap Some (same_node x r e)
+
+  kind_goes : (at b : ℕ) (kind : Kind Outcome) (next : Met Configuration Outcome) (r : Reached Configuration Outcome) → met_by_kind outcomes at b kind next ≡ Node r → next ≡ Node r
+  kind_goes at b (Alternatives n) next r e = by (is_among outcomes n b) e
+    where
+      by : (t : Bool) → (if t then next else NotANode (suc at)) ≡ Node r → next ≡ Node r
+      by true e = e
+      by false e = absurd (cc (e))
+  kind_goes at b (End l) next r e = absurd (cc (e))
+
+  next_goes : (at b : ℕ) (next : Configuration → Met Configuration Outcome) (o : Option (Reached Configuration Outcome)) (r : Reached Configuration Outcome) → met_next outcomes at b next o ≡ Node r
+      → (x : Reached Configuration Outcome) × (o ≡ Some x) × (next x.config ≡ Node r)
+  next_goes at b next None r e = absurd (cc (e))
+  next_goes at b next (Some x) r e = (x, refl, kind_goes at b x.report.kind (next x.config) r e)
+
+  from_rests : (fuel at : ℕ) (c : Configuration) (p : List ℕ) → IsSettled k.statements c → (r : Reached Configuration Outcome) → met_from outcomes (maker k space) fuel at c p ≡ Node r → Rests k space r.config
+  from_rests fuel at c [] h r e = node_rests fuel c h r (last_rests at (node_at k space fuel c) r e)
+  from_rests fuel at c (b ∷ p) h r e =
+      let next = next_goes at b (λ d. met_from outcomes (maker k space) fuel (suc at) (chosen_in k.statements space b d) p) (node_at k space fuel c) r e in
+      let here = node_rests fuel c h next.0 next.1 in
+      from_rests fuel (suc at) (chosen_in k.statements space b next.0.config) p (chosen_law k.statements space b next.0.config here.1) r next.2
+
+pub nodes_law : NodesLaw
+nodes_law k space c fuel p node h e = from_rests k space fuel 0 c p h node e

@@ -1,0 +1,68 @@
+//! Tests.
+use super::*;
+use crate::node::width;
+use oz_base::SpaceName;
+use oz_language::{Constant, Literal};
+use oz_semantics::{RaiseKind, Tell, Value};
+use std::test::Fail;
+
+fn atom_at(nodes: &[Node], place: usize) -> Option<u32> {
+    match nodes.get(place) {
+        Some(Node::Leaf(Constant::Literal(Literal::Atom(word)))) => Some(*word),
+        _ => None,
+    }
+}
+
+fn width_at(nodes: &[Node], place: usize) -> Option<usize> {
+    match nodes.get(place) {
+        Some(node) => Some(width(node)),
+        None => None,
+    }
+}
+
+/// The number of the last field of the record that a variable is told to be.
+fn last_field(tells: &[Tell], place: usize) -> Option<u64> {
+    let Some(Tell::Is { value, .. }) = tells.get(place) else {
+        return None;
+    };
+    let Value::Record(record) = value else {
+        return None;
+    };
+    match record.get().fields.as_slice().last() {
+        Some(field) => Some(field.number),
+        None => None,
+    }
+}
+
+#[test]
+fn makes_the_exception_of_a_child_that_shows(rt: HostRuntime) -> Result<(), Fail> {
+    let nodes = term(rt.alloc(), RaiseKind::GlobalIo)?;
+    assert_eq!(rt; nodes.len(), 4);
+    assert_eq!(rt; width_at(&nodes, 0), Some(1));
+    assert_eq!(rt; width_at(&nodes, 1), Some(2));
+    assert_eq!(rt; atom_at(&nodes, 2), Some(46));
+    assert_eq!(rt; atom_at(&nodes, 3), Some(49));
+    Ok(())
+}
+
+#[test]
+fn tells_a_list_of_two(rt: HostRuntime) -> Result<(), Fail> {
+    let alloc = rt.alloc();
+    let nodes = list_term(alloc, &[Constant::Int(7), Constant::Int(8)])?;
+    assert_eq!(rt; nodes.len(), 5);
+    let made = new_term(alloc, &SpaceName::top(), 10, &nodes)?;
+    assert_eq!(rt; made.variable.number, 10);
+    assert_eq!(rt; made.tells.len(), 5);
+    assert_eq!(rt; last_field(&made.tells, 0), Some(12));
+    assert_eq!(rt; last_field(&made.tells, 2), Some(14));
+    assert_eq!(rt; last_field(&made.tells, 4), None);
+    Ok(())
+}
+
+#[test]
+fn ends_where_numbers_end(rt: HostRuntime) -> Result<(), Fail> {
+    let alloc = rt.alloc();
+    let nodes = list_term(alloc, &[Constant::Int(7)])?;
+    assert!(rt; new_term(alloc, &SpaceName::top(), u64::MAX - 2, &nodes).is_err());
+    Ok(())
+}

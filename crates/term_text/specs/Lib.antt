@@ -1,0 +1,4 @@
+pub mod Operands
+pub mod Pending
+pub mod Placing
+pub mod TextWithin

@@ -1,0 +1,11 @@
+//! The text of a term: nested records, lists with `|` and rows with `#`, and `^K` where a record leads back to one that encloses it.
+#![tactic(auto)]
+
+mod nesting;
+mod operands;
+mod printer;
+mod terms;
+#[cfg(test)]
+mod tests;
+
+pub use terms::{Text, term_text};

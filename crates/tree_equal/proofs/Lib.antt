@@ -1,0 +1,12 @@
+mod Members
+mod Forests
+mod Told
+mod Pairs
+mod Naming
+mod Joining
+mod Weighing
+mod Ending
+mod Taking
+mod Partition
+mod Looping
+mod AtOnce

@@ -1,0 +1,10 @@
+//! Equality of rational trees: whether a store decides that two variables are equal.
+#![tactic(auto)]
+
+mod equality;
+mod joined;
+mod meeting;
+#[cfg(test)]
+mod tests;
+
+pub use equality::{Equality, test};

@@ -1,0 +1,6 @@
+pub mod Touched
+pub mod Sights
+pub mod Trees
+pub mod Readies
+pub mod Queues
+pub mod Steps
