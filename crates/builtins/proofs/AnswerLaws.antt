@@ -1,0 +1,105 @@
+-- Answers by what they say, and by the first of their arguments.
+use Rattle.std.proofs.Common.{◌≡◌, ◌<◌, ◌∷◌, [], ℕ, refl, sym, ap, ◌∙◌, Result, Ok, Err, IfOk, List, length, get_or, subst, if◌then◌else◌, eq-eqb, arith, lit<}
+use Rattle.oz_base.specs.declared.names.Ident.{Ident}
+use Rattle.oz_language.specs.declared.kernel.Operation.{Operation}
+use Rattle.oz_language.specs.declared.kernel.Operation.TheVariants as operation
+use Rattle.oz_language.specs.declared.kernel.Statement.{Statement}
+use Rattle.oz_semantics.specs.Store.{View}
+use Rattle.oz_semantics.specs.Sights.{Sight}
+use Rattle.oz_semantics.specs.Answers as answers
+use Rattle.oz_semantics.specs.Answers.{argument}
+use Rattle.oz_semantics.specs.Builtins.{operands_of, arguments_of, of_operation, answer, call_answer}
+use Rattle.oz_semantics.specs.declared.value.Builtin.{Builtin}
+use Rattle.oz_semantics.specs.declared.value.Builtin.TheVariants as builtin
+use Rattle.oz_semantics.specs.declared.outcome.RaiseKind.TheVariants as raise
+use Rattle.builtins.specs.Answers.{IsAnswer}
+use Rattle.builtins.specs.Exact.{answer_of, erased}
+use Rattle.builtins.specs.Looks.{Given}
+use Rattle.builtins.specs.declared.answer.Answer.{Answer}
+use Rattle.builtins.specs.declared.answer.Answer.TheVariants as said
+
+-- what says the same but for a rest is the answer
+pub is_answer : (a : answers.Answer) (r : Answer) → answer_of r ≡ erased a → IsAnswer a r
+is_answer (answers.Acts b) (said.Acts c) e = sym e
+is_answer (answers.RaisesKind k) (said.RaisesKind l) e = sym e
+is_answer (answers.RaisesTerm x) (said.RaisesTerm y) e = sym e
+is_answer (answers.Rests ready) said.Rests e = (ready, refl)
+is_answer (answers.Rests ready) (said.Acts c) e = cc
+is_answer (answers.Rests ready) (said.RaisesKind l) e = cc
+is_answer (answers.Rests ready) (said.RaisesTerm y) e = cc
+is_answer (answers.Acts b) (said.RaisesKind l) e = cc
+is_answer (answers.Acts b) (said.RaisesTerm y) e = cc
+is_answer (answers.Acts b) said.Rests e = cc
+is_answer (answers.RaisesKind k) (said.Acts c) e = cc
+is_answer (answers.RaisesKind k) (said.RaisesTerm y) e = cc
+is_answer (answers.RaisesKind k) said.Rests e = cc
+is_answer (answers.RaisesTerm x) (said.Acts c) e = cc
+is_answer (answers.RaisesTerm x) (said.RaisesKind l) e = cc
+is_answer (answers.RaisesTerm x) said.Rests e = cc
+
+one_below : 1 < 2
+one_below = lit< tt
+
+one_below_three : 1 < 3
+one_below_three = lit< tt
+
+two_below : 2 < 3
+two_below = lit< tt
+
+all_three : (view : View) (op : Operation) (x y z : Ident) (f : ℕ → Ident) → f 0 ≡ x → f 1 ≡ y → f 2 ≡ z → of_operation view op (f 0) (f 1) (f 2) ≡ of_operation view op x y z
+all_three view op x y z f h k l =
+    ap (λ a. of_operation view op a (f 1) (f 2)) h ∙ ap (λ a. of_operation view op x a (f 2)) k ∙ ap (λ a. of_operation view op x y a) l
+
+-- an operator, by its arguments
+of_given : (view : View) (op : Operation) (x y z : Ident) (f : ℕ → Ident) → Given (builtin.Operation op) x y z f → of_operation view op (f 0) (f 1) (f 2) ≡ of_operation view op x y z
+of_given view operation.Bound x y z f g = refl
+of_given view operation.BoundEach x y z f g = refl
+of_given view op x y z f g = all_three view op x y z f g.first (g.second one_below_three) (g.third two_below)
+
+-- a built-in reads no more arguments than it takes
+pub answer_of_given : (s : Sight) (b : Builtin) (x y z : Ident) (f : ℕ → Ident) → Given b x y z f → answer s b f ≡ answer s b (argument (x ∷ y ∷ z ∷ []))
+answer_of_given s (builtin.Operation op) x y z f g = of_given s.view op x y z f g
+answer_of_given s builtin.Label x y z f g = ap (λ a. answer s builtin.Label (argument (a ∷ f 1 ∷ z ∷ []))) g.first ∙ ap (λ a. answer s builtin.Label (argument (x ∷ a ∷ z ∷ []))) (g.second one_below)
+answer_of_given s builtin.Width x y z f g = ap (λ a. answer s builtin.Width (argument (a ∷ f 1 ∷ z ∷ []))) g.first ∙ ap (λ a. answer s builtin.Width (argument (x ∷ a ∷ z ∷ []))) (g.second one_below)
+answer_of_given s builtin.Arity x y z f g = ap (λ a. answer s builtin.Arity (argument (a ∷ f 1 ∷ z ∷ []))) g.first ∙ ap (λ a. answer s builtin.Arity (argument (x ∷ a ∷ z ∷ []))) (g.second one_below)
+answer_of_given s builtin.Wait x y z f g = ap (λ a. answer s builtin.Wait (argument (a ∷ y ∷ z ∷ []))) g.first
+answer_of_given s builtin.Show x y z f g = ap (λ a. answer s builtin.Show (argument (a ∷ y ∷ z ∷ []))) g.first
+
+-- what the first arguments answer
+pub given_so : {E : Type 0} (space : List ℕ) (view : View) (b : Builtin) (x y z : Ident) (r : Result Answer E)
+    → IfOk r (λ a. (statements : List Statement) → answer_of a ≡ erased (answer (record { statements = statements; space = space; view = view }) b (argument (x ∷ y ∷ z ∷ []))))
+    → IfOk r (λ a. (statements : List Statement) (given : ℕ → Ident) → Given b x y z given → IsAnswer (answer (record { statements = statements; space = space; view = view }) b given) a)
+given_so space view b x y z (Err e) h = tt
+given_so space view b x y z (Ok a) h = λ statements given g.
+    let s : Sight = record { statements = statements; space = space; view = view } in
+    is_answer (answer s b given) a (h statements ∙ sym (ap erased (answer_of_given s b x y z given g)))
+
+-- each built-in takes an argument
+pub takes_one : (b : Builtin) → 0 < arguments_of b
+takes_one (builtin.Operation op) = operator_takes op
+  where
+    operator_takes : (op : Operation) → 0 < operands_of op
+    operator_takes operation.Bound = lit< tt
+    operator_takes operation.BoundEach = lit< tt
+    operator_takes op = lit< tt
+takes_one builtin.Label = lit< tt
+takes_one builtin.Width = lit< tt
+takes_one builtin.Arity = lit< tt
+takes_one builtin.Wait = lit< tt
+takes_one builtin.Show = lit< tt
+
+-- a call with as many arguments as the built-in takes
+pub call_is : (s : Sight) (b : Builtin) (xs : List Ident) → length xs ≡ arguments_of b → call_answer s b xs ≡ answer s b (argument xs)
+call_is s b xs e = ap (λ t. if t then answer s b (argument xs) else answers.RaisesKind raise.Arity) (eq-eqb (length xs) (arguments_of b) e)
+
+pub first_argument : (xs : List Ident) (x : Ident) → 0 < length xs → x ≡ get_or xs 0 x → argument xs 0 ≡ x
+first_argument [] x h e = absurd (omega arith)
+first_argument (a ∷ xs) x h e = sym e
+
+-- the arguments begin with these
+pub given_in : (b : Builtin) (xs : List Ident) (x y z : Ident) → length xs ≡ arguments_of b → x ≡ get_or xs 0 x → (1 < length xs → y ≡ argument xs 1) → (2 < length xs → z ≡ argument xs 2) → Given b x y z (argument xs)
+given_in b xs x y z e f g h = record {
+  first = first_argument xs x (subst (λ n. 0 < n) (sym e) (takes_one b)) f;
+  second = λ k. sym (g (subst (λ n. 1 < n) (sym e) k));
+  third = λ k. sym (h (subst (λ n. 2 < n) (sym e) k));
+}

@@ -1,0 +1,146 @@
+-- What calls of built-ins wait for is their inputs alone.
+use Rattle.std.proofs.Common.{◌≡◌, ◌<◌, ◌∷◌, [], ℕ, ℤ, refl, sym, ap, ◌∙◌, Bool, true, false, Option, Some, None, Result, Ok, Err, IfOk, List, length, subst, lit<, get_or, arith, if◌then◌else◌}
+use Rattle.std.specs.List.{list_any}
+use Rattle.oz_base.specs.Numbers.{sum, difference, product, quotient, remainder}
+use Rattle.oz_base.specs.declared.names.Ident.{Ident}
+use Rattle.oz_base.specs.declared.numbers.NumFault.{NumFault}
+use Rattle.oz_base.specs.declared.numbers.NumFault.TheVariants as faults
+use Rattle.oz_language.specs.declared.kernel.Operation.{Operation}
+use Rattle.oz_language.specs.declared.kernel.Operation.TheVariants as operation
+use Rattle.oz_language.specs.declared.kernel.Statement.{Statement}
+use Rattle.oz_semantics.specs.Names.{is_top}
+use Rattle.oz_semantics.specs.Values.{fields_of, constant_in, integer_in}
+use Rattle.oz_semantics.specs.Store.{View, value_of, same}
+use Rattle.oz_semantics.specs.Sights.{Sight, Readiness, Steps, Waits}
+use Rattle.oz_semantics.specs.Answers.{Answer, Acts, RaisesKind, Shows, gives_constant, given, argument, with_value, of_kind}
+use Rattle.oz_semantics.specs.Builtins.{arguments_of, gives_number, gives_field, field_at, selects, label_in, arity_in, of_operation, answer}
+use Rattle.oz_semantics.specs.Readiness.{answer_ready}
+use Rattle.oz_semantics.specs.declared.value.Value.{Value}
+use Rattle.oz_semantics.specs.declared.value.Builtin.{Builtin}
+use Rattle.oz_semantics.specs.declared.value.Builtin.TheVariants as builtin
+use Rattle.oz_semantics.specs.declared.outcome.RaiseKind.TheVariants as raise
+use Rattle.builtins.specs.Answers.{IsReady}
+use Rattle.builtins.specs.Looks.{Inputs, ready_by, awaiting}
+use Rattle.builtins.specs.declared.answer.Readiness as said
+use Rattle.tree_equal.specs.Answers.{SameClasses}
+use Rattle.builtins.proofs.AnswerLaws.{takes_one, first_argument}
+
+-- What looks at kinds steps
+
+kind_steps : {A : Type 0} (o : Option A) (go : A → Answer) → ((a : A) → answer_ready (go a) ≡ Steps) → answer_ready (of_kind o go) ≡ Steps
+kind_steps None go h = refl
+kind_steps (Some a) go h = h a
+
+kinds_step : {A B : Type 0} (o : Option A) (p : Option B) (go : A → B → Answer) → ((a : A) (b : B) → answer_ready (go a b) ≡ Steps) → answer_ready (of_kind o (λ a. of_kind p (go a))) ≡ Steps
+kinds_step o p go h = kind_steps o (λ a. of_kind p (go a)) (λ a. kind_steps p (go a) (h a))
+
+number_steps : (z : Ident) (r : Result ℤ NumFault) → answer_ready (gives_number z r) ≡ Steps
+number_steps z (Ok i) = refl
+number_steps z (Err faults.Overflow) = refl
+number_steps z (Err faults.DivZero) = refl
+
+field_steps : (z : Ident) (o : Option Ident) → answer_ready (gives_field z o) ≡ Steps
+field_steps z (Some x) = refl
+field_steps z None = refl
+
+selects_steps : (z : Ident) (v w : Value) → answer_ready (selects z v w) ≡ Steps
+selects_steps z v w = kinds_step (arity_in v) (constant_in w) (λ features f. gives_field z (field_at features (fields_of v) f)) (λ features f. field_steps z (field_at features (fields_of v) f))
+
+-- What has inputs waits for these, and then steps
+
+one_waits : (x : Ident) (o : Option Value) (go : Value → Answer) → ((v : Value) → answer_ready (go v) ≡ Steps) → answer_ready (given x o go) ≡ awaiting x o Steps
+one_waits x None go h = refl
+one_waits x (Some v) go h = h v
+
+two_wait : (x y : Ident) (o p : Option Value) (go : Value → Value → Answer) → ((v w : Value) → answer_ready (go v w) ≡ Steps)
+    → answer_ready (given x o (λ v. given y p (go v))) ≡ awaiting x o (awaiting y p Steps)
+two_wait x y None p go h = refl
+two_wait x y (Some v) p go h = one_waits y p (go v) (h v)
+
+integers_wait : (view : View) (x y : Ident) (go : ℤ → ℤ → Answer) → ((i j : ℤ) → answer_ready (go i j) ≡ Steps)
+    → answer_ready (with_value view x (λ v. with_value view y (λ w. of_kind (integer_in v) (λ i. of_kind (integer_in w) (go i)))))
+    ≡ awaiting x (value_of view x) (awaiting y (value_of view y) Steps)
+integers_wait view x y go h =
+    two_wait x y (value_of view x) (value_of view y) (λ v w. of_kind (integer_in v) (λ i. of_kind (integer_in w) (go i))) (λ v w. kinds_step (integer_in v) (integer_in w) go h)
+
+-- an operator on the values of its inputs
+pub operator_waits : (view : View) (op : Operation) (x y z : Ident) → (op ≡ operation.Same → ⊥) → (op ≡ operation.Differs → ⊥) → (op ≡ operation.Bound → ⊥) → (op ≡ operation.BoundEach → ⊥)
+    → answer_ready (of_operation view op x y z) ≡ awaiting x (value_of view x) (awaiting y (value_of view y) Steps)
+operator_waits view operation.Same x y z a b c d = absurd (a refl)
+operator_waits view operation.Differs x y z a b c d = absurd (b refl)
+operator_waits view operation.Bound x y z a b c d = absurd (c refl)
+operator_waits view operation.BoundEach x y z a b c d = absurd (d refl)
+operator_waits view operation.Less x y z a b c d = integers_wait view x y _ (λ i j. refl)
+operator_waits view operation.AtMost x y z a b c d = integers_wait view x y _ (λ i j. refl)
+operator_waits view operation.Greater x y z a b c d = integers_wait view x y _ (λ i j. refl)
+operator_waits view operation.AtLeast x y z a b c d = integers_wait view x y _ (λ i j. refl)
+operator_waits view operation.Plus x y z a b c d = integers_wait view x y (λ i j. gives_number z (sum i j)) (λ i j. number_steps z (sum i j))
+operator_waits view operation.Minus x y z a b c d = integers_wait view x y (λ i j. gives_number z (difference i j)) (λ i j. number_steps z (difference i j))
+operator_waits view operation.Times x y z a b c d = integers_wait view x y (λ i j. gives_number z (product i j)) (λ i j. number_steps z (product i j))
+operator_waits view operation.Div x y z a b c d = integers_wait view x y (λ i j. gives_number z (quotient i j)) (λ i j. number_steps z (quotient i j))
+operator_waits view operation.Mod x y z a b c d = integers_wait view x y (λ i j. gives_number z (remainder i j)) (λ i j. number_steps z (remainder i j))
+operator_waits view operation.Select x y z a b c d = two_wait x y (value_of view x) (value_of view y) (selects z) (selects_steps z)
+
+-- a built-in with one input
+pub label_waits : (s : Sight) (f : ℕ → Ident) → answer_ready (answer s builtin.Label f) ≡ awaiting (f 0) (value_of s.view (f 0)) Steps
+label_waits s f = one_waits (f 0) (value_of s.view (f 0)) (λ v. of_kind (label_in v) (gives_constant (f 1))) (λ v. kind_steps (label_in v) (gives_constant (f 1)) (λ c. refl))
+
+pub width_waits : (s : Sight) (f : ℕ → Ident) → answer_ready (answer s builtin.Width f) ≡ awaiting (f 0) (value_of s.view (f 0)) Steps
+width_waits s f = one_waits (f 0) (value_of s.view (f 0)) _ (λ v. kind_steps (arity_in v) _ (λ fs. refl))
+
+pub arity_waits : (s : Sight) (f : ℕ → Ident) → answer_ready (answer s builtin.Arity f) ≡ awaiting (f 0) (value_of s.view (f 0)) Steps
+arity_waits s f = one_waits (f 0) (value_of s.view (f 0)) _ (λ v. kind_steps (arity_in v) _ (λ fs. refl))
+
+pub wait_waits : (s : Sight) (f : ℕ → Ident) → answer_ready (answer s builtin.Wait f) ≡ awaiting (f 0) (value_of s.view (f 0)) Steps
+wait_waits s f = one_waits (f 0) (value_of s.view (f 0)) _ (λ v. refl)
+
+pub show_steps : (s : Sight) (f : ℕ → Ident) → answer_ready (answer s builtin.Show f) ≡ Steps
+show_steps s f = by (is_top s.space)
+  where
+    by : (b : Bool) → answer_ready (if b then Acts (Shows (f 0)) else RaisesKind raise.GlobalIo) ≡ Steps
+    by true = refl
+    by false = refl
+
+-- What is ready, by another word for it
+
+pub waits_for : (view : View) (o : Option Ident) (x : Ident) (xs : List Ident) → o ≡ Some x → xs ≡ x ∷ [] → (ys : List Ident) × (ready_by o ≡ Waits ys) × SameClasses view xs ys
+waits_for view o x xs e h = (x ∷ [], ap ready_by e, λ z. ap (list_any (same view z)) h)
+
+pub ready_so : {E : Type 0} (view : View) (p q : Readiness) (r : Result said.Readiness E) → p ≡ q → IfOk r (λ s. (v : View) → IsReady v p s) → IfOk r (IsReady view q)
+ready_so view p q (Ok s) e h = subst (λ w. IsReady view w s) e (h view)
+ready_so view p q (Err f) e h = tt
+
+-- by the inputs that are given
+pub ready_one_input : {E : Type 0} (view : View) (b c : Builtin) (x y : Ident) (r : Result said.Readiness E) → b ≡ c → ((s : Sight) (f : ℕ → Ident) → answer_ready (answer s c f) ≡ awaiting (f 0) (value_of s.view (f 0)) Steps)
+    → IfOk r (IsReady view (awaiting x (value_of view x) Steps))
+    → IfOk r (λ r. (statements : List Statement) (space : List ℕ) (given : ℕ → Ident) → Inputs b x y given → IsReady view (answer_ready (answer (record { statements = statements; space = space; view = view }) b given)) r)
+ready_one_input view b c x y (Ok r) e law h = λ statements space f i.
+    let s : Sight = record { statements = statements; space = space; view = view } in
+    subst (λ w. IsReady view w r) (sym (ap (λ d. answer_ready (answer s d f)) e ∙ law s f ∙ ap (λ a. awaiting a (value_of view a) Steps) i.first)) h
+ready_one_input view b c x y (Err f) e law h = tt
+
+both : (view : View) (op : Operation) (x y z a b : Ident) → a ≡ x → b ≡ y → of_operation view op a b z ≡ of_operation view op x y z
+both view op x y z a b h k = ap (λ c. of_operation view op c b z) h ∙ ap (λ c. of_operation view op x c z) k
+
+two_below : 2 < 3
+two_below = lit< tt
+
+by_inputs : (view : View) (op : Operation) (x y : Ident) (f : ℕ → Ident) → Inputs (builtin.Operation op) x y f → of_operation view op (f 0) (f 1) (f 2) ≡ of_operation view op x y (f 2)
+by_inputs view operation.Bound x y f i = refl
+by_inputs view operation.BoundEach x y f i = refl
+by_inputs view op x y f i = both view op x y (f 2) (f 0) (f 1) i.first (i.second two_below)
+
+pub ready_two_inputs : {E : Type 0} (view : View) (b : Builtin) (op : Operation) (x y : Ident) (r : Result said.Readiness E) → b ≡ builtin.Operation op
+    → IfOk r (λ r. (z : Ident) → IsReady view (answer_ready (of_operation view op x y z)) r)
+    → IfOk r (λ r. (statements : List Statement) (space : List ℕ) (given : ℕ → Ident) → Inputs b x y given → IsReady view (answer_ready (answer (record { statements = statements; space = space; view = view }) b given)) r)
+ready_two_inputs view b op x y (Ok r) e h = λ statements space f i.
+    let s : Sight = record { statements = statements; space = space; view = view } in
+    let i' : Inputs (builtin.Operation op) x y f = subst (λ d. Inputs d x y f) e i in
+    subst (λ w. IsReady view w r) (sym (ap (λ d. answer_ready (answer s d f)) e ∙ ap answer_ready (by_inputs view op x y f i'))) (h (f 2))
+ready_two_inputs view b op x y (Err f) e h = tt
+
+pub inputs_in : (b : Builtin) (xs : List Ident) (x y : Ident) → length xs ≡ arguments_of b → x ≡ get_or xs 0 x → (1 < length xs → y ≡ argument xs 1) → Inputs b x y (argument xs)
+inputs_in b xs x y e f g = record {
+  first = first_argument xs x (subst (λ n. 0 < n) (sym e) (takes_one b)) f;
+  second = λ k. let k' : 2 < length xs = subst (λ n. 2 < n) (sym e) k in sym (g (omega arith));
+}

@@ -1,0 +1,23 @@
+use Rattle.oz_semantics.specs.declared.value.Builtin.TheVariants.{Label, Width, Arity, Wait}
+use Rattle.builtins.proofs.ReadyLaws.{ready_one_input, ready_two_inputs, label_waits, width_waits, arity_waits, wait_waits}
+use Rattle.builtins.proofs.readiness.ready_given.Goals as goal
+
+pub returns-in-Operation : goal.returns-in-Operation
+returns-in-Operation c =
+    ready_two_inputs c.args.store.now c.args.builtin c.in-Operation.operation c.args.first.now c.args.second.now c.ready_operation.result c.in-Operation.is c.ready_operation.ensures
+
+pub returns-in-Label : goal.returns-in-Label
+returns-in-Label c =
+    ready_one_input c.args.store.now c.args.builtin Label c.args.first.now c.args.second.now c.ready_one.result c.in-Label.is label_waits c.ready_one.ensures
+
+pub returns-in-Width : goal.returns-in-Width
+returns-in-Width c =
+    ready_one_input c.args.store.now c.args.builtin Width c.args.first.now c.args.second.now c.ready_one-in-Width.result c.in-Width.is width_waits c.ready_one-in-Width.ensures
+
+pub returns-in-Arity : goal.returns-in-Arity
+returns-in-Arity c =
+    ready_one_input c.args.store.now c.args.builtin Arity c.args.first.now c.args.second.now c.ready_one-in-Arity.result c.in-Arity.is arity_waits c.ready_one-in-Arity.ensures
+
+pub returns-in-Wait : goal.returns-in-Wait
+returns-in-Wait c =
+    ready_one_input c.args.store.now c.args.builtin Wait c.args.first.now c.args.second.now c.ready_one-in-Wait.result c.in-Wait.is wait_waits c.ready_one-in-Wait.ensures

@@ -1,0 +1,43 @@
+-- What an answer says.
+use Rattle.std.specs.Prelude.{◌≡◌, List, []}
+use Rattle.oz_base.specs.declared.names.Ident.{Ident}
+use Rattle.oz_semantics.specs.Store.{View}
+use Rattle.oz_semantics.specs.Terms.{list_term}
+use Rattle.oz_semantics.specs.Sights as sights
+use Rattle.oz_semantics.specs.Sights.{Offer, count_of}
+use Rattle.oz_semantics.specs.Answers as answers
+use Rattle.tree_equal.specs.Answers.{SameClasses}
+use Rattle.builtins.specs.declared.answer.Act.{Act}
+use Rattle.builtins.specs.declared.answer.Act.TheVariants as act
+use Rattle.builtins.specs.declared.answer.Answer.{Answer}
+use Rattle.builtins.specs.declared.answer.Answer.TheVariants as answer
+use Rattle.builtins.specs.declared.answer.Readiness.{Readiness}
+use Rattle.builtins.specs.declared.answer.Readiness.TheVariants as readiness
+
+abbrev pub act_of : Act → answers.Act
+act_of act.Passes = answers.Passes
+act_of (act.GoesOn frames) = answers.GoesOn frames
+act_of (act.Declares environment names body) = answers.Declares environment names body
+act_of (act.Starts frames) = answers.Starts frames
+act_of (act.GivesValue x v) = answers.GivesValue x v
+act_of (act.GivesList x items) = answers.GivesTerm x (list_term items)
+act_of (act.GivesVariable x y) = answers.GivesVariable x y
+act_of (act.MakesProcedure x parameters body environment) = answers.MakesProcedure x parameters body environment
+act_of (act.Shows x) = answers.Shows x
+
+-- a step does just this
+abbrev pub IsAct : answers.Act → Act → Type 0
+IsAct a b = a ≡ act_of b
+
+-- an answer is this, but that it may rest for anything
+abbrev pub IsAnswer : answers.Answer → Answer → Type 0
+IsAnswer a (answer.Acts b) = a ≡ answers.Acts (act_of b)
+IsAnswer a (answer.RaisesKind kind) = a ≡ answers.RaisesKind kind
+IsAnswer a (answer.RaisesTerm x) = a ≡ answers.RaisesTerm x
+IsAnswer a answer.Rests = (ready : sights.Readiness) × (a ≡ answers.Rests ready)
+
+-- a thread can do this; a class that is waited for may be named by any variable of it, and more than once
+abbrev pub IsReady : View → sights.Readiness → Readiness → Type 0
+IsReady view ready readiness.Steps = ready ≡ sights.Steps
+IsReady view ready (readiness.Waits xs) = (ys : List Ident) × (ready ≡ sights.Waits ys) × SameClasses view xs ys
+IsReady view ready (readiness.Offers n) = (offer : Offer) × (ready ≡ sights.Offers offer []) × (n ≡ count_of offer)

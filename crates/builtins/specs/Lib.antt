@@ -1,0 +1,4 @@
+pub mod Answers
+pub mod Exact
+pub mod Looks
+pub mod Tables

@@ -1,0 +1,69 @@
+//! What a statement answers: it acts, raises an exception, or can't step yet (CTM 2.4).
+use environments::Environment;
+use oz_base::{Ident, Sequence};
+use oz_language::{Constant, Identifier};
+use oz_semantics::{Frame, RaiseKind, Value};
+
+/// What a step does, in words of the thread and of its space.
+#[derive(Drop)]
+pub enum Act {
+    /// Nothing.
+    Passes,
+    /// These go on, before what is left of the stack.
+    GoesOn(Sequence<Frame>),
+    /// A body goes on, in which these identifiers stand for new variables.
+    Declares {
+        environment: Environment,
+        names: Sequence<Identifier>,
+        body: Sequence<u32>,
+    },
+    /// A new thread with these.
+    Starts(Sequence<Frame>),
+    /// The variable is this value.
+    GivesValue {
+        variable: Ident,
+        value: Value,
+    },
+    /// The variable is the list of these.
+    GivesList {
+        variable: Ident,
+        items: Sequence<Constant>,
+    },
+    /// The variable is what the other is.
+    GivesVariable {
+        variable: Ident,
+        other: Ident,
+    },
+    /// The variable is a new procedure.
+    MakesProcedure {
+        variable: Ident,
+        parameters: Sequence<Identifier>,
+        body: Sequence<u32>,
+        environment: Environment,
+    },
+    /// The text of the variable is shown.
+    Shows(Ident),
+}
+
+/// What a statement answers.
+#[derive(Drop)]
+pub enum Answer {
+    /// A step.
+    Acts(Act),
+    /// A step too: an exception of the machine.
+    RaisesKind(RaiseKind),
+    /// And the exception that is the term of the variable.
+    RaisesTerm(Ident),
+    /// It can't step yet.
+    Rests,
+}
+
+/// What a statement can do where it stands.
+#[derive(Drop)]
+pub enum Readiness {
+    Steps,
+    /// It waits until one of these variables is determined, or becomes equal to another.
+    Waits(Sequence<Ident>),
+    /// It offers so many alternatives, and waits for nothing.
+    Offers(u64),
+}

@@ -1,0 +1,23 @@
+//! What steps are made of, and what the built-in procedures answer.
+//!
+//! `answer` has the types of answers. The built-ins answer by what the store says of the variables that they are called with, in
+//! a time that grows with what their operands are alone. `ready_given` and `ready_call` say whether they can step, and build no
+//! answer.
+#![tactic(auto)]
+
+mod answer;
+mod calls;
+mod given;
+mod integers;
+mod operations;
+mod readiness;
+mod records;
+mod table;
+
+pub use answer::{Act, Answer, Readiness};
+pub use calls::{answer_call, answer_given, arguments_of};
+pub use readiness::{ready_by, ready_call, ready_given, ready_one};
+pub use table::{Row, rows};
+
+#[cfg(test)]
+mod tests;

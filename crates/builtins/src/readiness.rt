@@ -1,0 +1,157 @@
+//! Whether calls of built-ins can step.
+ghost use Rattle.std.specs.Prelude.{◌≡◌, ◌∷◌, [], ℕ, Bool, List, IfOk, option_copied};
+ghost use Rattle.oz_base.specs.declared.names.Ident.{Ident};
+ghost use Rattle.oz_language.specs.declared.kernel.Statement.{Statement};
+ghost use Rattle.oz_semantics.specs.Store.{View, value_of};
+ghost use Rattle.oz_semantics.specs.Entailment.{equality};
+ghost use Rattle.oz_semantics.specs.Sights.{Steps};
+ghost use Rattle.oz_semantics.specs.Builtins.{of_equality, of_operation, answer, call_answer};
+ghost use Rattle.oz_semantics.specs.Readiness.{answer_ready};
+ghost use Rattle.builtins.specs.Answers.{IsReady};
+ghost use Rattle.builtins.specs.Looks.{Inputs, ready_by, awaiting};
+
+use crate::answer::Readiness;
+use crate::calls::{argument_or, arguments_of};
+use oz_base::{Copies, Ident, Sequence};
+use oz_language::Operation;
+use oz_semantics::Builtin;
+use std::alloc::{AllocError, Global};
+use term_store::Store;
+use tree_equal::{Equality, test};
+
+/// An input that has no value.
+fn awaited<'a>(store: &Store, input: &'a Ident) -> Option<&'a Ident>
+    ensures { ready_by (option_copied result) ≡ awaiting input.now (value_of store.now input.now) Steps }
+{
+    match store.value(input) {
+        None => Some(input),
+        Some(_) => None,
+    }
+}
+
+/// The first of two inputs that has no value.
+fn awaited_of_two<'a>(store: &Store, left: &'a Ident, right: &'a Ident) -> Option<&'a Ident>
+    ensures { ready_by (option_copied result) ≡ awaiting left.now (value_of store.now left.now) (awaiting right.now (value_of store.now right.now) Steps) }
+{
+    match store.value(left) {
+        None => Some(left),
+        Some(_) => awaited(store, right),
+    }
+}
+
+/// A list of one variable.
+fn single(alloc: Global, variable: &Ident) -> Result<Sequence<Ident>, AllocError>
+    ensures { IfOk result (λ xs. xs ≡ variable.now ∷ []) }
+{
+    let mut variables = Sequence::new(alloc);
+    variables.push(variable.copied(alloc)?)?;
+    Ok(variables)
+}
+
+/// It waits for this variable, if there is one, and else steps. It refuses where there is no memory.
+pub fn ready_by(alloc: Global, awaited: Option<&Ident>) -> Result<Readiness, AllocError>
+    ensures { IfOk result (λ r. (view : View) → IsReady view (ready_by (option_copied awaited.entry)) r) }
+{
+    match awaited {
+        None => Ok(Readiness::Steps),
+        Some(variable) => Ok(Readiness::Waits(single(alloc, variable)?)),
+    }
+}
+
+/// Whether two variables are equal.
+fn ready_equal(
+    alloc: Global,
+    store: &Store,
+    left: &Ident,
+    right: &Ident,
+) -> Result<Readiness, AllocError>
+    ensures { IfOk result (λ r. (z : Ident) (asked : Bool) → IsReady store.now (answer_ready (of_equality z asked (equality store.now left.now right.now))) r) }
+{
+    match test(alloc, store, left, right)? {
+        Equality::Entailed => Ok(Readiness::Steps),
+        Equality::Contradicted => Ok(Readiness::Steps),
+        Equality::Undecided(variables) => Ok(Readiness::Waits(variables)),
+    }
+}
+
+/// An operation on the values of two inputs.
+fn ready_two(
+    alloc: Global,
+    store: &Store,
+    left: &Ident,
+    right: &Ident,
+) -> Result<Readiness, AllocError>
+    ensures { IfOk result (IsReady store.now (awaiting left.now (value_of store.now left.now) (awaiting right.now (value_of store.now right.now) Steps))) }
+{
+    ready_by(alloc, awaited_of_two(store, left, right))
+}
+
+/// It waits for an input, where that has no value, and else steps. It refuses where there is no memory.
+pub fn ready_one(alloc: Global, store: &Store, input: &Ident) -> Result<Readiness, AllocError>
+    ensures { IfOk result (IsReady store.now (awaiting input.now (value_of store.now input.now) Steps)) }
+{
+    ready_by(alloc, awaited(store, input))
+}
+
+/// An operation with these inputs.
+fn ready_operation(
+    alloc: Global,
+    store: &Store,
+    operation: Operation,
+    left: &Ident,
+    right: &Ident,
+) -> Result<Readiness, AllocError>
+    ensures { IfOk result (λ r. (z : Ident) → IsReady store.now (answer_ready (of_operation store.now operation left.now right.now z)) r) }
+{
+    match operation {
+        Operation::Same => ready_equal(alloc, store, left, right),
+        Operation::Differs => ready_equal(alloc, store, left, right),
+        // Nothing lets these step.
+        Operation::Bound => Ok(Readiness::Waits(Sequence::new(alloc))),
+        Operation::BoundEach => Ok(Readiness::Waits(Sequence::new(alloc))),
+        _ => ready_two(alloc, store, left, right),
+    }
+}
+
+/// Whether a call with as many arguments as the built-in takes can step, by its inputs: the second is read where it takes two. It
+/// refuses where there is no memory, which it needs for tests of equality and for what it waits for alone.
+pub fn ready_given(
+    alloc: Global,
+    store: &Store,
+    builtin: Builtin,
+    first: &Ident,
+    second: &Ident,
+) -> Result<Readiness, AllocError>
+    ensures { IfOk result (λ r. (statements : List Statement) (space : List ℕ) (given : ℕ → Ident) → Inputs builtin first.now second.now given → IsReady store.now (answer_ready (answer (record { statements = statements; space = space; view = store.now }) builtin given)) r) }
+{
+    match builtin {
+        Builtin::Operation(operation) => ready_operation(alloc, store, operation, first, second),
+        Builtin::Label => ready_one(alloc, store, first),
+        Builtin::Width => ready_one(alloc, store, first),
+        Builtin::Arity => ready_one(alloc, store, first),
+        Builtin::Wait => ready_one(alloc, store, first),
+        Builtin::Show => Ok(Readiness::Steps),
+    }
+}
+
+/// Whether a call with these arguments can step. It refuses where there is no memory.
+pub fn ready_call(
+    alloc: Global,
+    store: &Store,
+    builtin: Builtin,
+    arguments: &[Ident],
+) -> Result<Readiness, AllocError>
+    ensures { IfOk result (λ r. (statements : List Statement) (space : List ℕ) → IsReady store.now (answer_ready (call_answer (record { statements = statements; space = space; view = store.now }) builtin arguments.now)) r) }
+{
+    if arguments.len() != arguments_of(builtin) {
+        return Ok(Readiness::Steps);
+    }
+    let first = &arguments[0];
+    ready_given(
+        alloc,
+        store,
+        builtin,
+        first,
+        argument_or(arguments, 1, first),
+    )
+}

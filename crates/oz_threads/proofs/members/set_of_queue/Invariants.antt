@@ -1,0 +1,8 @@
+use Rattle.std.proofs.Common.{◌≡◌, map}
+use Rattle.oz_base.specs.declared.names.Ident.{Ident}
+use Rattle.oz_semantics.specs.Settling.{is_among}
+use Rattle.oz_threads.proofs.members.set_of_queue.Given as goal
+
+-- the set has those passed so far
+abbrev pub invariant-loop-id : goal.invariant-loop-id
+invariant-loop-id l = (id : Ident) → is_among l.set.keys id ≡ is_among (map (λ x. x.now) l.yielded) id

@@ -1,0 +1,9 @@
+pub mod ListEdits
+pub mod EditLaws
+pub mod SettleLaws
+pub mod TellLaws
+pub mod SoundLaws
+pub mod OpeningLaws
+pub mod StepLaws
+pub mod TurnLaws
+pub mod TreeSteps

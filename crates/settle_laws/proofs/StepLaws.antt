@@ -1,0 +1,111 @@
+-- What is so of each step.
+use Rattle.std.proofs.Common.{◌≡◌, ℕ, ◌+◌, ◌≤◌, Bool, true, false, if◌then◌else◌, List, [], ◌∷◌, ◌++◌, refl, arith, Option, Some, None, drop}
+use Rattle.oz_base.specs.declared.names.Ident.{Ident}
+use Rattle.oz_language.specs.declared.kernel.Kernel.{Kernel}
+use Rattle.oz_semantics.specs.Names.{is_top}
+use Rattle.oz_semantics.specs.Store.{is_consistent}
+use Rattle.oz_semantics.specs.Configurations.{layer_of, stack_of, view, in_layer, with_frames, without_terminated, telling, giving_out, counting_procedure, spawning, failed, raised_by, ending}
+use Rattle.oz_semantics.specs.Answers.{Answer, Acts, RaisesKind, RaisesTerm, Rests}
+use Rattle.oz_semantics.specs.Statements.{stack_answer}
+use Rattle.oz_semantics.specs.Spaces.{sight}
+use Rattle.oz_semantics.specs.Changes.{Change, GivesOut, CountsProcedure, Pushes, Spawns, changed_all, done}
+use Rattle.oz_semantics.specs.Effects.{Effect, Makes, Tells, ShowsText, act_effect}
+use Rattle.oz_semantics.specs.Exceptions.{is_failure, raise_term, with_term, unwound}
+use Rattle.oz_semantics.specs.Texts.{Printed, term_text}
+use Rattle.oz_semantics.specs.Settling.{Turned, settled, term_variable, with_raised, top_ended, without_inconsistent}
+use Rattle.oz_semantics.specs.Steps.{went_on, ended_by, uncaught, raised_to, raised, raised_kind, told, after_effect, after_answer, without_top, stepped}
+use Rattle.oz_semantics.specs.declared.value.Tell.{Tell}
+use Rattle.oz_semantics.specs.declared.configuration.Frame.{Frame}
+use Rattle.oz_semantics.specs.declared.configuration.Layer.{Layer}
+use Rattle.oz_semantics.specs.declared.configuration.Configuration.{Configuration}
+use Rattle.oz_semantics.specs.declared.outcome.RaiseKind.{RaiseKind}
+use Rattle.oz_semantics.specs.declared.outcome.RaiseKind.TheVariants.{FailureTell}
+use Rattle.view_laws.specs.Sights.{IsEnd}
+
+-- What is so of all that follows a step, and of each end of the top, is so of each step: from layers that are good, where each edit of a step keeps them so
+module _ (Good : List Layer → Type 0) (Holds : Turned → Type 0) (k : Kernel)
+    (edits : (space : List ℕ) (f : Layer → Layer) (layers : List Layer) → ((l : Layer) → ((f l).space ≡ l.space) × (l.next.child ≤ (f l).next.child)) → Good layers → Good (in_layer space f layers))
+    (ended : (space : List ℕ) (how : Layer → Layer) (layers : List Layer) → IsEnd how → Good layers → Good (ending space how layers))
+    (follows : (mover : Option Ident) (cost : ℕ) (c : Configuration) → Good c.layers → 1 ≤ cost → Holds (settled k.statements mover cost c))
+    (ends : (x : Ident) (layers : List Layer) (c : Configuration) → Good layers → Holds (top_ended 1 x (without_inconsistent layers) c)) where
+  one : 1 ≤ 1
+  one = omega arith
+
+  went_holds : (id : Ident) (cost : ℕ) (layers : List Layer) (c : Configuration) → Good layers → 1 ≤ cost → Holds (went_on k.statements id cost layers c)
+  went_holds id cost layers c good h =
+      follows (Some id) cost (record c { layers = in_layer id.space without_terminated layers }) (edits id.space without_terminated layers (λ l. (refl, omega arith)) good) h
+
+  ended_end : (x : Ident) (b : Bool) (l : Layer) → ((if b then failed l else raised_by x l).space ≡ l.space) × ((if b then failed l else raised_by x l).next ≡ l.next)
+  ended_end x true l = (refl, refl)
+  ended_end x false l = (refl, refl)
+
+  uncaught_holds : (id x : Ident) (layers : List Layer) (c : Configuration) → Good layers → Holds (uncaught k.statements id x layers c)
+  uncaught_holds id x layers c good = by (is_top id.space)
+    where
+      by : (b : Bool)
+          → Holds (if b
+          then top_ended 1 x (without_inconsistent (in_layer id.space (λ l. without_terminated (with_frames id.number (λ frames. []) l)) layers)) c
+          else settled k.statements (Some id) 1 (record c { layers = ending id.space (ended_by (view layers id.space) x) layers }))
+      by true =
+          ends x (in_layer id.space (λ l. without_terminated (with_frames id.number (λ frames. []) l)) layers) c
+          (edits id.space (λ l. without_terminated (with_frames id.number (λ frames. []) l)) layers (λ l. (refl, omega arith)) good)
+      by false =
+          follows (Some id) 1 (record c { layers = ending id.space (ended_by (view layers id.space) x) layers })
+          (ended id.space (ended_by (view layers id.space) x) layers (λ l. ended_end x (is_failure (view layers id.space) x) l) good) one
+
+  raised_to_holds : (id x : Ident) (frames : Option (List Frame)) (layers : List Layer) (c : Configuration) → Good layers → Holds (raised_to k.statements id x frames layers c)
+  raised_to_holds id x None layers c good = uncaught_holds id x layers c good
+  raised_to_holds id x (Some frames) layers c good =
+      went_holds id 1 (in_layer id.space (with_frames id.number (λ rest. frames)) layers) c (edits id.space (with_frames id.number (λ rest. frames)) layers (λ l. (refl, omega arith)) good) one
+
+  raised_holds : (id x : Ident) (layers : List Layer) (c : Configuration) → Good layers → Holds (raised k.statements id x layers c)
+  raised_holds id x layers c good = raised_to_holds id x (unwound x (stack_of layers id)) layers c good
+
+  kind_holds : (id : Ident) (kind : RaiseKind) (layers : List Layer) (c : Configuration) → Good layers → Holds (raised_kind k.statements id kind layers c)
+  kind_holds id kind layers c good =
+      raised_holds id (term_variable layers id.space) (with_raised kind id.space layers) c (edits id.space (with_term (raise_term kind)) layers (λ l. (refl, omega arith)) good)
+
+  changed_good : (id : Ident) (changes : List Change) (layers : List Layer) → Good layers → Good (changed_all id changes layers)
+  changed_good id [] layers good = good
+  changed_good id (GivesOut n ∷ changes) layers good = changed_good id changes (in_layer id.space (giving_out n) layers) (edits id.space (giving_out n) layers (λ l. (refl, omega arith)) good)
+  changed_good id (CountsProcedure ∷ changes) layers good =
+      changed_good id changes (in_layer id.space counting_procedure layers) (edits id.space counting_procedure layers (λ l. (refl, omega arith)) good)
+  changed_good id (Pushes frames ∷ changes) layers good =
+      changed_good id changes (in_layer id.space (with_frames id.number (λ rest. frames ++ rest)) layers)
+      (edits id.space (with_frames id.number (λ rest. frames ++ rest)) layers (λ l. (refl, omega arith)) good)
+  changed_good id (Spawns frames ∷ changes) layers good =
+      changed_good id changes (in_layer id.space (spawning frames) layers) (edits id.space (spawning frames) layers (λ l. (refl, omega arith)) good)
+
+  told_holds : (id : Ident) (ts : List Tell) (changes : List Change) (layers : List Layer) (c : Configuration) → Good layers → Holds (told k.statements id ts changes layers c)
+  told_holds id ts changes layers c good = by (is_consistent (view layers id.space ++ ts))
+    where
+      by : (b : Bool) → Holds (if b then went_on k.statements id 1 (done id ts changes layers) c else raised_kind k.statements id FailureTell layers c)
+      by true =
+          went_holds id 1 (done id ts changes layers) c
+          (changed_good id changes (in_layer id.space (telling ts) layers) (edits id.space (telling ts) layers (λ l. (refl, omega arith)) good)) one
+      by false = kind_holds id FailureTell layers c good
+
+  effect_holds : (id : Ident) (layers : List Layer) (c : Configuration) (effect : Effect) → Good layers → Holds (after_effect k id layers c effect)
+  effect_holds id layers c (Makes changes) good = went_holds id 1 (changed_all id changes layers) c (changed_good id changes layers good) one
+  effect_holds id layers c (Tells ts changes) good = told_holds id ts changes layers c good
+  effect_holds id layers c (ShowsText x) good =
+      let printed : Printed = term_text k.words (view layers id.space) x in
+      went_holds id (1 + printed.nodes) layers (record c { shown = c.shown ++ printed.bytes ∷ [] }) good (omega arith)
+
+  answer_holds : (id : Ident) (layers : List Layer) (c : Configuration) (answer : Answer) → Good layers → Good c.layers → Holds (after_answer k id layers c answer)
+  answer_holds id layers c (Acts act) good first = effect_holds id layers c (act_effect (layer_of layers id.space) act) good
+  answer_holds id layers c (RaisesKind kind) good first = kind_holds id kind layers c good
+  answer_holds id layers c (RaisesTerm x) good first = raised_holds id x layers c good
+  answer_holds id layers c (Rests ready) good first = follows (Some id) 1 c first one
+
+  pub step_holds : (id : Ident) (c : Configuration) → Good c.layers → Holds (stepped k id c)
+  step_holds id c good =
+      answer_holds id (without_top id c.layers) c (stack_answer (sight k.statements c.layers id.space) (stack_of c.layers id))
+      (edits id.space (with_frames id.number (λ frames. drop 1 frames)) c.layers (λ l. (refl, omega arith)) good) good
+
+-- So it is of what asks nothing of the layers
+pub each_step : (Holds : Turned → Type 0) (k : Kernel) → ((mover : Option Ident) (cost : ℕ) (c : Configuration) → 1 ≤ cost → Holds (settled k.statements mover cost c))
+    → ((x : Ident) (layers : List Layer) (c : Configuration) → Holds (top_ended 1 x layers c)) → (id : Ident) (c : Configuration) → Holds (stepped k id c)
+each_step Holds k follows ends id c =
+    step_holds (λ (layers : List Layer). Unit {0}) Holds k (λ space f layers h good. tt) (λ space how layers h good. tt) (λ mover cost d good h. follows mover cost d h)
+    (λ x layers d good. ends x (without_inconsistent layers) d) id c tt

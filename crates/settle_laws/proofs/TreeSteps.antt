@@ -1,0 +1,83 @@
+-- Steps leave a tree in which nothing is inconsistent.
+use Rattle.std.proofs.Common.{◌≡◌, inl, inr, ℕ, Bool, true, false, if◌then◌else◌, List, [], ◌∷◌, refl, sym, ap, subst, ◌∙◌, arith, Option, None}
+use Rattle.std.proofs.lemmas.Bool.{false≢true}
+use Rattle.oz_base.specs.declared.names.Ident.{Ident}
+use Rattle.oz_language.specs.declared.kernel.Statement.{Statement}
+use Rattle.oz_language.specs.declared.kernel.Kernel.{Kernel}
+use Rattle.oz_semantics.specs.Names.{is_top}
+use Rattle.oz_semantics.specs.Configurations.{spawning, frames_of}
+use Rattle.oz_semantics.specs.Exceptions.{raise_term, with_term}
+use Rattle.oz_semantics.specs.Settling.{Turned, top_is_inconsistent, top_failed, requeued, without_inconsistent, settled}
+use Rattle.oz_semantics.specs.Steps.{stepped}
+use Rattle.oz_semantics.specs.Schedule.{turn_of}
+use Rattle.oz_semantics.specs.Runs.{left_by, opening_environment, top_layer}
+use Rattle.oz_semantics.specs.declared.configuration.Layer.{Layer}
+use Rattle.oz_semantics.specs.declared.configuration.Configuration.{Configuration}
+use Rattle.oz_semantics.specs.declared.outcome.RaiseKind.TheVariants.{FailureTop}
+use Rattle.oz_semantics.specs.declared.outcome.Stepped.TheVariants.{Moved, TopEnded, Quiescent}
+use Rattle.oz_laws.proofs.SameLaws.{In-from_contains}
+use Rattle.view_laws.specs.Trees.{IsTree}
+use Rattle.view_laws.specs.Steps.{IsSound}
+use Rattle.view_laws.proofs.TreeLaws.{change_tree, end_tree}
+use Rattle.settle_laws.specs.Turns.{opening_layers}
+use Rattle.settle_laws.specs.Sound.{StepTree, StepSound, TurnTree, TurnSound, OpeningTree, OpeningLeft}
+use Rattle.settle_laws.proofs.SettleLaws.{settled_by}
+use Rattle.settle_laws.proofs.SoundLaws.{left_tree, left_sound, sound_settles}
+use Rattle.settle_laws.proofs.OpeningLaws.{opening_sound}
+use Rattle.settle_laws.proofs.StepLaws.{step_holds}
+
+-- a tree is left, and where the machine moved nothing is inconsistent
+abbrev LeavesTree : Turned → Type 0
+LeavesTree (Moved cost, d) = IsTree d.layers × IsSound d.layers
+LeavesTree (TopEnded x cost, d) = IsTree d.layers
+LeavesTree (Quiescent, d) = IsTree d.layers
+
+settled_leaves : (statements : List Statement) (mover : Option Ident) (cost : ℕ) (c : Configuration) → IsTree c.layers → LeavesTree (settled statements mover cost c)
+settled_leaves statements mover cost c tree = by (top_is_inconsistent c.layers)
+  where
+    by : (b : Bool) → LeavesTree (if b then top_failed cost c else (Moved cost, requeued statements mover c (without_inconsistent c.layers)))
+    by true = change_tree [] (with_term (raise_term FailureTop)) c.layers (λ l e. (refl, omega arith)) tree
+    by false = (left_tree c.layers tree, left_sound c.layers tree)
+
+step_leaves : (k : Kernel) (id : Ident) (c : Configuration) → IsTree c.layers → LeavesTree (stepped k id c)
+step_leaves k id c tree =
+    step_holds IsTree LeavesTree k (λ space f layers h good. change_tree space f layers (λ l e. h l) good) (λ space how layers h good. end_tree space how layers h good)
+    (λ mover cost d good h. settled_leaves k.statements mover cost d good) (λ x layers d good. left_tree layers good) id c tree
+
+tree_of : (t : Turned) → LeavesTree t → IsTree t.1.layers
+tree_of (Moved cost, d) h = h.0
+tree_of (TopEnded x cost, d) h = h
+tree_of (Quiescent, d) h = h
+
+pub step_tree : StepTree
+step_tree k id c tree = tree_of (stepped k id c) (step_leaves k id c tree)
+
+pub step_sound : StepSound
+step_sound k id c n d tree e = (subst LeavesTree e (step_leaves k id c tree)).1
+
+turn_leaves : (k : Kernel) (c : Configuration) (queue : List Ident) → IsTree c.layers → LeavesTree (turn_of k c queue)
+turn_leaves k c [] tree = tree
+turn_leaves k c (id ∷ queue) tree = step_leaves k id (record c { queue = queue }) tree
+
+pub turn_tree : TurnTree
+turn_tree k c tree = tree_of (turn_of k c c.queue) (turn_leaves k c c.queue tree)
+
+pub turn_sound : TurnSound
+turn_sound k c n d tree e = (subst LeavesTree e (turn_leaves k c c.queue tree)).1
+
+-- Where a program opens
+
+alone_tree : (l : Layer) → is_top l.space ≡ true → IsTree (l ∷ [])
+alone_tree l top = record {
+  ordered = refl;
+  given = λ m c inner. elim (In-from_contains (l ∷ []) m c) [
+    | inl e ↦ absurd (false≢true (sym inner ∙ ap (λ (n : Layer). is_top n.space) (sym e) ∙ top))
+    | inr h ↦ elim h [ ]
+  ];
+}
+
+pub opening_tree : OpeningTree
+opening_tree k = alone_tree (spawning (frames_of opening_environment k.body) top_layer) refl
+
+pub opening_left : OpeningLeft
+opening_left k = ap (λ (t : Turned). left_by t) (settled_by k.statements None 0 [] (opening_layers k) (opening_layers k) [] [] (sound_settles [] (opening_layers k) (opening_sound k)))

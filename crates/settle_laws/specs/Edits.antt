@@ -1,0 +1,52 @@
+-- Edits of one layer after another, and which of them are quiet.
+use Rattle.std.specs.Prelude.{ℕ, ◌≡◌, List, Some, is_some, length}
+use Rattle.oz_base.specs.declared.names.Ident.{Ident}
+use Rattle.oz_semantics.specs.Configurations.{layer_at, layer_of, view, in_layer, with_frames, without_terminated, telling, giving_out, counting_procedure, counting_child, spawning}
+use Rattle.oz_semantics.specs.Sights.{Sight}
+use Rattle.oz_semantics.specs.Edits.{committing}
+use Rattle.oz_semantics.specs.Terms.{Term}
+use Rattle.oz_semantics.specs.Exceptions.{new_term_tells, with_term}
+use Rattle.oz_semantics.specs.Steps.{without_top}
+use Rattle.oz_semantics.specs.declared.configuration.Frame.{Frame}
+use Rattle.oz_semantics.specs.declared.configuration.Layer.{Layer}
+use Rattle.settle_laws.specs.Settles.{IsQuiet}
+
+-- Two edits of one layer are one
+abbrev pub EditsJoin : Type 0
+EditsJoin =
+    (space : List ℕ) (f g : Layer → Layer) (layers : List Layer) → ((l : Layer) → (g l).space ≡ l.space)
+    → in_layer space f (in_layer space g layers) ≡ in_layer space (λ l. f (g l)) layers
+
+-- Two edits that make the same of the layer are the same
+abbrev pub EditsAgree : Type 0
+EditsAgree =
+    (space : List ℕ) (f g : Layer → Layer) (layers : List Layer) → ((l : Layer) → layer_at layers space ≡ Some l → f l ≡ g l) → in_layer space f layers ≡ in_layer space g layers
+
+-- A term may be told, and then its variables given out
+abbrev pub TermSettles : Type 0
+TermSettles =
+    (space : List ℕ) (t : Term) (layers : List Layer) (l : Layer) → layer_at layers space ≡ Some l
+    → in_layer space (giving_out (length t)) (in_layer space (telling (new_term_tells (layer_of layers space) t)) layers) ≡ in_layer space (with_term t) layers
+
+-- The changes of a step that tell nothing are quiet
+pub record AreQuiet : Type 0 where
+  pub frames : (number : ℕ) (change : List Frame → List Frame) → IsQuiet (with_frames number change)
+  pub terminated : IsQuiet without_terminated
+  pub variables : (n : ℕ) → IsQuiet (giving_out n)
+  pub procedure : IsQuiet counting_procedure
+  pub child : IsQuiet counting_child
+  pub choice : (s : Sight) (i : ℕ) → IsQuiet (committing s i)
+  pub threads : (fs : List Frame) → IsQuiet (spawning fs)
+  pub both : (f g : Layer → Layer) → IsQuiet f → IsQuiet g → IsQuiet (λ l. f (g l))
+
+-- A quiet change leaves a space there that is there
+abbrev pub QuietThere : Type 0
+QuietThere = (change : Layer → Layer) (layers : List Layer) (space other : List ℕ) → IsQuiet change → is_some (layer_at (in_layer space change layers) other) ≡ is_some (layer_at layers other)
+
+-- and what each space sees
+abbrev pub QuietView : Type 0
+QuietView = (change : Layer → Layer) (layers : List Layer) (space other : List ℕ) → IsQuiet change → view (in_layer space change layers) other ≡ view layers other
+
+-- as does a statement that is taken off a stack
+abbrev pub PopView : Type 0
+PopView = (id : Ident) (layers : List Layer) (other : List ℕ) → view (without_top id layers) other ≡ view layers other

@@ -1,0 +1,4 @@
+pub mod Settles
+pub mod Edits
+pub mod Turns
+pub mod Sound

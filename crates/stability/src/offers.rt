@@ -1,0 +1,253 @@
+//! Which thread of a space offers alternatives, and what a commitment of the space comes to (CTM 12.5; Schulte 4).
+ghost use Rattle.std.specs.Prelude.{ℕ, ◌≡◌, ◌<◌, ◌++◌, List, Some, slice_get, length, drop, is_some, position, option_map, IsTrue, IfOk, MatchOption};
+ghost use Rattle.std.specs.List.{filter_map, find};
+ghost use Rattle.oz_base.specs.Lists.{first};
+ghost use Rattle.oz_semantics.specs.Names.{named};
+ghost use Rattle.oz_semantics.specs.Store.{View};
+ghost use Rattle.oz_semantics.specs.Configurations.{is_numbered};
+ghost use Rattle.oz_semantics.specs.Sights as sights;
+ghost use Rattle.oz_semantics.specs.Sights.{Offer, count_of, offer_of};
+ghost use Rattle.oz_semantics.specs.Readiness.{thread_ready};
+ghost use Rattle.oz_semantics.specs.Spaces.{sight};
+ghost use Rattle.oz_semantics.specs.Edits.{chosen};
+ghost use Rattle.oz_semantics.specs.declared.configuration.Thread as running;
+ghost use Rattle.builtins.specs.Answers.{IsReady};
+ghost use Rattle.oz_threads.specs.Sights.{sight_of};
+ghost use Rattle.space_core.specs.Levels.{OfLayer};
+ghost use Rattle.stability.specs.Places.{IsAbsent, IsFirst};
+ghost use Rattle.stability.specs.Offers.{offers, IsChoice, Commits};
+
+use crate::places::place_of;
+use builtins::Readiness;
+use oz_base::{Copies, Ident, SpaceName};
+use oz_language::Statement;
+use oz_semantics::{Frame, Thread};
+use oz_threads::ready_where;
+use space_core::Levels;
+use statements::alternative;
+use std::alloc::{AllocError, Global};
+use term_store::Store;
+
+/// How many alternatives are offered, if any are.
+fn offer_size(ready: &Readiness) -> Option<u64>
+    ensures { (view : View) (defined : sights.Readiness) → IsReady view defined ready.now → result ≡ option_map count_of (offer_of defined) }
+{
+    match ready {
+        Readiness::Offers(size) => Some(*size),
+        Readiness::Steps | Readiness::Waits(_) => None,
+    }
+}
+
+/// How many alternatives a thread of a space offers, by what the space sees.
+fn size_where(
+    alloc: Global,
+    statements: &[Statement],
+    space: &SpaceName,
+    store: &Store,
+    thread: &Thread,
+) -> Result<Option<u64>, AllocError>
+    ensures { IfOk result (λ size. size ≡ option_map count_of (offer_of (thread_ready (sight_of statements.now space.now store.now) thread.now))) }
+{
+    let ready = ready_where(alloc, statements, space, store, thread)?;
+    Ok(offer_size(&ready))
+}
+
+/// How many alternatives the first of the threads that offer some offers.
+pub fn first_size(
+    alloc: Global,
+    statements: &[Statement],
+    space: &SpaceName,
+    store: &Store,
+    threads: &[Thread],
+) -> Result<Option<u64>, AllocError>
+    ensures { IfOk result (λ size. size ≡ option_map count_of (first (filter_map (λ t. offer_of (thread_ready (sight_of statements.now space.now store.now) t)) threads.now))) }
+{
+    for thread in threads {
+        if let Some(size) = size_where(alloc, statements, space, store, thread)? {
+            return Ok(Some(size));
+        }
+    }
+    Ok(None)
+}
+
+fn offers_where(
+    alloc: Global,
+    statements: &[Statement],
+    space: &SpaceName,
+    store: &Store,
+    thread: &Thread,
+) -> Result<bool, AllocError>
+    ensures { IfOk result (λ does. does ≡ offers (sight_of statements.now space.now store.now) thread.now) }
+{
+    let size = size_where(alloc, statements, space, store, thread)?;
+    Ok(size.is_some())
+}
+
+/// The place of the first of the threads that offer alternatives.
+fn offering(
+    alloc: Global,
+    statements: &[Statement],
+    space: &SpaceName,
+    store: &Store,
+    threads: &[Thread],
+) -> Result<Option<usize>, AllocError>
+    ensures { IfOk result (λ found. found ≡ position (offers (sight_of statements.now space.now store.now)) threads.now) }
+{
+    for place in 0..threads.len() {
+        if offers_where(alloc, statements, space, store, &threads[place])? {
+            return Ok(Some(place));
+        }
+    }
+    Ok(None)
+}
+
+/// The place of the first of the threads that offer alternatives, and where it stands.
+fn first_offering(
+    alloc: Global,
+    statements: &[Statement],
+    space: &SpaceName,
+    store: &Store,
+    threads: &[Thread],
+) -> Result<Option<usize>, AllocError>
+    ensures { IfOk result (λ found. MatchOption found (IsAbsent (offers (sight_of statements.now space.now store.now)) threads.now)
+        (λ place. (t : running.Thread) × IsFirst (offers (sight_of statements.now space.now store.now)) threads.now place t)) }
+{
+    offering(alloc, statements, space, store, threads)
+}
+
+fn first_offer_where(
+    alloc: Global,
+    statements: &[Statement],
+    space: &SpaceName,
+    store: &Store,
+    threads: &[Thread],
+) -> Result<Option<Ident>, AllocError>
+    ensures { IfOk result (λ found. found ≡ option_map (λ (t : running.Thread). named space.now t.number) (find (offers (sight_of statements.now space.now store.now)) threads.now)) }
+{
+    match first_offering(alloc, statements, space, store, threads)? {
+        Some(place) => Ok(Some(Ident {
+            space: space.copied(alloc)?,
+            number: threads[place].number,
+        })),
+        None => Ok(None),
+    }
+}
+
+/// The first thread of the space at a place that offers alternatives, which is that of least number.
+pub fn first_offer(
+    alloc: Global,
+    statements: &[Statement],
+    levels: &Levels,
+    place: usize,
+) -> Result<Option<Ident>, AllocError>
+    requires { place < length levels.now }
+    ensures { OfLayer levels.now place (λ l. IfOk result (λ found. found ≡ option_map (λ (t : running.Thread). named l.space t.number) (find (offers (sight statements.now levels.now l.space)) l.threads))) }
+{
+    let space = levels.space_at(place);
+    let store = levels.store_at(place);
+    first_offer_where(alloc, statements, space, store, levels.threads_at(place))
+}
+
+/// What a commitment of a space changes: other statements come in the place of the one on top of this thread's stack.
+#[derive(Drop)]
+pub struct Choice {
+    pub thread: Ident,
+    pub frames: Vec<Frame>,
+}
+
+/// The statements of an alternative that a thread offers, by its number from 1.
+fn alternative_of(
+    alloc: Global,
+    statements: &[Statement],
+    thread: &Thread,
+    index: u64,
+) -> Result<Vec<Frame>, AllocError>
+    ensures { IfOk result (λ body. (space : List ℕ) (view : View) (offer : Offer) → offer_of (thread_ready (sight_of statements.now space view) thread.now) ≡ Some offer
+        → body.items ++ drop 1 thread.now.frames ≡ chosen index thread.now.frames offer) }
+{
+    match thread.frames.top() {
+        Some(frame) => alternative(alloc, statements, frame, index),
+        None => Ok(Vec::new(alloc)),
+    }
+}
+
+/// The choice of an alternative that a thread of the space offers.
+fn choice_of(
+    alloc: Global,
+    statements: &[Statement],
+    space: &SpaceName,
+    thread: &Thread,
+    index: u64,
+) -> Result<Choice, AllocError>
+    ensures space { IfOk result (λ choice. choice.thread.space ≡ space.now) }
+    ensures number { IfOk result (λ choice. choice.thread.number ≡ thread.now.number) }
+    ensures body { IfOk result (λ choice. (space : List ℕ) (view : View) (offer : Offer)
+        → offer_of (thread_ready (sight_of statements.now space view) thread.now) ≡ Some offer
+        → choice.frames.items ++ drop 1 thread.now.frames ≡ chosen index thread.now.frames offer) }
+{
+    let frames = alternative_of(alloc, statements, thread, index)?;
+    Ok(Choice {
+        thread: Ident {
+            space: space.copied(alloc)?,
+            number: thread.number,
+        },
+        frames,
+    })
+}
+
+fn numbered(threads: &[Thread], number: u64) -> Option<usize>
+    ensures { result ≡ position (is_numbered number) threads.now }
+{
+    threads.iter().position(|thread| thread.number == number)
+}
+
+/// Whether the thread at a place is the first of its number.
+fn is_first_numbered(threads: &[Thread], place: usize) -> bool
+    requires { place < length threads.now }
+    ensures { (t : running.Thread) → slice_get threads.now place ≡ Some t → IsTrue result → position (is_numbered t.number) threads.now ≡ Some place }
+{
+    match numbered(threads, threads[place].number) {
+        Some(first) => first == place,
+        None => false,
+    }
+}
+
+fn choice_where(
+    alloc: Global,
+    statements: &[Statement],
+    space: &SpaceName,
+    store: &Store,
+    threads: &[Thread],
+    index: u64,
+) -> Result<Option<Choice>, AllocError>
+    ensures { IfOk result (IsChoice (sight_of statements.now space.now store.now) index threads.now) }
+{
+    let Some(place) = first_offering(alloc, statements, space, store, threads)? else {
+        return Ok(None);
+    };
+    if !is_first_numbered(threads, place) {
+        return Err(AllocError);
+    }
+    let choice = choice_of(alloc, statements, space, &threads[place], index)?;
+    Ok(Some(choice))
+}
+
+/// What committing a space to its alternative of this index, from 1, comes to; none where it offers nothing. Besides for want of
+/// memory it refuses where an earlier thread of the space has the number of the one that offers: a machine gives no number twice.
+pub fn chosen(
+    alloc: Global,
+    statements: &[Statement],
+    levels: &Levels,
+    space: &SpaceName,
+    index: u64,
+) -> Result<Option<Choice>, AllocError>
+    ensures { IfOk result (Commits statements.now levels.now space.now index) }
+{
+    let Some(place) = place_of(levels, space) else {
+        return Ok(None);
+    };
+    let space = levels.space_at(place);
+    let store = levels.store_at(place);
+    let threads = levels.threads_at(place);
+    choice_where(alloc, statements, space, store, threads, index)
+}

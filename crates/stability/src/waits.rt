@@ -1,0 +1,137 @@
+//! Whether something of a space waits for a variable of an ancestor.
+ghost use Rattle.std.specs.Prelude.{◌≡◌, ◌<◌, ◌&&◌, length, IfOk};
+ghost use Rattle.std.specs.List.{list_any};
+ghost use Rattle.oz_semantics.specs.Names.{is_below};
+ghost use Rattle.oz_semantics.specs.Configurations.{view, ancestor_variables};
+ghost use Rattle.oz_semantics.specs.Sights as sights;
+ghost use Rattle.oz_semantics.specs.Sights.{waits_of};
+ghost use Rattle.oz_semantics.specs.Readiness.{thread_ready};
+ghost use Rattle.oz_semantics.specs.Spaces.{sight, is_held, layer_waits, waits_outside};
+ghost use Rattle.builtins.specs.Answers.{IsReady};
+ghost use Rattle.space_core.specs.Levels.{OfLayer};
+
+use builtins::Readiness;
+use oz_base::{Ident, SpaceName};
+use oz_language::Statement;
+use oz_semantics::{Status, Thread};
+use oz_threads::thread_ready;
+use space_core::Levels;
+use std::alloc::{AllocError, Global};
+
+/// Whether one of the variables is held by the proper ancestors of the space, as the space at the place sees it.
+fn any_held(levels: &Levels, place: usize, space: &SpaceName, waits: &[Ident]) -> bool
+    requires { place < length levels.now }
+    ensures { OfLayer levels.now place (λ l. result ≡ list_any (is_held (view levels.now l.space) (ancestor_variables levels.now space.now)) waits.now) }
+{
+    for variable in waits {
+        if levels.is_held(place, space, variable) {
+            return true;
+        }
+    }
+    false
+}
+
+/// Whether what is waited for is held.
+fn waits_held(levels: &Levels, place: usize, space: &SpaceName, ready: &Readiness) -> bool
+    requires { place < length levels.now }
+    ensures { OfLayer levels.now place (λ l. (defined : sights.Readiness) → IsReady (view levels.now l.space) defined ready.now
+        → result ≡ list_any (is_held (view levels.now l.space) (ancestor_variables levels.now space.now)) (waits_of defined)) }
+{
+    match ready {
+        Readiness::Waits(waits) => any_held(levels, place, space, waits.as_slice()),
+        Readiness::Steps | Readiness::Offers(_) => false,
+    }
+}
+
+fn thread_waits(
+    alloc: Global,
+    statements: &[Statement],
+    levels: &Levels,
+    place: usize,
+    space: &SpaceName,
+    thread: &Thread,
+) -> Result<bool, AllocError>
+    requires { place < length levels.now }
+    ensures { OfLayer levels.now place (λ l. IfOk result (λ waits. waits ≡ list_any (is_held (view levels.now l.space) (ancestor_variables levels.now space.now))
+        (waits_of (thread_ready (sight statements.now levels.now l.space) thread.now)))) }
+{
+    let ready = thread_ready(alloc, statements, levels, place, thread)?;
+    Ok(waits_held(levels, place, space, &ready))
+}
+
+fn any_waits(
+    alloc: Global,
+    statements: &[Statement],
+    levels: &Levels,
+    place: usize,
+    space: &SpaceName,
+    threads: &[Thread],
+) -> Result<bool, AllocError>
+    requires { place < length levels.now }
+    ensures { OfLayer levels.now place (λ l. IfOk result (λ any. any ≡ list_any (λ t. list_any (is_held (view levels.now l.space) (ancestor_variables levels.now space.now))
+        (waits_of (thread_ready (sight statements.now levels.now l.space) t))) threads.now)) }
+{
+    for thread in threads {
+        if thread_waits(alloc, statements, levels, place, space, thread)? {
+            return Ok(true);
+        }
+    }
+    Ok(false)
+}
+
+fn layer_waits(
+    alloc: Global,
+    statements: &[Statement],
+    levels: &Levels,
+    place: usize,
+    space: &SpaceName,
+) -> Result<bool, AllocError>
+    requires { place < length levels.now }
+    ensures { OfLayer levels.now place (λ l. IfOk result (λ waits. waits ≡ layer_waits statements.now levels.now (ancestor_variables levels.now space.now) l)) }
+{
+    match levels.status_at(place) {
+        Status::Open => any_waits(
+            alloc,
+            statements,
+            levels,
+            place,
+            space,
+            levels.threads_at(place),
+        ),
+        Status::Failed | Status::Raised(_) => Ok(false),
+    }
+}
+
+fn waits_below(
+    alloc: Global,
+    statements: &[Statement],
+    levels: &Levels,
+    space: &SpaceName,
+    place: usize,
+) -> Result<bool, AllocError>
+    requires { place < length levels.now }
+    ensures { OfLayer levels.now place (λ l. IfOk result (λ waits. waits ≡ (is_below space.now l.space && layer_waits statements.now levels.now (ancestor_variables levels.now space.now) l))) }
+{
+    if space.is_above(levels.space_at(place)) {
+        layer_waits(alloc, statements, levels, place, space)
+    } else {
+        Ok(false)
+    }
+}
+
+/// Whether something of the space or of a space below it waits for a variable of a proper ancestor of the space.
+pub fn waits_outside(
+    alloc: Global,
+    statements: &[Statement],
+    levels: &Levels,
+    space: &SpaceName,
+) -> Result<bool, AllocError>
+    ensures { IfOk result (λ waits. waits ≡ waits_outside statements.now levels.now space.now) }
+{
+    for place in 0..levels.len() {
+        if waits_below(alloc, statements, levels, space, place)? {
+            return Ok(true);
+        }
+    }
+    Ok(false)
+}

@@ -1,0 +1,52 @@
+-- Calls, by their arguments.
+use Rattle.std.proofs.Common.{◌≡◌, ◌<◌, ℕ, refl, sym, ap, ◌∙◌, List, length, subst, if◌then◌else◌, eq-eqb}
+use Rattle.oz_base.specs.declared.names.Ident.{Ident}
+use Rattle.oz_semantics.specs.Sights.{Sight}
+use Rattle.oz_semantics.specs.Answers as answers
+use Rattle.oz_semantics.specs.Answers.{argument}
+use Rattle.oz_semantics.specs.Builtins.{arguments_of, answer, call_answer}
+use Rattle.oz_semantics.specs.declared.value.Builtin.{Builtin}
+use Rattle.oz_semantics.specs.declared.outcome.RaiseKind.TheVariants as raise
+use Rattle.builtins.specs.Answers.{IsAnswer}
+use Rattle.builtins.specs.Exact.{answer_of, erased}
+use Rattle.builtins.specs.Looks.{Given}
+use Rattle.builtins.specs.declared.answer.Answer.{Answer}
+use Rattle.builtins.specs.declared.answer.Answer.TheVariants as said
+
+-- the answer says the same but for a rest
+pub said_as : (a : answers.Answer) (r : Answer) → IsAnswer a r → answer_of r ≡ erased a
+said_as a (said.Acts b) e = sym (ap erased e)
+said_as a (said.RaisesKind kind) e = sym (ap erased e)
+said_as a (said.RaisesTerm x) e = sym (ap erased e)
+said_as a said.Rests (ready, e) = sym (ap erased e)
+
+-- and what says the same is the answer
+pub is_answer : (a : answers.Answer) (r : Answer) → answer_of r ≡ erased a → IsAnswer a r
+is_answer (answers.Acts b) (said.Acts c) e = sym e
+is_answer (answers.RaisesKind k) (said.RaisesKind l) e = sym e
+is_answer (answers.RaisesTerm x) (said.RaisesTerm y) e = sym e
+is_answer (answers.Rests ready) said.Rests e = (ready, refl)
+is_answer (answers.Rests ready) (said.Acts c) e = cc
+is_answer (answers.Rests ready) (said.RaisesKind l) e = cc
+is_answer (answers.Rests ready) (said.RaisesTerm y) e = cc
+is_answer (answers.Acts b) (said.RaisesKind l) e = cc
+is_answer (answers.Acts b) (said.RaisesTerm y) e = cc
+is_answer (answers.Acts b) said.Rests e = cc
+is_answer (answers.RaisesKind k) (said.Acts c) e = cc
+is_answer (answers.RaisesKind k) (said.RaisesTerm y) e = cc
+is_answer (answers.RaisesKind k) said.Rests e = cc
+is_answer (answers.RaisesTerm x) (said.Acts c) e = cc
+is_answer (answers.RaisesTerm x) (said.RaisesKind l) e = cc
+is_answer (answers.RaisesTerm x) said.Rests e = cc
+
+-- a call with as many arguments as the built-in takes
+pub call_is : (s : Sight) (b : Builtin) (xs : List Ident) → length xs ≡ arguments_of b → call_answer s b xs ≡ answer s b (argument xs)
+call_is s b xs e = ap (λ t. if t then answer s b (argument xs) else answers.RaisesKind raise.Arity) (eq-eqb (length xs) (arguments_of b) e)
+
+-- the arguments at these places
+pub given_at : (b : Builtin) (xs : List Ident) (x y z : Ident) (count i j : ℕ) → count ≡ arguments_of b → x ≡ argument xs 0 → (1 < count → i ≡ 1) → y ≡ argument xs i → (2 < count → j ≡ 2) → z ≡ argument xs j → Given b x y z (argument xs)
+given_at b xs x y z count i j e f h g l k = record {
+  first = sym f;
+  second = λ m. sym (g ∙ ap (argument xs) (h (subst (λ n. 1 < n) (sym e) m)));
+  third = λ m. sym (k ∙ ap (argument xs) (l (subst (λ n. 2 < n) (sym e) m)));
+}

@@ -1,0 +1,4 @@
+pub mod BindLaws
+pub mod CallLaws
+pub mod OfferLaws
+pub mod ReadyLaws

@@ -1,0 +1,136 @@
+-- Choices alone offer alternatives.
+use Rattle.std.proofs.Common.{◌≡◌, ◌∷◌, [], ◌-◌, ◌++◌, drop, ℕ, ℤ, refl, sym, ap, ◌∙◌, Bool, true, false, Option, Some, None, Result, Ok, Err, List, length, map, if◌then◌else◌}
+use Rattle.std.specs.Prelude.{◌==◌, slice_get, unwrap_or, option_map}
+use Rattle.std.proofs.lemmas.Option.{slice_get-map}
+use Rattle.oz_base.specs.Numbers.{sum, difference, product, quotient, remainder}
+use Rattle.oz_base.specs.declared.names.Ident.{Ident}
+use Rattle.oz_base.specs.declared.numbers.NumFault.{NumFault}
+use Rattle.oz_base.specs.declared.numbers.NumFault.TheVariants as faults
+use Rattle.environments.specs.Environments.{Environment, bound}
+use Rattle.oz_language.specs.declared.kernel.Operation.{Operation}
+use Rattle.oz_language.specs.declared.kernel.Operation.TheVariants as operation
+use Rattle.oz_language.specs.declared.kernel.Statement.{Statement}
+use Rattle.oz_language.specs.declared.kernel.Statement.TheVariants as statement
+use Rattle.oz_semantics.specs.Names.{is_top}
+use Rattle.oz_semantics.specs.Values.{fields_of, constant_in, integer_in}
+use Rattle.oz_semantics.specs.Store.{View, value_of}
+use Rattle.oz_semantics.specs.Entailment.{Equality, Entailed, Contradicted, Undecided, equality}
+use Rattle.oz_semantics.specs.Sights.{Sight, Offer, Bodies, offer_of}
+use Rattle.oz_semantics.specs.Edits.{chosen}
+use Rattle.oz_semantics.specs.Answers.{Answer, Acts, RaisesKind, Shows, gives_constant, argument, given, with_value, of_kind}
+use Rattle.oz_semantics.specs.Builtins.{arguments_of, gives_number, gives_field, field_at, of_equality, label_in, arity_in, of_operation, answer, call_answer}
+use Rattle.oz_semantics.specs.Configurations.{frames_of}
+use Rattle.oz_semantics.specs.Matching.{Match, Matches, Differs, MatchWaits, matched}
+use Rattle.oz_semantics.specs.Statements.{value_called, called, branch, clause, numbered_answer}
+use Rattle.oz_semantics.specs.Readiness.{answer_ready}
+use Rattle.oz_semantics.specs.declared.configuration.Frame.{Frame}
+use Rattle.oz_semantics.specs.declared.value.Value.{Value}
+use Rattle.oz_semantics.specs.declared.value.Value.TheVariants as value
+use Rattle.oz_semantics.specs.declared.value.Builtin.{Builtin}
+use Rattle.oz_semantics.specs.declared.value.Builtin.TheVariants as builtin
+use Rattle.oz_semantics.specs.declared.outcome.RaiseKind.TheVariants as raise
+use Rattle.statements.specs.Offers.{alternative_in, alternative_of}
+use Rattle.statements.proofs.ReadyLaws.{procedure_steps, branch_steps}
+
+-- an answer offers nothing
+abbrev IsQuiet : Answer → Type 0
+IsQuiet a = offer_of (answer_ready a) ≡ None
+
+if_quiet : (b : Bool) (a c : Answer) → IsQuiet a → IsQuiet c → IsQuiet (if b then a else c)
+if_quiet true a c h k = h
+if_quiet false a c h k = k
+
+given_quiet : (x : Ident) (o : Option Value) (go : Value → Answer) → ((v : Value) → IsQuiet (go v)) → IsQuiet (given x o go)
+given_quiet x None go h = refl
+given_quiet x (Some v) go h = h v
+
+kind_quiet : {A : Type 0} (o : Option A) (go : A → Answer) → ((a : A) → IsQuiet (go a)) → IsQuiet (of_kind o go)
+kind_quiet None go h = refl
+kind_quiet (Some a) go h = h a
+
+-- Built-ins
+
+equality_quiet : (z : Ident) (asked : Bool) (e : Equality) → IsQuiet (of_equality z asked e)
+equality_quiet z asked Entailed = refl
+equality_quiet z asked Contradicted = refl
+equality_quiet z asked (Undecided xs) = refl
+
+number_quiet : (z : Ident) (r : Result ℤ NumFault) → IsQuiet (gives_number z r)
+number_quiet z (Ok i) = refl
+number_quiet z (Err faults.Overflow) = refl
+number_quiet z (Err faults.DivZero) = refl
+
+field_quiet : (z : Ident) (o : Option Ident) → IsQuiet (gives_field z o)
+field_quiet z (Some x) = refl
+field_quiet z None = refl
+
+integers_quiet : (view : View) (x y : Ident) (go : ℤ → ℤ → Answer) → ((i j : ℤ) → IsQuiet (go i j)) → IsQuiet (with_value view x (λ v. with_value view y (λ w. of_kind (integer_in v) (λ i. of_kind (integer_in w) (go i)))))
+integers_quiet view x y go h =
+    given_quiet x (value_of view x) _ (λ v. given_quiet y (value_of view y) _ (λ w. kind_quiet (integer_in v) _ (λ i. kind_quiet (integer_in w) (go i) (h i))))
+
+operation_quiet : (view : View) (op : Operation) (x y z : Ident) → IsQuiet (of_operation view op x y z)
+operation_quiet view operation.Same x y z = equality_quiet z true (equality view x y)
+operation_quiet view operation.Differs x y z = equality_quiet z false (equality view x y)
+operation_quiet view operation.Less x y z = integers_quiet view x y _ (λ i j. refl)
+operation_quiet view operation.AtMost x y z = integers_quiet view x y _ (λ i j. refl)
+operation_quiet view operation.Greater x y z = integers_quiet view x y _ (λ i j. refl)
+operation_quiet view operation.AtLeast x y z = integers_quiet view x y _ (λ i j. refl)
+operation_quiet view operation.Plus x y z = integers_quiet view x y _ (λ i j. number_quiet z (sum i j))
+operation_quiet view operation.Minus x y z = integers_quiet view x y _ (λ i j. number_quiet z (difference i j))
+operation_quiet view operation.Times x y z = integers_quiet view x y _ (λ i j. number_quiet z (product i j))
+operation_quiet view operation.Div x y z = integers_quiet view x y _ (λ i j. number_quiet z (quotient i j))
+operation_quiet view operation.Mod x y z = integers_quiet view x y _ (λ i j. number_quiet z (remainder i j))
+operation_quiet view operation.Select x y z =
+    given_quiet x (value_of view x) _
+    (λ v. given_quiet y (value_of view y) _ (λ w. kind_quiet (arity_in v) _ (λ features. kind_quiet (constant_in w) _ (λ f. field_quiet z (field_at features (fields_of v) f)))))
+operation_quiet view operation.Bound x y z = refl
+operation_quiet view operation.BoundEach x y z = refl
+
+builtin_quiet : (s : Sight) (b : Builtin) (f : ℕ → Ident) → IsQuiet (answer s b f)
+builtin_quiet s (builtin.Operation op) f = operation_quiet s.view op (f 0) (f 1) (f 2)
+builtin_quiet s builtin.Label f = given_quiet (f 0) (value_of s.view (f 0)) _ (λ v. kind_quiet (label_in v) (gives_constant (f 1)) (λ c. refl))
+builtin_quiet s builtin.Width f = given_quiet (f 0) (value_of s.view (f 0)) _ (λ v. kind_quiet (arity_in v) _ (λ fs. refl))
+builtin_quiet s builtin.Arity f = given_quiet (f 0) (value_of s.view (f 0)) _ (λ v. kind_quiet (arity_in v) _ (λ fs. refl))
+builtin_quiet s builtin.Wait f = given_quiet (f 0) (value_of s.view (f 0)) _ (λ v. refl)
+builtin_quiet s builtin.Show f = if_quiet (is_top s.space) (Acts (Shows (f 0))) (RaisesKind raise.GlobalIo) refl refl
+
+call_quiet : (s : Sight) (b : Builtin) (xs : List Ident) → IsQuiet (call_answer s b xs)
+call_quiet s b xs = if_quiet (length xs == arguments_of b) (answer s b (argument xs)) (RaisesKind raise.Arity) (builtin_quiet s b (argument xs)) refl
+
+-- Statements
+
+value_quiet : (s : Sight) (xs : List Ident) (v : Value) → IsQuiet (value_called s xs v)
+value_quiet s xs (value.Procedure q) = ap offer_of (procedure_steps q xs)
+value_quiet s xs (value.Builtin b) = call_quiet s b xs
+value_quiet s xs (value.Constant c) = refl
+value_quiet s xs (value.Record r) = refl
+
+called_quiet : (s : Sight) (x : Ident) (xs : List Ident) → IsQuiet (called s x xs)
+called_quiet s x xs = given_quiet x (value_of s.view x) (value_called s xs) (value_quiet s xs)
+
+clause_quiet : (e : Environment) (accepted otherwise : List ℕ) (m : Match) → IsQuiet (clause e accepted otherwise m)
+clause_quiet e accepted otherwise (Matches extended) = refl
+clause_quiet e accepted otherwise Differs = refl
+clause_quiet e accepted otherwise (MatchWaits x) = refl
+
+test_quiet : (s : Sight) (x : Ident) (e : Environment) (accepted otherwise : List ℕ) → IsQuiet (with_value s.view x (branch e accepted otherwise))
+test_quiet s x e accepted otherwise = given_quiet x (value_of s.view x) (branch e accepted otherwise) (λ v. ap offer_of (branch_steps e accepted otherwise v))
+
+unwrapped : (e : Environment) (o : Option (List ℕ)) → unwrap_or (option_map (frames_of e) o) [] ≡ frames_of e (unwrap_or o [])
+unwrapped e None = refl
+unwrapped e (Some body) = refl
+
+-- what a statement offers
+pub numbered_offers : (s : Sight) (e : Environment) (i : ℕ) (o : Option Statement) → alternative_of e i o ≡ alternative_in i (offer_of (answer_ready (numbered_answer s e o)))
+numbered_offers s e i (Some (statement.Choice bodies)) =
+    sym (ap (λ (o : Option (List Frame)). unwrap_or o []) (slice_get-map (frames_of e) bodies (i - 1)) ∙ unwrapped e (slice_get bodies (i - 1)))
+numbered_offers s e i (Some (statement.Call procedure arguments)) = sym (ap (alternative_in i) (called_quiet s (bound e procedure) (map (bound e) arguments)))
+numbered_offers s e i (Some (statement.Operate op arguments)) = sym (ap (alternative_in i) (call_quiet s (builtin.Operation op) (map (bound e) arguments)))
+numbered_offers s e i (Some (statement.If condition accepted otherwise)) = sym (ap (alternative_in i) (test_quiet s (bound e condition) e accepted otherwise))
+numbered_offers s e i (Some (statement.Case subject pattern accepted otherwise)) =
+    sym (ap (alternative_in i) (clause_quiet e accepted otherwise (matched s.view pattern (bound e subject ∷ []) e)))
+numbered_offers s e i o = refl
+
+-- and what of it goes on where it is chosen
+pub chosen_of : (i : ℕ) (frames : List Frame) (o : Option Offer) (offer : Offer) (stack : List Frame) → frames ≡ alternative_in i o → o ≡ Some offer → frames ++ drop 1 stack ≡ chosen i stack offer
+chosen_of i frames o (Bodies bodies) stack e h = ap (λ fs. fs ++ drop 1 stack) (e ∙ ap (alternative_in i) h)

@@ -1,0 +1,244 @@
+//! Whether statements can step.
+ghost use Rattle.std.specs.Prelude.{◌≡◌, ◌∷◌, [], ℕ, List, map, length, IfOk, option_copied};
+ghost use Rattle.environments.specs.Environments.{bound};
+ghost use Rattle.oz_language.specs.declared.kernel.Statement.{Statement};
+ghost use Rattle.oz_semantics.specs.Store.{View};
+ghost use Rattle.oz_semantics.specs.Answers.{given, with_value};
+ghost use Rattle.oz_semantics.specs.Builtins.{call_answer};
+ghost use Rattle.oz_semantics.specs.Matching.{matched};
+ghost use Rattle.oz_semantics.specs.Statements.{value_called, called, branch, clause, statement_answer, numbered_answer, code_answer};
+ghost use Rattle.oz_semantics.specs.Readiness.{answer_ready};
+ghost use Rattle.builtins.specs.Answers.{IsReady};
+ghost use Rattle.statements.specs.Variables.{variables_of};
+
+use crate::calls::place_within;
+use crate::statement::statement_at;
+use crate::variables::{Arguments, look};
+use builtins::{Readiness, arguments_of, ready_by, ready_one};
+use environments::Environment;
+use matching::waits;
+use oz_base::{Ident, Sequence, SpaceName};
+use oz_language::{Identifier, Operation, Piece, Statement};
+use oz_semantics::{Builtin, Code, Frame, Value};
+use std::alloc::{AllocError, Global};
+use term_store::Store;
+
+/// The call of a built-in.
+fn ready_builtin(
+    alloc: Global,
+    store: &Store,
+    builtin: Builtin,
+    arguments: &Arguments<'_>,
+) -> Result<Readiness, AllocError>
+    ensures { IfOk result (λ r. (statements : List Statement) (space : List ℕ) → IsReady store.now (answer_ready (call_answer (record { statements = statements; space = space; view = store.now }) builtin (variables_of arguments.now))) r) }
+{
+    let count = arguments_of(builtin);
+    if arguments.len() != count {
+        return Ok(Readiness::Steps);
+    }
+    let first = arguments.at(alloc, 0)?;
+    let second = arguments.at(alloc, place_within(1, count))?;
+    builtins::ready_given(alloc, store, builtin, first.variable(), second.variable())
+}
+
+/// The call of a value.
+#[tactic(auto, using(crate::proofs::ReadyLaws::procedure_steps))]
+fn ready_value(
+    alloc: Global,
+    store: &Store,
+    value: &Value,
+    arguments: &Arguments<'_>,
+) -> Result<Readiness, AllocError>
+    ensures { IfOk result (λ r. (statements : List Statement) (space : List ℕ) → IsReady store.now (answer_ready (value_called (record { statements = statements; space = space; view = store.now }) (variables_of arguments.now) value.now)) r) }
+{
+    match value {
+        Value::Constant(_) => Ok(Readiness::Steps),
+        Value::Record(_) => Ok(Readiness::Steps),
+        Value::Procedure(_) => Ok(Readiness::Steps),
+        Value::Builtin(builtin) => ready_builtin(alloc, store, *builtin, arguments),
+    }
+}
+
+/// The call of what has this value, if it has one.
+fn ready_given(
+    alloc: Global,
+    store: &Store,
+    procedure: &Ident,
+    value: Option<&Value>,
+    arguments: &Arguments<'_>,
+) -> Result<Readiness, AllocError>
+    ensures { IfOk result (λ r. (statements : List Statement) (space : List ℕ) → IsReady store.now (answer_ready (given procedure.now (option_copied value.entry) (value_called (record { statements = statements; space = space; view = store.now }) (variables_of arguments.now)))) r) }
+{
+    match value {
+        None => ready_by(alloc, Some(procedure)),
+        Some(value) => ready_value(alloc, store, value, arguments),
+    }
+}
+
+/// The call of a variable.
+fn ready_called(
+    alloc: Global,
+    store: &Store,
+    procedure: &Ident,
+    arguments: &Arguments<'_>,
+) -> Result<Readiness, AllocError>
+    ensures { IfOk result (λ r. (statements : List Statement) (space : List ℕ) → IsReady store.now (answer_ready (called (record { statements = statements; space = space; view = store.now }) procedure.now (variables_of arguments.now))) r) }
+{
+    let value = store.value(procedure);
+    ready_given(alloc, store, procedure, value, arguments)
+}
+
+/// `{P X ..}`
+fn ready_call(
+    alloc: Global,
+    store: &Store,
+    environment: &Environment,
+    procedure: Identifier,
+    names: &Sequence<Identifier>,
+) -> Result<Readiness, AllocError>
+    ensures { IfOk result (λ r. (statements : List Statement) (space : List ℕ) → IsReady store.now (answer_ready (called (record { statements = statements; space = space; view = store.now }) (bound environment.now procedure) (map (bound environment.now) names.now))) r) }
+{
+    let procedure = look(alloc, environment, procedure)?;
+    let arguments = Arguments::Names {
+        environment,
+        names: names.as_slice(),
+    };
+    ready_called(alloc, store, procedure.variable(), &arguments)
+}
+
+/// `{'op' X Y ..}`
+fn ready_operation(
+    alloc: Global,
+    store: &Store,
+    environment: &Environment,
+    operation: Operation,
+    names: &Sequence<Identifier>,
+) -> Result<Readiness, AllocError>
+    ensures { IfOk result (λ r. (statements : List Statement) (space : List ℕ) → IsReady store.now (answer_ready (call_answer (record { statements = statements; space = space; view = store.now }) (Builtin.Operation operation) (map (bound environment.now) names.now))) r) }
+{
+    let arguments = Arguments::Names {
+        environment,
+        names: names.as_slice(),
+    };
+    ready_builtin(alloc, store, Builtin::Operation(operation), &arguments)
+}
+
+/// `if X then S .. else S .. end`
+fn ready_test(
+    alloc: Global,
+    store: &Store,
+    environment: &Environment,
+    condition: Identifier,
+) -> Result<Readiness, AllocError>
+    ensures { IfOk result (λ r. (accepted otherwise : List ℕ) → IsReady store.now (answer_ready (with_value store.now (bound environment.now condition) (branch environment.now accepted otherwise))) r) }
+{
+    let condition = look(alloc, environment, condition)?;
+    ready_one(alloc, store, condition.variable())
+}
+
+/// `case X of P then S .. else S .. end`
+fn ready_match(
+    alloc: Global,
+    store: &Store,
+    environment: &Environment,
+    subject: Identifier,
+    pattern: &Sequence<Piece>,
+) -> Result<Readiness, AllocError>
+    ensures { IfOk result (λ r. (accepted otherwise : List ℕ) → IsReady store.now (answer_ready (clause environment.now accepted otherwise (matched store.now pattern.now (bound environment.now subject ∷ []) environment.now))) r) }
+{
+    let subject = look(alloc, environment, subject)?;
+    let awaited = waits(alloc, store, pattern.as_slice(), subject.variable())?;
+    ready_by(alloc, awaited.as_ref())
+}
+
+fn ready_statement(
+    alloc: Global,
+    store: &Store,
+    environment: &Environment,
+    statement: &Statement,
+) -> Result<Readiness, AllocError>
+    ensures { IfOk result (λ r. (statements : List Statement) (space : List ℕ) → IsReady store.now (answer_ready (statement_answer (record { statements = statements; space = space; view = store.now }) environment.now statement.now)) r) }
+{
+    match statement {
+        Statement::Call {
+            procedure,
+            arguments,
+        } => ready_call(alloc, store, environment, *procedure, arguments),
+        Statement::Operate {
+            operation,
+            arguments,
+        } => ready_operation(alloc, store, environment, *operation, arguments),
+        Statement::Choice { alternatives } => Ok(Readiness::Offers(alternatives.len() as u64)),
+        Statement::If { condition, .. } => ready_test(alloc, store, environment, *condition),
+        Statement::Case {
+            subject,
+            pattern,
+            ..
+        } => ready_match(alloc, store, environment, *subject, pattern),
+        // Nothing lets these step.
+        Statement::Post { .. } => Ok(Readiness::Waits(Sequence::new(alloc))),
+        Statement::PostTimes { .. } => Ok(Readiness::Waits(Sequence::new(alloc))),
+        Statement::Skip
+        | Statement::Fail
+        | Statement::Local { .. }
+        | Statement::Equate { .. }
+        | Statement::Bind { .. }
+        | Statement::BindRecord { .. }
+        | Statement::BindProcedure { .. }
+        | Statement::NoMatch
+        | Statement::Thread { .. }
+        | Statement::Try { .. }
+        | Statement::Raise { .. } => Ok(Readiness::Steps),
+    }
+}
+
+/// A statement with a number. One that the program does not have waits for nothing.
+fn ready_numbered(
+    alloc: Global,
+    store: &Store,
+    environment: &Environment,
+    statement: Option<&Statement>,
+) -> Result<Readiness, AllocError>
+    ensures { IfOk result (λ r. (statements : List Statement) (space : List ℕ) → IsReady store.now (answer_ready (numbered_answer (record { statements = statements; space = space; view = store.now }) environment.now (option_copied statement.entry))) r) }
+{
+    match statement {
+        None => Ok(Readiness::Waits(Sequence::new(alloc))),
+        Some(statement) => ready_statement(alloc, store, environment, statement),
+    }
+}
+
+fn ready_code(
+    alloc: Global,
+    statements: &[Statement],
+    store: &Store,
+    frame: &Frame,
+) -> Result<Readiness, AllocError>
+    ensures { IfOk result (λ r. (space : List ℕ) → IsReady store.now (answer_ready (code_answer (record { statements = statements.now; space = space; view = store.now }) frame.now.environment frame.now.code)) r) }
+{
+    match &frame.code {
+        Code::Statement(number) => {
+            let statement = statement_at(statements, *number);
+            ready_numbered(alloc, store, &frame.environment, statement)
+        }
+        Code::Call {
+            procedure,
+            argument,
+        } => ready_called(alloc, store, procedure, &Arguments::One(argument)),
+        Code::Mark { .. } => Ok(Readiness::Steps),
+    }
+}
+
+/// Whether the statement on top of a thread's stack can step, in a space that sees this: which space it is has no part in it. It
+/// refuses where there is no memory, which it needs for tests of equality, for matches and for what it waits for alone.
+pub fn ready(
+    alloc: Global,
+    statements: &[Statement],
+    space: &SpaceName,
+    store: &Store,
+    frame: &Frame,
+) -> Result<Readiness, AllocError>
+    ensures { IfOk result (IsReady store.now (answer_ready (code_answer (record { statements = statements.now; space = space.now; view = store.now }) frame.now.environment frame.now.code))) }
+{
+    let _ = space;
+    ready_code(alloc, statements, store, frame)
+}
