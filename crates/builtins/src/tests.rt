@@ -23,7 +23,7 @@ fn told(alloc: Global) -> Result<Store, AllocError> {
         variable: variable(1),
         value: Value::Constant(Constant::Int(-2)),
     };
-    let mut store = Store::new(alloc)?;
+    let mut store = Store::new(alloc);
     let tells = Vec::from_array(alloc, [seven, less])?;
     let mut touched = Vec::new(alloc);
     store.tell(alloc, tells.as_slice(), &mut touched)?;
@@ -69,7 +69,7 @@ fn computes(rt: HostRuntime) -> Result<(), Fail> {
 #[test]
 fn the_top_alone_shows(rt: HostRuntime) -> Result<(), Fail> {
     let alloc = rt.alloc();
-    let store = Store::new(alloc)?;
+    let store = Store::new(alloc);
     let child = SpaceName::top().child(alloc, 1)?;
     let arguments = Vec::from_array(alloc, [variable(0)])?;
     let answer = answer_call(alloc, &store, &child, Builtin::Show, arguments.as_slice())?;
@@ -84,7 +84,7 @@ fn the_top_alone_shows(rt: HostRuntime) -> Result<(), Fail> {
 #[test]
 fn waits_for_its_input(rt: HostRuntime) -> Result<(), Fail> {
     let alloc = rt.alloc();
-    let store = Store::new(alloc)?;
+    let store = Store::new(alloc);
     let arguments = Vec::from_array(alloc, [variable(3)])?;
     let ready = ready_call(alloc, &store, Builtin::Wait, arguments.as_slice())?;
     let waiting = match ready {

@@ -38,7 +38,7 @@ fn told(alloc: Global) -> Result<Store, AllocError> {
         variable: variable(1),
         value: Value::Constant(Constant::Int(1)),
     };
-    let mut store = Store::new(alloc)?;
+    let mut store = Store::new(alloc);
     let tells = Vec::from_array(alloc, [pair, one])?;
     let mut touched = Vec::new(alloc);
     store.tell(alloc, tells.as_slice(), &mut touched)?;

@@ -38,7 +38,7 @@ fn frame(number: u32) -> Frame {
 #[test]
 fn passes(rt: HostRuntime) -> Result<(), Fail> {
     let alloc = rt.alloc();
-    let store = Store::new(alloc)?;
+    let store = Store::new(alloc);
     let statements = program(alloc)?;
     let top = SpaceName::top();
     let passed = match answer(alloc, statements.as_slice(), &top, &store, &frame(0))? {
@@ -55,7 +55,7 @@ fn stands(
     statements: &[Statement],
     number: u32,
 ) -> Result<(usize, u64), AllocError> {
-    let store = Store::new(alloc)?;
+    let store = Store::new(alloc);
     match ready(alloc, statements, &SpaceName::top(), &store, &frame(number))? {
         Readiness::Steps => Ok((0, 0)),
         Readiness::Waits(variables) => Ok((variables.len(), 0)),

@@ -1,1 +1,11 @@
 pub mod PlaceLaws
+pub mod ClassLaws
+pub mod ClosingLaws
+pub mod JoiningLaws
+pub mod NamingLaws
+pub mod WeighingLaws
+pub mod TrailLaws
+pub mod TakingLaws
+pub mod Pairs
+pub mod ToldLaws
+pub mod TellingLaws

@@ -1,19 +1,99 @@
--- Classes of variables, each with a variable that stands for it.
-use Rattle.std.specs.Prelude.{◌≡◌, ◌↔◌, IsTrue, List}
-use Rattle.std.specs.Map.{lookup}
+-- Classes of variables: trees, each of whose roots stands for a class.
+use Rattle.std.specs.Prelude.{ℕ, zero, suc, ◌≡◌, ◌↔◌, ◌⊎◌, ◌<◌, if◌then◌else◌, IsTrue, List, Option, Some, None}
+use Rattle.ident_map.specs.Entries.{entry}
+use Rattle.ident_map.specs.declared.map.Row.{Row}
 use Rattle.oz_base.specs.Names.{ident_eq}
 use Rattle.oz_base.specs.declared.names.Ident.{Ident}
-use Rattle.std.specs.Prelude.{unwrap_or}
 use Rattle.oz_semantics.specs.Store.{same}
 use Rattle.oz_semantics.specs.declared.value.Tell.{Tell}
+use Rattle.term_store.specs.declared.cell.Cell.{Cell}
+use Rattle.term_store.specs.declared.cell.Cell.TheVariants.{Below, Root}
 
--- STUB
+-- what is kept of variables
 abbrev pub Table : Type 0
-Table = List (Ident × Ident)
+Table = List (Row Cell)
+
+abbrev pub link_of : Option Cell → Option Ident
+link_of None = None
+link_of (Some (Below parent rank)) = Some parent
+link_of (Some (Root rank first)) = None
+
+abbrev pub rank_of : Option Cell → ℕ
+rank_of None = 0
+rank_of (Some (Below parent rank)) = rank
+rank_of (Some (Root rank first)) = rank
+
+abbrev pub first_of : Option Cell → Option ℕ
+first_of None = None
+first_of (Some (Below parent rank)) = None
+first_of (Some (Root rank first)) = first
+
+-- the variable that x stands below
+abbrev pub link_in : Table → Ident → Option Ident
+link_in t x = link_of (entry t x)
+
+abbrev pub rank_in : Table → Ident → ℕ
+rank_in t x = rank_of (entry t x)
+
+-- the place at which the first value was told of a class, by the variable that stands for it
+abbrev pub first_in : Table → Ident → Option ℕ
+first_in t x = first_of (entry t x)
+
+-- ranks grow on the way up
+pub record Ranked (t : Table) : Type 0 where
+  pub bounded : (x : Ident) → rank_in t x < 256
+  pub grows : (x y : Ident) → link_in t x ≡ Some y → rank_in t x < rank_in t y
+
+abbrev pub follow : (Ident → Ident) → Ident → Option Ident → Ident
+follow next x None = x
+follow next x (Some y) = next y
+
+-- where so many steps up lead, or fewer
+unfoldable pub climbed : ℕ → Table → Ident → Ident
+climbed zero t x = x
+climbed (suc n) t x = follow (climbed n t) x (link_in t x)
 
 -- the variable that stands for the class of x
 unfoldable pub root_in : Table → Ident → Ident
-root_in t x = unwrap_or (lookup (ident_eq x) t) x
+root_in t x = climbed 256 t x
+
+-- a variable that stands for a class
+abbrev pub IsTop : Table → Ident → Type 0
+IsTop t x = link_in t x ≡ None
+
+-- the same classes, with the same first values
+pub record Likewise (t t' : Table) : Type 0 where
+  pub links : (x : Ident) → link_in t' x ≡ link_in t x
+  pub firsts : (x : Ident) → first_in t' x ≡ first_in t x
+
+-- the same classes, where that of r has its first value at this place now
+pub record Marks (t t' : Table) (r : Ident) (place : ℕ) : Type 0 where
+  pub links : (x : Ident) → link_in t' x ≡ link_in t x
+  pub first : first_in t' r ≡ Some place
+  pub others : (x : Ident) → (x ≡ r → ⊥) → first_in t' x ≡ first_in t x
+
+-- x, or another in its place where it is this variable
+abbrev pub instead : Ident → Ident → Ident → Ident
+instead under over x = if ident_eq x under then over else x
+
+-- one variable stands for what two stood for, and the first value of the class is that at the place
+pub record Unites (t t' : Table) (under over : Ident) (place : Option ℕ) : Type 0 where
+  pub top : IsTop t' over
+  pub roots : (x : Ident) → root_in t' x ≡ instead under over (root_in t x)
+  pub first : first_in t' over ≡ place
+  pub others : (x : Ident) → (x ≡ under → ⊥) → (x ≡ over → ⊥) → first_in t' x ≡ first_in t x
+
+-- one of two stands for both
+abbrev pub UnitesOne : Table → Table → Ident → Ident → Type 0
+UnitesOne t t' x y = Unites t t' x y (first_in t y) ⊎ Unites t t' y x (first_in t x)
+
+-- one that has a value, if there is one
+abbrev pub UnitesFree : Table → Table → Ident → Ident → Type 0
+UnitesFree t t' x y = ((first_in t x ≡ None) × Unites t t' x y (first_in t y)) ⊎ ((first_in t y ≡ None) × Unites t t' y x (first_in t x))
+
+-- one of two stands for both, with this place
+abbrev pub UnitesAt : Table → Table → Ident → Ident → ℕ → Type 0
+UnitesAt t t' x y place = Unites t t' x y (Some place) ⊎ Unites t t' y x (Some place)
 
 -- the classes of a table are those of variables that the tells make equal
 pub record IsPartition (ts : List Tell) (t : Table) : Type 0 where

@@ -1,3 +1,5 @@
 pub mod Classes
+pub mod Logs
 pub mod Places
 pub mod Telling
+pub mod Closing

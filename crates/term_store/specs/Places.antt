@@ -12,6 +12,10 @@ value_told None = None
 value_told (Some (Equal x y)) = None
 value_told (Some (Is x v)) = Some v
 
+-- the value that is told at a place
+abbrev pub value_at : List Tell → ℕ → Option Value
+value_at ts place = value_told (slice_get ts place)
+
 -- whether a tell gives the class of a variable a value
 abbrev pub gives_value : List Tell → Ident → Tell → Bool
 gives_value ts x t = is_some (value_given (λ y. same ts y x) t)

@@ -1,42 +1,240 @@
-//! Classes of variables.
-ghost use Rattle.std.specs.Prelude.{◌≡◌};
+//! Classes of variables: trees, each of whose roots stands for a class.
+ghost use Rattle.std.specs.Prelude.{◌≡◌, ◌<◌, ◌⊎◌, false, Some, None, OnOk, OnErr, option_copied};
 ghost use Rattle.oz_base.specs.Names.{ident_eq};
-ghost use Rattle.term_store.specs.Classes.{root_in};
+ghost use Rattle.ident_map.specs.Entries.{entry};
+ghost use Rattle.term_store.specs.Classes.{link_in, rank_in, first_in, root_in, IsTop, Likewise, Marks, Unites, UnitesOne, UnitesFree, UnitesAt};
 
-use oz_base::Ident;
+use crate::cell::Cell;
+use ident_map::IdentMap;
+use oz_base::{Copies, Ident, same_ident};
+use std::alloc::{AllocError, Global};
 use std::marker::Model;
 
-/// Classes of variables.
+/// Classes of variables. A variable of which nothing is kept is alone in its class.
+///
+/// A tree of n variables has a height of at most log n + 1, and a look takes as many steps. A copy shares what is kept.
 #[derive(Drop)]
 pub struct Classes {
-    stub: u8,
+    cells: IdentMap<Cell>,
 }
 
 impl Model for Classes {
-    ghost use Rattle.term_store.specs.Classes.{Table};
-    ghost use Rattle.std.specs.Prelude.{[]};
+    ghost use Rattle.std.specs.FinMap as map;
+    ghost use Rattle.std.specs.Coded.{codes};
+    ghost use Rattle.term_store.specs.Classes.{Table, Ranked};
 
     ghost Value = { Table };
 
-    ghost view = { λ c. [] };
+    ghost coded = { Prim.hlevel (codes, map.code) };
 
-    ghost invariant = { λ c. ⊥ };
+    ghost view = { λ c. c.cells };
+
+    ghost invariant = { λ c. Ranked c.cells };
 }
 
 impl Classes {
+    /// Each variable is alone. It takes no memory.
+    pub fn new(alloc: Global) -> Classes
+        ensures { (x : Ident) → entry result x ≡ None }
+    {
+        Classes {
+            cells: IdentMap::new(alloc),
+        }
+    }
+
+    /// The variable that another stands below.
+    fn parent(&self, variable: &Ident) -> Option<&Ident>
+        ensures { option_copied result ≡ link_in self.now variable.now }
+    {
+        match self.cells.get(variable) {
+            Some(Cell::Below { parent, .. }) => Some(parent),
+            _ => None,
+        }
+    }
+
+    fn rank(&self, variable: &Ident) -> u8
+        ensures { result ≡ rank_in self.now variable.now }
+    {
+        match self.cells.get(variable) {
+            None => 0,
+            Some(Cell::Below { rank, .. }) => *rank,
+            Some(Cell::Root { rank, .. }) => *rank,
+        }
+    }
+
+    /// The place at which the first value was told of the class that a variable stands for.
+    pub fn first(&self, root: &Ident) -> Option<u64>
+        ensures { result ≡ first_in self.now root.now }
+    {
+        match self.cells.get(root) {
+            Some(Cell::Root { first, .. }) => *first,
+            _ => None,
+        }
+    }
+
     /// The variable that stands for the class of another.
     pub fn root<'a>(&'a self, variable: &'a Ident) -> &'a Ident
-        ensures { result.now ≡ root_in self.now variable.now }
+        ensures root { result.now ≡ root_in self.now variable.now }
+        ensures top { IsTop self.now result.now }
     {
-        let _ = &self.stub;
-        variable
+        let _ = &self.cells;
+        let mut at = variable;
+        'climb: while let Some(parent) = self.parent(at) {
+            at = parent;
+        }
+        at
     }
 
     /// Whether two variables are of one class.
     pub fn are_one(&self, left: &Ident, right: &Ident) -> bool
         ensures { result ≡ ident_eq (root_in self.now left.now) (root_in self.now right.now) }
     {
-        let _ = &self.stub;
-        left == right
+        same_ident(self.root(left), self.root(right))
+    }
+
+    /// The first value of the class that a variable stands for was told at this place. An error is for lack of memory.
+    pub fn mark(&mut self, alloc: Global, root: &Ident, place: u64) -> Result<(), AllocError>
+        requires top { IsTop self.old root.now }
+        ensures ok { OnOk result (Marks self.old self.new root.now place) }
+        ensures err { OnErr result (self.new ≡ self.old) }
+    {
+        let rank = self.rank(root);
+        let first = Some(place);
+        self.cells.insert(alloc, root, Cell::Root { rank, first })?;
+        Ok(())
+    }
+
+    /// Raises the rank of a variable that stands for a class.
+    fn raise(&mut self, alloc: Global, root: &Ident, rank: u8) -> Result<(), AllocError>
+        requires top { IsTop self.old root.now }
+        requires more { rank_in self.old root.now < rank }
+        ensures likewise { Likewise self.old self.new }
+        ensures ok { OnOk result (rank_in self.new root.now ≡ rank) }
+        ensures others { (x : Ident) → ident_eq x root.now ≡ false → rank_in self.new x ≡ rank_in self.old x }
+    {
+        let first = self.first(root);
+        self.cells.insert(alloc, root, Cell::Root { rank, first })?;
+        Ok(())
+    }
+
+    /// Raises the rank of a variable that stands for a class above another.
+    fn raise_above(&mut self, alloc: Global, root: &Ident, rank: u8) -> Result<(), AllocError>
+        requires top { IsTop self.old root.now }
+        ensures likewise { Likewise self.old self.new }
+        ensures ok { OnOk result (rank < rank_in self.new root.now) }
+        ensures others { (x : Ident) → ident_eq x root.now ≡ false → rank_in self.new x ≡ rank_in self.old x }
+    {
+        if rank < self.rank(root) {
+            return Ok(());
+        }
+        if rank == u8::MAX {
+            return Err(AllocError);
+        }
+        self.raise(alloc, root, rank + 1)
+    }
+
+    /// Puts one that stands for a class below another, of a higher rank.
+    fn link(&mut self, alloc: Global, under: &Ident, over: &Ident) -> Result<(), AllocError>
+        requires under { IsTop self.old under.now }
+        requires over { IsTop self.old over.now }
+        requires higher { rank_in self.old under.now < rank_in self.old over.now }
+        ensures ok { OnOk result (Unites self.old self.new under.now over.now (first_in self.old over.now)) }
+        ensures err { OnErr result (self.new ≡ self.old) }
+    {
+        let rank = self.rank(under);
+        let parent = over.copied(alloc)?;
+        self.cells
+            .insert(alloc, under, Cell::Below { parent, rank })?;
+        Ok(())
+    }
+
+    /// Puts one that stands for a class below another.
+    fn put(&mut self, alloc: Global, under: &Ident, over: &Ident) -> Result<(), AllocError>
+        requires under { IsTop self.old under.now }
+        requires over { IsTop self.old over.now }
+        requires apart { ident_eq under.now over.now ≡ false }
+        ensures ok { OnOk result (Unites self.old self.new under.now over.now (first_in self.old over.now)) }
+        ensures err { OnErr result (Likewise self.old self.new) }
+    {
+        let rank = self.rank(under);
+        self.raise_above(alloc, over, rank)?;
+        self.link(alloc, under, over)
+    }
+
+    /// Puts the lower tree of two below the other.
+    fn put_lower(&mut self, alloc: Global, left: &Ident, right: &Ident) -> Result<(), AllocError>
+        requires left { IsTop self.old left.now }
+        requires right { IsTop self.old right.now }
+        requires apart { ident_eq left.now right.now ≡ false }
+        ensures ok { OnOk result (UnitesOne self.old self.new left.now right.now) }
+        ensures err { OnErr result (Likewise self.old self.new) }
+    {
+        if self.rank(left) < self.rank(right) {
+            return self.put(alloc, left, right);
+        }
+        self.put(alloc, right, left)
+    }
+
+    /// Joins the classes that two variables stand for, one of which has no value: one that has a value stands for both. An error
+    /// is for lack of memory, and leaves the classes.
+    pub fn unite(&mut self, alloc: Global, left: &Ident, right: &Ident) -> Result<(), AllocError>
+        requires left { IsTop self.old left.now }
+        requires right { IsTop self.old right.now }
+        requires apart { ident_eq left.now right.now ≡ false }
+        requires free { (first_in self.old left.now ≡ None) ⊎ (first_in self.old right.now ≡ None) }
+        ensures ok { OnOk result (UnitesFree self.old self.new left.now right.now) }
+        ensures err { OnErr result (Likewise self.old self.new) }
+    {
+        match (self.first(left), self.first(right)) {
+            (None, None) => self.put_lower(alloc, left, right),
+            (None, Some(_)) => self.put(alloc, left, right),
+            (Some(_), _) => self.put(alloc, right, left),
+        }
+    }
+
+    /// Puts one that stands for a class below another, whose first value is that at the place from now on.
+    fn put_at(
+        &mut self,
+        alloc: Global,
+        under: &Ident,
+        over: &Ident,
+        place: u64,
+    ) -> Result<(), AllocError>
+        requires under { IsTop self.old under.now }
+        requires over { IsTop self.old over.now }
+        requires apart { ident_eq under.now over.now ≡ false }
+        ensures { OnOk result (Unites self.old self.new under.now over.now (Some place)) }
+    {
+        self.put(alloc, under, over)?;
+        self.mark(alloc, over, place)?;
+        Ok(())
+    }
+
+    /// Joins the classes that two variables stand for, whose first value is that at the place.
+    pub fn unite_at(
+        &mut self,
+        alloc: Global,
+        left: &Ident,
+        right: &Ident,
+        place: u64,
+    ) -> Result<(), AllocError>
+        requires left { IsTop self.old left.now }
+        requires right { IsTop self.old right.now }
+        requires apart { ident_eq left.now right.now ≡ false }
+        ensures { OnOk result (UnitesAt self.old self.new left.now right.now place) }
+    {
+        if self.rank(left) < self.rank(right) {
+            return self.put_at(alloc, left, right, place);
+        }
+        self.put_at(alloc, right, left, place)
+    }
+}
+
+impl Copies for Classes {
+    /// It takes the time and memory of a few words, and of as many for each space below the top of which something is kept.
+    fn copied(&self, alloc: Global) -> Result<Self, AllocError> {
+        Ok(Classes {
+            cells: self.cells.copied(alloc)?,
+        })
     }
 }

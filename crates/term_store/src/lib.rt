@@ -2,7 +2,10 @@
 //! (CTM 2.2, 2.8).
 #![tactic(auto)]
 
+mod cell;
 mod classes;
+mod closing;
+mod log;
 mod places;
 mod store;
 mod values;
@@ -11,3 +14,6 @@ pub use classes::Classes;
 pub use places::place_law;
 pub use store::Store;
 pub use values::{fields_of, is_like};
+
+#[cfg(test)]
+mod tests;

@@ -1,19 +1,33 @@
 //! The store.
-ghost use Rattle.std.specs.Prelude.{◌≡◌, ◌∷◌, [], true, length, slice_get, IfOk, OnErr, option_copied};
+ghost use Rattle.std.specs.Prelude.{◌≡◌, ◌∷◌, ◌++◌, ◌⊎◌, [], true, false, length, slice_get, Some, None, Contains, IfOk, OnOk, OnErr, option_copied};
+ghost use Rattle.oz_base.specs.Names.{ident_eq};
+ghost use Rattle.oz_base.specs.declared.names.Ident.{Ident};
 ghost use Rattle.oz_semantics.specs.Store.{same, value_of, is_determined, is_consistent};
-ghost use Rattle.term_store.specs.Classes.{IsPartition};
+ghost use Rattle.oz_semantics.specs.declared.value.Tell.TheVariants.{Equal, Is};
+ghost use Rattle.oz_semantics.specs.declared.value.Value.{Value};
+ghost use Rattle.term_store.specs.Classes.{Table, IsTop, IsPartition, Likewise, UnitesFree, first_in};
+ghost use Rattle.term_store.specs.Closing.{Going};
+ghost use Rattle.term_store.specs.Logs.{told_in};
 ghost use Rattle.term_store.specs.Places.{value_place};
 ghost use Rattle.term_store.specs.Telling.{IsTold};
 
-use crate::Classes;
+use crate::classes::Classes;
+use crate::closing::{Draft, zipped};
+use crate::log::Log;
+use crate::values::{fields_of, is_like};
 use oz_base::{Copies, Ident};
 use oz_semantics::{Tell, Value};
 use std::alloc::{AllocError, Global};
 use std::marker::Model;
 
 /// What a space sees. Contracts see the list of everything that it and its ancestors were told; this is always consistent.
+///
+/// A look takes a time that grows with the logarithm of the number of variables alone. A value that is told of a class that has
+/// none, and an equation of two classes of which one has none, are written in place, where no copy shares what they change. All
+/// else is told to a copy, which then takes the place of the store.
 #[derive(Drop)]
 pub struct Store {
+    log: Log,
     classes: Classes,
 }
 
@@ -22,61 +36,47 @@ impl Model for Store {
     ghost use Rattle.std.specs.Prelude.{[]};
     ghost use Rattle.std.specs.Coded.{codes};
     ghost use Rattle.environments.specs.contracts.environment.Environment as environment;
+    ghost use Rattle.term_store.specs.Closing.{Going};
+    ghost use Rattle.term_store.specs.Logs.{told_in};
 
     ghost Value = { View };
 
     ghost coded = { Prim.hlevel (codes, environment.the_row.coded) };
 
-    ghost view = { λ s. [] };
+    ghost view = { λ s. told_in s.log };
 
-    ghost invariant = { λ s. ⊥ };
+    ghost invariant = { λ s. Going (told_in s.log) s.classes [] };
 }
 
 impl Store {
     /// A store that was told nothing. It takes no memory.
-    pub fn new(_alloc: Global) -> Result<Store, AllocError>
-        ensures { IfOk result (λ store. store ≡ []) }
+    pub fn new(alloc: Global) -> Store
+        ensures { result ≡ [] }
     {
-        Err(AllocError)
+        Store {
+            log: Log::new(),
+            classes: Classes::new(alloc),
+        }
     }
 
     /// How much it was told.
     pub fn len(&self) -> u64
         ensures { result ≡ length self.now }
     {
-        let _ = &self.classes;
-        0
+        self.log.len()
     }
 
     /// What it was told at this place, from 0.
     pub fn told_at(&self, place: u64) -> Option<&Tell>
         ensures { option_copied result ≡ slice_get self.now place }
     {
-        let _ = &self.classes;
-        None
-    }
-
-    /// Tells it all of this, and notes variables of the classes that are joined, or told a value and had none. False exactly where
-    /// it is inconsistent with what was told before: then the store is as it was. An error is for lack of memory, and leaves it as
-    /// it was too.
-    pub fn tell(
-        &mut self,
-        _alloc: Global,
-        tells: &[Tell],
-        touched: &mut Vec<Ident>,
-    ) -> Result<bool, AllocError>
-        ensures told { IfOk result (IsTold self.old tells.now self.new touched.old.items touched.new.items) }
-        ensures err { OnErr result (self.new ≡ self.old) }
-    {
-        let _ = &self.classes;
-        Err(AllocError)
+        self.log.get(place)
     }
 
     /// The classes of the variables that it makes equal.
     pub fn classes(&self) -> &Classes
         ensures { IsPartition self.now result.now }
     {
-        let _ = &self.classes;
         &self.classes
     }
 
@@ -84,31 +84,31 @@ impl Store {
     pub fn same(&self, left: &Ident, right: &Ident) -> bool
         ensures { result ≡ same self.now left.now right.now }
     {
-        let _ = &self.classes;
-        left == right
+        self.classes.are_one(left, right)
     }
 
     /// The place at which the first value of a variable's class was told, if it has one.
     pub fn value_place(&self, variable: &Ident) -> Option<u64>
         ensures { result ≡ value_place self.now variable.now }
     {
-        let _ = &self.classes;
-        None
+        self.classes.first(self.classes.root(variable))
     }
 
     /// The value of a variable, if it has one.
     pub fn value(&self, variable: &Ident) -> Option<&Value>
         ensures { option_copied result ≡ value_of self.now variable.now }
     {
-        let _ = &self.classes;
-        None
+        match self.value_place(variable) {
+            None => None,
+            Some(place) => self.log.value(place),
+        }
     }
 
     pub fn is_determined(&self, variable: &Ident) -> bool
         ensures { result ≡ is_determined self.now variable.now }
     {
         let _ = &self.classes;
-        false
+        self.value_place(variable).is_some()
     }
 
     /// What it was told is consistent. Nothing: it holds a law.
@@ -117,12 +117,241 @@ impl Store {
     {
         let _ = &self.classes;
     }
+
+    /// Tells it what leads to pairs that are to be joined, on a copy that is put in its place at the end.
+    fn close(
+        &mut self,
+        alloc: Global,
+        tell: Tell,
+        pending: Vec<(Ident, Ident)>,
+        touched: &mut Vec<Ident>,
+    ) -> Result<bool, AllocError>
+        requires going { (t : Table) → Going self.old t [] → Going (self.old ++ tell ∷ []) t pending.items }
+        requires determined { (x : Ident) (v : Value) → Contains (tell ∷ []) (Is x v) → is_determined self.old x ≡ true }
+        ensures told { IfOk result (IsTold self.old (tell ∷ []) self.new touched.old.items touched.new.items) }
+        ensures err { OnErr result (self.new ≡ self.old) }
+    {
+        let mut draft = Draft {
+            log: self.log.copied(alloc)?,
+            classes: self.classes.copied(alloc)?,
+            pending,
+            touched: Vec::new(alloc),
+        };
+        draft.log.push(alloc, tell)?;
+        if !draft.settle(alloc)? {
+            return Ok(false);
+        }
+        touched.append(&mut draft.touched)?;
+        self.log = draft.log;
+        self.classes = draft.classes;
+        Ok(true)
+    }
+
+    fn tell_equal(
+        &mut self,
+        alloc: Global,
+        left: &Ident,
+        right: &Ident,
+        touched: &mut Vec<Ident>,
+    ) -> Result<bool, AllocError>
+        ensures told { IfOk result (IsTold self.old (Equal left.now right.now ∷ []) self.new touched.old.items touched.new.items) }
+        ensures err { OnErr result (self.new ≡ self.old) }
+    {
+        let a = self.classes.root(left).copied(alloc)?;
+        let b = self.classes.root(right).copied(alloc)?;
+        if a == b {
+            self.log.push(alloc, equation(alloc, left, right)?)?;
+            return Ok(true);
+        }
+        if self.classes.first(&a).is_some() && self.classes.first(&b).is_some() {
+            let pending = one_pair(alloc, left, right)?;
+            return self.close(alloc, equation(alloc, left, right)?, pending, touched);
+        }
+        note_two(alloc, touched, left, right)?;
+        let tell = equation(alloc, left, right)?;
+        add_united(&mut self.log, &mut self.classes, alloc, &a, &b, tell)?;
+        Ok(true)
+    }
+
+    /// Tells it a value of a variable whose class has a first value at this place.
+    fn tell_again(
+        &mut self,
+        alloc: Global,
+        variable: &Ident,
+        value: &Value,
+        place: u64,
+        touched: &mut Vec<Ident>,
+    ) -> Result<bool, AllocError>
+        requires { value_place self.old variable.now ≡ Some place }
+        ensures told { IfOk result (IsTold self.old (Is variable.now value.now ∷ []) self.new touched.old.items touched.new.items) }
+        ensures err { OnErr result (self.new ≡ self.old) }
+    {
+        let Some(first) = self.log.value(place) else {
+            return Err(AllocError);
+        };
+        if !is_like(first, value) {
+            return Ok(false);
+        }
+        let pending = zipped(alloc, fields_of(first), fields_of(value))?;
+        let tell = binding(alloc, variable, value)?;
+        if pending.is_empty() {
+            self.log.push(alloc, tell)?;
+            return Ok(true);
+        }
+        self.close(alloc, tell, pending, touched)
+    }
+
+    fn tell_value(
+        &mut self,
+        alloc: Global,
+        variable: &Ident,
+        value: &Value,
+        touched: &mut Vec<Ident>,
+    ) -> Result<bool, AllocError>
+        ensures told { IfOk result (IsTold self.old (Is variable.now value.now ∷ []) self.new touched.old.items touched.new.items) }
+        ensures err { OnErr result (self.new ≡ self.old) }
+    {
+        let root = self.classes.root(variable).copied(alloc)?;
+        if let Some(place) = self.classes.first(&root) {
+            return self.tell_again(alloc, variable, value, place, touched);
+        }
+        let tell = binding(alloc, variable, value)?;
+        touched.push(variable.copied(alloc)?)?;
+        self.log.make_room(alloc)?;
+        self.classes.mark(alloc, &root, self.log.len())?;
+        self.log.put(tell);
+        Ok(true)
+    }
+
+    fn tell_one(
+        &mut self,
+        alloc: Global,
+        tell: &Tell,
+        touched: &mut Vec<Ident>,
+    ) -> Result<bool, AllocError>
+        ensures told { IfOk result (IsTold self.old (tell.now ∷ []) self.new touched.old.items touched.new.items) }
+        ensures err { OnErr result (self.new ≡ self.old) }
+    {
+        match tell {
+            Tell::Equal { left, right } => self.tell_equal(alloc, left, right, touched),
+            Tell::Is { variable, value } => self.tell_value(alloc, variable, value, touched),
+        }
+    }
+
+    /// Tells it one after another, on a copy that is put in its place at the end.
+    fn tell_each(
+        &mut self,
+        alloc: Global,
+        tells: &[Tell],
+        touched: &mut Vec<Ident>,
+    ) -> Result<bool, AllocError>
+        ensures told { IfOk result (IsTold self.old tells.now self.new touched.old.items touched.new.items) }
+        ensures err { OnErr result (self.new ≡ self.old) }
+    {
+        let _ = &self.classes;
+        let mut copy = self.copied(alloc)?;
+        for tell in tells {
+            if !copy.tell_one(alloc, tell, touched)? {
+                return Ok(false);
+            }
+        }
+        *self = copy;
+        Ok(true)
+    }
+
+    /// Tells it all of this, and notes variables of the classes that are joined, or told a value and had none. False exactly where
+    /// it is inconsistent with what was told before: then the store is as it was. An error is for lack of memory, and leaves it as
+    /// it was too.
+    pub fn tell(
+        &mut self,
+        alloc: Global,
+        tells: &[Tell],
+        touched: &mut Vec<Ident>,
+    ) -> Result<bool, AllocError>
+        ensures told { IfOk result (IsTold self.old tells.now self.new touched.old.items touched.new.items) }
+        ensures err { OnErr result (self.new ≡ self.old) }
+    {
+        let _ = &self.classes;
+        if tells.is_empty() {
+            return Ok(true);
+        }
+        match tells {
+            [tell] => self.tell_one(alloc, tell, touched),
+            _ => self.tell_each(alloc, tells, touched),
+        }
+    }
+}
+
+/// Adds a tell, and joins the classes that two variables stand for, one of which has no value.
+fn add_united(
+    log: &mut Log,
+    classes: &mut Classes,
+    alloc: Global,
+    left: &Ident,
+    right: &Ident,
+    tell: Tell,
+) -> Result<(), AllocError>
+    requires left { IsTop classes.old left.now }
+    requires right { IsTop classes.old right.now }
+    requires apart { ident_eq left.now right.now ≡ false }
+    requires free { (first_in classes.old left.now ≡ None) ⊎ (first_in classes.old right.now ≡ None) }
+    ensures told { OnOk result (told_in log.new ≡ told_in log.old ++ tell ∷ []) }
+    ensures ok { OnOk result (UnitesFree classes.old classes.new left.now right.now) }
+    ensures kept { OnErr result (told_in log.new ≡ told_in log.old) }
+    ensures err { OnErr result (Likewise classes.old classes.new) }
+{
+    log.make_room(alloc)?;
+    classes.unite(alloc, left, right)?;
+    log.put(tell);
+    Ok(())
+}
+
+fn note_two(
+    alloc: Global,
+    touched: &mut Vec<Ident>,
+    left: &Ident,
+    right: &Ident,
+) -> Result<(), AllocError>
+    ensures { OnOk result (touched.new.items ≡ touched.old.items ++ left.now ∷ right.now ∷ []) }
+{
+    touched.push(left.copied(alloc)?)?;
+    touched.push(right.copied(alloc)?)?;
+    Ok(())
+}
+
+fn equation(alloc: Global, left: &Ident, right: &Ident) -> Result<Tell, AllocError>
+    ensures { IfOk result (λ tell. tell ≡ Equal left.now right.now) }
+{
+    Ok(Tell::Equal {
+        left: left.copied(alloc)?,
+        right: right.copied(alloc)?,
+    })
+}
+
+fn binding(alloc: Global, variable: &Ident, value: &Value) -> Result<Tell, AllocError>
+    ensures { IfOk result (λ tell. tell ≡ Is variable.now value.now) }
+{
+    Ok(Tell::Is {
+        variable: variable.copied(alloc)?,
+        value: value.copied(alloc)?,
+    })
+}
+
+fn one_pair(alloc: Global, left: &Ident, right: &Ident) -> Result<Vec<(Ident, Ident)>, AllocError>
+    ensures { IfOk result (λ pairs. pairs.items ≡ (left.now, right.now) ∷ []) }
+{
+    let mut pairs = Vec::new(alloc);
+    pairs.push((left.copied(alloc)?, right.copied(alloc)?))?;
+    Ok(pairs)
 }
 
 impl Copies for Store {
     /// It shares what was told. It takes the time and memory of a few words, and of as many for each space below the top of which
     /// a variable was told something.
-    fn copied(&self, _alloc: Global) -> Result<Self, AllocError> {
-        Err(AllocError)
+    fn copied(&self, alloc: Global) -> Result<Self, AllocError> {
+        Ok(Store {
+            log: self.log.copied(alloc)?,
+            classes: self.classes.copied(alloc)?,
+        })
     }
 }

@@ -87,7 +87,7 @@ fn atom(x: u64, literal: Literal) -> Tell {
 }
 
 fn new_store(alloc: Global) -> Result<Store, AllocError> {
-    Store::new(alloc)
+    Ok(Store::new(alloc))
 }
 
 /// A store that was told this, which is consistent.

@@ -53,7 +53,7 @@ fn equal(x: u64, y: u64) -> Tell {
 }
 
 fn new_store(alloc: Global) -> Result<Store, AllocError> {
-    Store::new(alloc)
+    Ok(Store::new(alloc))
 }
 
 /// A store of records, integers and equations, which is consistent.

@@ -1,0 +1,74 @@
+use super::*;
+use oz_base::{Copies, Ident, SpaceName};
+use oz_language::Constant;
+use oz_semantics::{Tell, Value};
+use std::alloc::{AllocError, Global};
+use std::test::Fail;
+
+fn variable(number: u64) -> Ident {
+    Ident {
+        space: SpaceName::top(),
+        number,
+    }
+}
+
+/// `x=i`
+fn integer(x: u64, i: i128) -> Tell {
+    Tell::Is {
+        variable: variable(x),
+        value: Value::Constant(Constant::Int(i)),
+    }
+}
+
+/// `x=y`
+fn equation(x: u64, y: u64) -> Tell {
+    Tell::Equal {
+        left: variable(x),
+        right: variable(y),
+    }
+}
+
+fn tell(alloc: Global, store: &mut Store, tell: Tell) -> Result<bool, AllocError> {
+    let mut touched = Vec::new(alloc);
+    store.tell(alloc, &[tell], &mut touched)
+}
+
+fn integer_of(store: &Store, x: u64) -> Option<i128> {
+    match store.value(&variable(x)) {
+        Some(Value::Constant(Constant::Int(i))) => Some(*i),
+        _ => None,
+    }
+}
+
+/// The value of 0, which was told of 1, and that in a copy which was made before.
+fn values_apart(alloc: Global) -> Result<(Option<i128>, Option<i128>), AllocError> {
+    let mut store = Store::new(alloc);
+    tell(alloc, &mut store, equation(0, 1))?;
+    let copy = store.copied(alloc)?;
+    tell(alloc, &mut store, integer(1, 7))?;
+    Ok((integer_of(&store, 0), integer_of(&copy, 0)))
+}
+
+/// Whether it may be told two values of 0, and how much it was told then.
+fn told_two(alloc: Global) -> Result<(bool, u64), AllocError> {
+    let mut store = Store::new(alloc);
+    let mut touched = Vec::new(alloc);
+    let goes = store.tell(alloc, &[integer(0, 1), integer(0, 2)], &mut touched)?;
+    Ok((goes, store.len()))
+}
+
+#[test]
+fn keeps_a_copy_apart(rt: HostRuntime) -> Result<(), Fail> {
+    let (value, of_copy) = values_apart(rt.alloc())?;
+    assert_eq!(rt; value, Some(7));
+    assert_eq!(rt; of_copy, None);
+    Ok(())
+}
+
+#[test]
+fn stays_as_it_was_at_a_clash(rt: HostRuntime) -> Result<(), Fail> {
+    let (goes, len) = told_two(rt.alloc())?;
+    assert!(rt; !goes);
+    assert_eq!(rt; len, 0);
+    Ok(())
+}
