@@ -1,1 +1,9 @@
 pub mod Levels
+pub mod Places
+pub mod Shown
+pub mod Stacks
+pub mod Unwinding
+pub mod Beginnings
+pub mod Telling
+pub mod Silence
+pub mod Ending

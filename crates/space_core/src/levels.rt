@@ -8,7 +8,12 @@ ghost use Rattle.oz_semantics.specs.Edits.{created};
 ghost use Rattle.oz_semantics.specs.Settling.{inconsistent_spaces};
 ghost use Rattle.space_core.specs.Levels.{OfLayer, IsToldTo, IsUnwound, replacing};
 
-use oz_base::{Copies, Ident, SpaceName};
+use crate::homes::{all_home, has_below};
+use crate::level::{Level, top_level};
+use crate::looking::{level_place, level_position, top_frame};
+use crate::tree::{self, add_level, child_count, child_of, drop_below, store_above};
+use crate::{edits, silence, telling};
+use oz_base::{Copies, Ident, SpaceName, copies_of};
 use oz_semantics::{Frame, Next, Status, Tell, Thread};
 use std::alloc::{AllocError, Global};
 use std::marker::Model;
@@ -17,15 +22,11 @@ use term_store::Store;
 /// The layers of all spaces, in the order of their names, with what each space sees. Contracts see the list of layers.
 #[derive(Drop)]
 pub struct Levels {
-    next: Next,
-    status: Status,
-    space: SpaceName,
-    threads: Vec<Thread>,
-    store: Store,
+    levels: Vec<Level>,
 }
 
 impl Model for Levels {
-    ghost use Rattle.std.specs.Prelude.{List, []};
+    ghost use Rattle.std.specs.Prelude.{List};
     ghost use Rattle.std.specs.Coded.{codes};
     ghost use Rattle.environments.specs.contracts.environment.Environment as environment;
     ghost use Rattle.oz_semantics.specs.declared.configuration.Layer.{Layer};
@@ -34,33 +35,35 @@ impl Model for Levels {
 
     ghost coded = { Prim.hlevel (codes, environment.the_row.coded) };
 
-    ghost view = { λ l. [] };
+    ghost use Rattle.space_core.specs.Shown.{shown_all, IsSound};
 
-    ghost invariant = { λ l. ⊥ };
+    ghost view = { λ l. shown_all l.levels.items };
+
+    ghost invariant = { λ l. IsSound l.levels.items };
 }
 
 impl Levels {
     /// The top alone, which was told nothing and has no thread.
-    pub fn new(_alloc: Global) -> Result<Levels, AllocError>
+    pub fn new(alloc: Global) -> Result<Levels, AllocError>
         ensures { IfOk result (λ levels. levels ≡ new_layer [] ∷ []) }
     {
-        Err(AllocError)
+        let mut levels = Vec::new(alloc);
+        levels.push(top_level(alloc))?;
+        Ok(Levels { levels })
     }
 
     /// How many spaces there are.
     pub fn len(&self) -> usize
         ensures { result ≡ length self.now }
     {
-        let _ = &self.store;
-        0
+        self.levels.len()
     }
 
     /// The place of a space.
     pub fn place(&self, space: &SpaceName) -> Option<usize>
         ensures { result ≡ position (is_of space.now) self.now }
     {
-        let _ = &self.store;
-        None
+        level_position(self.levels.as_slice(), space)
     }
 
     /// The name of the space at a place.
@@ -68,24 +71,21 @@ impl Levels {
         requires { place < length self.now }
         ensures { OfLayer self.now place (λ l. result.now ≡ l.space) }
     {
-        let _ = &self.store;
-        &self.space
+        &self.levels[place].space
     }
 
     pub fn status_at(&self, place: usize) -> &Status
         requires { place < length self.now }
         ensures { OfLayer self.now place (λ l. result.now ≡ l.status) }
     {
-        let _ = &self.store;
-        &self.status
+        &self.levels[place].status
     }
 
     pub fn threads_at(&self, place: usize) -> &[Thread]
         requires { place < length self.now }
         ensures { OfLayer self.now place (λ l. result.now ≡ l.threads) }
     {
-        let _ = &self.store;
-        self.threads.as_slice()
+        self.levels[place].threads.as_slice()
     }
 
     /// The numbers that the space gives out next.
@@ -93,8 +93,7 @@ impl Levels {
         requires { place < length self.now }
         ensures { OfLayer self.now place (λ l. result ≡ l.next) }
     {
-        let _ = &self.store;
-        self.next
+        self.levels[place].next
     }
 
     /// What the space sees.
@@ -102,16 +101,15 @@ impl Levels {
         requires { place < length self.now }
         ensures { OfLayer self.now place (λ l. result.now ≡ view self.now l.space) }
     {
-        let _ = &self.store;
-        &self.store
+        &self.levels[place].store
     }
 
     /// What is on top of a thread's stack.
     pub fn top_frame(&self, id: &Ident) -> Option<&Frame>
         ensures { option_copied result ≡ first (stack_of self.now id.now) }
     {
-        let _ = &self.store;
-        None
+        let place = level_place(self.levels.as_slice(), &id.space)?;
+        top_frame(&self.levels[place].threads, id.number)
     }
 
     /// Whether the space at a place tells its ancestors nothing: it sees the same values and equalities of their variables as its
@@ -120,8 +118,7 @@ impl Levels {
         requires { place < length self.now }
         ensures { OfLayer self.now place (λ l. result ≡ alike_on (ancestor_variables self.now l.space) (view self.now l.space) (view self.now (parent_of l.space))) }
     {
-        let _ = &self.store;
-        true
+        silence::is_silent(self.levels.as_slice(), &self.levels[place])
     }
 
     /// Whether a variable, as the space at the place `seen_at` sees it, has no value and is equal to a variable of a proper ancestor
@@ -130,8 +127,12 @@ impl Levels {
         requires { seen_at < length self.now }
         ensures { OfLayer self.now seen_at (λ l. result ≡ is_held (view self.now l.space) (ancestor_variables self.now space.now) variable.now) }
     {
-        let _ = &self.store;
-        true
+        silence::is_held(
+            self.levels.as_slice(),
+            &self.levels[seen_at],
+            space,
+            variable,
+        )
     }
 
     /// Takes the statement off the top of a thread's stack.
@@ -139,8 +140,8 @@ impl Levels {
         ensures frame { result ≡ first (stack_of self.old id.now) }
         ensures popped { self.new ≡ in_layer id.now.space (with_frames id.now.number (λ stack. drop 1 stack)) self.old }
     {
-        let _ = &self.store;
-        None
+        let place = level_place(self.levels.as_slice(), &id.space)?;
+        edits::pop(&mut self.levels[place], id.number)
     }
 
     /// Puts statements on top of a thread's stack, the first of them uppermost.
@@ -148,8 +149,10 @@ impl Levels {
         ensures ok { OnOk result (self.new ≡ in_layer id.now.space (with_frames id.now.number (λ stack. frames.items ++ stack)) self.old) }
         ensures err { OnErr result (self.new ≡ self.old) }
     {
-        let _ = &self.store;
-        Err(AllocError)
+        let Some(place) = level_place(self.levels.as_slice(), &id.space) else {
+            return Ok(());
+        };
+        edits::push(&mut self.levels[place], id.number, frames)
     }
 
     /// Puts statements in the place of the one on top of a thread's stack.
@@ -157,22 +160,30 @@ impl Levels {
         ensures ok { OnOk result (self.new ≡ in_layer id.now.space (with_frames id.now.number (replacing frames.items)) self.old) }
         ensures err { OnErr result (self.new ≡ self.old) }
     {
-        let _ = &self.store;
-        Err(AllocError)
+        let alloc = *self.levels.allocator();
+        let Some(place) = level_place(self.levels.as_slice(), &id.space) else {
+            return Ok(());
+        };
+        edits::replace_top(alloc, &mut self.levels[place], id.number, frames)
     }
 
     /// Takes all statements off a thread's stack.
     pub fn clear(&mut self, id: &Ident)
         ensures { self.new ≡ in_layer id.now.space (with_frames id.now.number (λ stack. [])) self.old }
     {
-        let _ = &self.store;
+        if let Some(place) = level_place(self.levels.as_slice(), &id.space) {
+            edits::clear(&mut self.levels[place], id.number);
+        }
     }
 
     /// Threads of the space without statements are terminated.
     pub fn drop_terminated(&mut self, space: &SpaceName)
         ensures { self.new ≡ in_layer space.now without_terminated self.old }
     {
-        let _ = &self.store;
+        let alloc = *self.levels.allocator();
+        if let Some(place) = level_place(self.levels.as_slice(), space) {
+            edits::drop_terminated(alloc, &mut self.levels[place]);
+        }
     }
 
     /// A new thread of the space with these statements, the first of them uppermost. It refuses for want of memory, or where the
@@ -181,8 +192,11 @@ impl Levels {
         ensures ok { OnOk result (self.new ≡ in_layer space.now (spawning frames.items) self.old) }
         ensures err { OnErr result (self.new ≡ self.old) }
     {
-        let _ = &self.store;
-        Err(AllocError)
+        let alloc = *self.levels.allocator();
+        let Some(place) = level_place(self.levels.as_slice(), space) else {
+            return Ok(());
+        };
+        edits::spawn(alloc, &mut self.levels[place], frames)
     }
 
     /// The space gives out so many variables. It refuses where these would be more than 2^64 - 1.
@@ -190,8 +204,10 @@ impl Levels {
         ensures ok { OnOk result (self.new ≡ in_layer space.now (giving_out count) self.old) }
         ensures err { OnErr result (self.new ≡ self.old) }
     {
-        let _ = &self.store;
-        Err(AllocError)
+        let Some(place) = level_place(self.levels.as_slice(), space) else {
+            return Ok(());
+        };
+        edits::give_out(&mut self.levels[place], count)
     }
 
     /// The space gives out a number for a procedure. It refuses where these would be more than 2^64 - 1.
@@ -199,15 +215,17 @@ impl Levels {
         ensures ok { OnOk result (self.new ≡ in_layer space.now counting_procedure self.old) }
         ensures err { OnErr result (self.new ≡ self.old) }
     {
-        let _ = &self.store;
-        Err(AllocError)
+        let Some(place) = level_place(self.levels.as_slice(), space) else {
+            return Ok(());
+        };
+        edits::count_procedure(&mut self.levels[place])
     }
 
     /// Tells a space that is there, and fails each space below it that then sees what is inconsistent. False exactly where it is
     /// inconsistent with what the space sees: then nothing changes.
     pub fn tell(
         &mut self,
-        _alloc: Global,
+        alloc: Global,
         space: &SpaceName,
         tells: &[Tell],
     ) -> Result<bool, AllocError>
@@ -215,44 +233,62 @@ impl Levels {
         ensures told { IfOk result (IsToldTo space.now tells.now self.old self.new) }
         ensures err { OnErr result (self.new ≡ self.old) }
     {
-        let _ = &self.store;
-        Err(AllocError)
+        let Some(place) = level_place(self.levels.as_slice(), space) else {
+            return Err(AllocError);
+        };
+        if has_below(self.levels.as_slice(), space) {
+            return Err(AllocError);
+        }
+        let home = all_home(self.levels.as_slice(), space, tells);
+        telling::tell(alloc, &mut self.levels[place], home, tells)
     }
 
     /// An exception goes to the nearest mark of a thread's stack. False exactly where there is none: then nothing changes.
     pub fn unwind(
         &mut self,
-        _alloc: Global,
+        alloc: Global,
         id: &Ident,
         exception: &Ident,
     ) -> Result<bool, AllocError>
         ensures unwound { IfOk result (IsUnwound exception.now id.now self.old self.new) }
         ensures err { OnErr result (self.new ≡ self.old) }
     {
-        let _ = &self.store;
-        Err(AllocError)
+        let Some(place) = level_place(self.levels.as_slice(), &id.space) else {
+            return Ok(false);
+        };
+        edits::unwind(alloc, &mut self.levels[place], id.number, exception)
     }
 
     /// A space fails, and all below it is gone.
-    pub fn fail(&mut self, _alloc: Global, space: &SpaceName) -> Result<(), AllocError>
+    pub fn fail(&mut self, alloc: Global, space: &SpaceName) -> Result<(), AllocError>
         ensures ok { OnOk result (self.new ≡ ending space.now failed self.old) }
         ensures err { OnErr result (self.new ≡ self.old) }
     {
-        let _ = &self.store;
-        Err(AllocError)
+        let store = store_above(alloc, self.levels.as_slice(), space)?;
+        drop_below(&mut self.levels, space);
+        let Some(place) = level_place(self.levels.as_slice(), space) else {
+            return Ok(());
+        };
+        tree::fail(alloc, &mut self.levels[place], store);
+        Ok(())
     }
 
     /// A space is ended by the exception that is the variable's term, and all below it is gone.
     pub fn end(&mut self, space: &SpaceName, exception: Ident)
         ensures { self.new ≡ ending space.now (raised_by exception) self.old }
     {
-        let _ = &self.store;
+        let alloc = *self.levels.allocator();
+        drop_below(&mut self.levels, space);
+        let Some(place) = level_place(self.levels.as_slice(), space) else {
+            return;
+        };
+        tree::raise(alloc, &mut self.levels[place], exception);
     }
 
     /// A new child of a space that is there, in which a thread applies the procedure to the root variable. The child's name.
     pub fn create(
         &mut self,
-        _alloc: Global,
+        alloc: Global,
         parent: &SpaceName,
         procedure: Ident,
     ) -> Result<SpaceName, AllocError>
@@ -261,22 +297,34 @@ impl Levels {
         ensures ok { OnOk result (self.new ≡ created parent.now procedure self.old) }
         ensures err { OnErr result (self.new ≡ self.old) }
     {
-        let _ = &self.store;
-        Err(AllocError)
+        let Some(place) = level_place(self.levels.as_slice(), parent) else {
+            return Err(AllocError);
+        };
+        let above = &self.levels[place];
+        let count = child_count(above)?;
+        let level = child_of(alloc, above, procedure)?;
+        let child = level.space.copied(alloc)?;
+        add_level(&mut self.levels, level)?;
+        let Some(place) = level_place(self.levels.as_slice(), parent) else {
+            return Ok(child);
+        };
+        self.levels[place].next.child = count;
+        Ok(child)
     }
 
     /// What each space that may fail sees is consistent. Nothing: it holds a law.
     pub fn consistent(&self)
         ensures { inconsistent_spaces self.now ≡ [] }
     {
-        let _ = &self.store;
+        let _ = &self.levels;
     }
 }
 
 impl Copies for Levels {
     /// It shares what the spaces were told. It takes the time and memory of the spaces' threads and their stacks.
-    fn copied(&self, _alloc: Global) -> Result<Self, AllocError> {
-        let _ = &self.store;
-        Err(AllocError)
+    fn copied(&self, alloc: Global) -> Result<Self, AllocError> {
+        Ok(Levels {
+            levels: copies_of(alloc, self.levels.as_slice())?,
+        })
     }
 }

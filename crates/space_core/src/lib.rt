@@ -2,6 +2,14 @@
 //! machine's steps are made.
 #![tactic(auto)]
 
+mod edits;
+mod homes;
+mod level;
 mod levels;
+mod looking;
+mod silence;
+mod stacks;
+mod telling;
+mod tree;
 
 pub use levels::Levels;

@@ -1,0 +1,14 @@
+pub mod Firsts
+pub mod MemberLaws
+pub mod SoundLaws
+pub mod AnswerLaws
+pub mod TellLaws
+pub mod AnyLaws
+pub mod OuterLaws
+pub mod ToldLaws
+pub mod BeginLaws
+pub mod ParentLaws
+pub mod EndLaws
+pub mod CreateLaws
+pub mod SilentLaws
+pub mod TreeAnswers

@@ -1,0 +1,47 @@
+-- The name of the parent of a space.
+use Rattle.std.proofs.Common.{◌≡◌, ℕ, suc, ◌-◌, arith, Bool, false, List, [], ◌∷◌, take, length, refl, sym, ◌∙◌, ap, Contains, slice_index_or}
+use Rattle.std.proofs.lemmas.Bool.{false≢true}
+use Rattle.std.proofs.lemmas.List.{get_or_default}
+use Rattle.oz_base.specs.Lists.{is_empty}
+use Rattle.oz_semantics.specs.Names.{is_top, parent_of}
+use Rattle.oz_semantics.specs.declared.value.Tell.{Tell}
+use Rattle.oz_laws.proofs.SameLaws.{contains-from_In}
+use Rattle.view_laws.proofs.NameLaws.{equal_names}
+use Rattle.view_laws.proofs.ListLaws.{found_in}
+use Rattle.space_core.specs.Ending.{IsAbove}
+use Rattle.space_core.specs.Places.{IsFirst}
+use Rattle.space_core.specs.Shown.{is_named}
+use Rattle.space_core.specs.declared.level.Level.{Level}
+
+-- all but the last number
+pub parent_take : (xs : List ℕ) → parent_of xs ≡ take (length xs - 1) xs
+parent_take [] = refl
+parent_take (x ∷ []) = refl
+parent_take (x ∷ y ∷ ys) =
+    let longer : suc (suc (length ys)) - 1 ≡ suc (length ys) = omega arith in
+    let shorter : suc (length ys) - 1 ≡ length ys = omega arith in
+    ap (λ zs. x ∷ zs) (parent_take (y ∷ ys)) ∙ ap (λ n. x ∷ take n (y ∷ ys)) shorter ∙ sym (ap (λ n. take n (x ∷ y ∷ ys)) longer)
+
+-- what is read at the place of the first
+pub first_read : {A : Type 0} {test : A → Bool} {xs : List A} {place : ℕ} {x : A} → IsFirst test xs place x → (y : A) → y ≡ slice_index_or xs place y → y ≡ x
+first_read {xs = xs} {place = place} {x = x} h y e = e ∙ (get_or_default xs place y x h.within ∙ h.item)
+
+pub named_space : (levels : List Level) (space : List ℕ) (place : ℕ) (x : Level) → IsFirst (is_named space) levels place x → x.space ≡ space
+named_space levels space place x h = equal_names x.space space (found_in (is_named space) (λ (l : Level). l) levels x h.found).1
+
+pub named_member : (levels : List Level) (space : List ℕ) (place : ℕ) (x : Level) → IsFirst (is_named space) levels place x → Contains levels x
+named_member levels space place x h = contains-from_In levels x (found_in (is_named space) (λ (l : Level). l) levels x h.found).0
+
+pub empty_top : (s : List ℕ) → is_empty s ≡ is_top s
+empty_top [] = refl
+empty_top (n ∷ s) = refl
+
+pub not_empty : (s : List ℕ) → is_empty s ≡ false → is_top s ≡ false
+not_empty s e = sym (empty_top s) ∙ e
+
+pub parent_above_is : (levels : List Level) (space : List ℕ) (place : ℕ) → (x : Level) × IsFirst (is_named (parent_of space)) levels place x → (l : Level) → l ≡ slice_index_or levels place l
+    → is_empty space ≡ false → (store : List Tell) → store ≡ (slice_index_or levels place l).store → IsAbove levels space store
+parent_above_is levels space place h l e inner store same = record {
+  top = λ t. absurd (false≢true (sym (not_empty space inner) ∙ t));
+  inner = λ t. (h.0, named_member levels (parent_of space) place h.0 h.1, named_space levels (parent_of space) place h.0 h.1, same ∙ ap (λ (k : Level). k.store) (sym e ∙ first_read h.1 l e));
+}

@@ -1,0 +1,67 @@
+-- What is kept of each space, as the layers of a configuration, and what holds of it.
+use Rattle.std.specs.Prelude.{ℕ, ◌≡◌, ◌≤◌, Bool, true, false, ◌&&◌, nat_lt, List, [], ◌∷◌, map, drop, length, Contains}
+use Rattle.std.specs.List.{list_any, list_all, flat_map}
+use Rattle.oz_base.specs.Lists.{list_eq}
+use Rattle.oz_base.specs.declared.names.Ident.{Ident}
+use Rattle.oz_semantics.specs.Names.{is_below, is_properly_below, is_top, parent_of}
+use Rattle.oz_semantics.specs.Store.{named_by, is_consistent}
+use Rattle.oz_semantics.specs.Configurations.{view}
+use Rattle.oz_semantics.specs.declared.value.Tell.{Tell}
+use Rattle.oz_semantics.specs.declared.configuration.Layer.{Layer}
+use Rattle.oz_laws.specs.Touched.{Touches}
+use Rattle.view_laws.specs.Trees.{IsTree}
+use Rattle.space_core.specs.declared.level.Level.{Level}
+
+-- a space was told what its store has from its place on
+abbrev pub shown : Level → Layer
+shown l = record { space = l.space; status = l.status; tells = drop l.told_from l.store; threads = l.threads; next = l.next }
+
+abbrev pub shown_all : List Level → List Layer
+shown_all = map shown
+
+abbrev pub is_named : List ℕ → Level → Bool
+is_named space l = list_eq l.space space
+
+-- what the parent of a space sees; the top has none
+abbrev pub seen_above : List Layer → List ℕ → List Tell
+seen_above layers [] = []
+seen_above layers (n ∷ s) = view layers (parent_of (n ∷ s))
+
+-- whether a layer gave out a variable
+abbrev pub gave_out : Ident → Layer → Bool
+gave_out x l = nat_lt x.number l.next.variable && list_eq l.space x.space
+
+-- whether a space or one above it gave out a variable
+abbrev pub is_home : List Layer → List ℕ → Ident → Bool
+is_home layers space x = list_any (λ (l : Layer). gave_out x l && is_below l.space space) layers
+
+-- whether a space above it did
+abbrev pub is_outer : List Layer → List ℕ → Ident → Bool
+is_outer layers space x = list_any (λ (l : Layer). gave_out x l && is_properly_below l.space space) layers
+
+-- What is kept of a space fits the layers
+pub record Fits (layers : List Layer) (l : Level) : Type 0 where
+  -- the store is what the space sees, after what its parent sees
+  pub seen : l.store ≡ view layers l.space
+  pub from : l.told_from ≡ length (seen_above layers l.space)
+  pub consistent : is_consistent l.store ≡ true
+  -- where it is traced, all that it was told names variables of the space or of those above it
+  pub home : l.traced ≡ true → list_all (is_home layers l.space) (flat_map named_by (shown l).tells) ≡ true
+  -- and touches what was noted
+  pub touches : l.traced ≡ true → is_top l.space ≡ false → Touches (seen_above layers l.space) (shown l).tells l.touched
+
+-- The layers are those of a tree, and what is kept of each space fits them
+pub record IsSound (levels : List Level) : Type 0 where
+  pub tree : IsTree (shown_all levels)
+  pub fits : (l : Level) → Contains levels l → Fits (shown_all levels) l
+
+-- One space is changed in this way, and what it was told is kept
+pub record IsQuiet (change : Layer → Layer) (old new : Level) : Type 0 where
+  pub becomes : shown new ≡ change (shown old)
+  pub space : new.space ≡ old.space
+  pub store : new.store ≡ old.store
+  pub told_from : new.told_from ≡ old.told_from
+  pub touched : new.touched ≡ old.touched
+  pub traced : new.traced ≡ old.traced
+  pub variables : old.next.variable ≤ new.next.variable
+  pub children : old.next.child ≤ new.next.child

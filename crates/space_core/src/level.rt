@@ -1,0 +1,61 @@
+//! What is kept of one space.
+ghost use Rattle.space_core.specs.Beginnings.{IsTopLevel};
+
+use oz_base::{Copies, Ident, Sequence, SpaceName};
+use oz_semantics::{Next, Status, Thread};
+use std::alloc::{AllocError, Global};
+use term_store::Store;
+
+/// What is kept of one space.
+#[derive(Drop)]
+pub struct Level {
+    pub space: SpaceName,
+    pub status: Status,
+    /// What the space sees.
+    pub store: Store,
+    /// The place in the store from which on the space was told itself what stands there. What stands before is what its parent sees.
+    pub told_from: u64,
+    /// Variables of the classes of its parent's view that are touched by what the space was told. The top's are not noted.
+    pub touched: Sequence<Ident>,
+    pub threads: Sequence<Thread>,
+    pub next: Next,
+    /// Whether all variables that were told of are those of the space and of spaces above it, and all that is touched was noted.
+    /// So it is in the runs of programs.
+    pub traced: bool,
+}
+
+impl Copies for Level {
+    fn copied(&self, alloc: Global) -> Result<Self, AllocError> {
+        Ok(Level {
+            space: self.space.copied(alloc)?,
+            status: self.status.copied(alloc)?,
+            store: self.store.copied(alloc)?,
+            told_from: self.told_from,
+            touched: self.touched.copied(alloc)?,
+            threads: self.threads.copied(alloc)?,
+            next: self.next,
+            traced: self.traced,
+        })
+    }
+}
+
+/// The top, which was told nothing and has no thread.
+pub fn top_level(alloc: Global) -> Level
+    ensures { IsTopLevel result }
+{
+    Level {
+        space: SpaceName::top(),
+        status: Status::Open,
+        store: Store::new(alloc),
+        told_from: 0,
+        touched: Sequence::new(alloc),
+        threads: Sequence::new(alloc),
+        next: Next {
+            variable: 1,
+            thread: 1,
+            procedure: 1,
+            child: 1,
+        },
+        traced: true,
+    }
+}
