@@ -222,7 +222,8 @@ impl Levels {
     }
 
     /// Tells a space that is there, and fails each space below it that then sees what is inconsistent. False exactly where it is
-    /// inconsistent with what the space sees: then nothing changes.
+    /// inconsistent with what the space sees: then nothing changes. It refuses for want of memory, and where other spaces are below
+    /// the space: what these see is not made anew yet.
     pub fn tell(
         &mut self,
         alloc: Global,
