@@ -1,0 +1,28 @@
+-- What the calls of a machine answer.
+use Rattle.std.specs.Prelude.{ℕ, ◌≡◌, ◌<◌, ◌≤◌, ◌-◌, true, false, List, Option, Some, None}
+use Rattle.oz_base.specs.declared.names.Ident.{Ident}
+use Rattle.oz_semantics.specs.Runs as runs
+use Rattle.oz_semantics.specs.Spaces.{state}
+use Rattle.oz_semantics.specs.Search.{has_script, script_variable}
+use Rattle.oz_semantics.specs.Texts.{Printed}
+use Rattle.oz_machine.specs.Courses.{Loaded}
+use Rattle.oz_machine.specs.declared.runs.Ran.{Ran}
+use Rattle.oz_machine.specs.declared.runs.Ran.TheVariants.{Ended, TopEnded, OutOfFuel}
+use Rattle.oz_machine.specs.declared.texts.Text.{Text}
+
+-- how a run of a space with this fuel ended, by its answer and what the machine is then
+abbrev pub IsRun : Loaded → List ℕ → ℕ → runs.Ran → Ran → Type 0
+IsRun m space fuel r (Ended state_found steps) =
+    (steps ≤ fuel) × (r ≡ runs.Ended m.config (fuel - steps)) × (state_found ≡ state m.kernel.statements m.config.layers space)
+IsRun m space fuel r (TopEnded exception steps) = (steps ≤ fuel) × (r ≡ runs.TopRaised m.config (fuel - steps) exception)
+IsRun m space fuel r OutOfFuel = r ≡ runs.Over m.config
+
+-- the variable of the script, where that is a procedure of one parameter
+abbrev pub IsScript : Loaded → Option Ident → Type 0
+IsScript m None = has_script m.config ≡ false
+IsScript m (Some x) = (has_script m.config ≡ true) × (x ≡ script_variable)
+
+-- the text, or none exactly where it costs more than the fuel
+abbrev pub PrintsWithin : Printed → ℕ → Option Text → Type 0
+PrintsWithin printed fuel None = fuel < printed.nodes
+PrintsWithin printed fuel (Some text) = (text.bytes ≡ printed.bytes) × (text.steps ≡ printed.nodes) × (printed.nodes ≤ fuel)

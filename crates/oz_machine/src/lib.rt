@@ -1,0 +1,19 @@
+//! The abstract machine (CTM 2.4, 2.7, 4.1, 12.4): it loads a program, makes its steps one at a time in a fixed order, and has what a
+//! search asks for.
+#![tactic(auto)]
+
+mod acts;
+mod course;
+mod machine;
+mod opening;
+mod raising;
+mod runs;
+mod scripts;
+mod searching;
+mod settling;
+mod texts;
+mod turn;
+
+pub use machine::Machine;
+pub use runs::Ran;
+pub use texts::Text;

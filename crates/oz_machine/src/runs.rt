@@ -1,0 +1,71 @@
+//! Runs: turns while something of a space or below it can step.
+ghost use Rattle.std.specs.Prelude.{◌≡◌, ◌≤◌, IfOk};
+ghost use Rattle.oz_semantics.specs.Spaces.{goes_on};
+ghost use Rattle.oz_semantics.specs.Runs.{run, Ended};
+ghost use Rattle.oz_machine.specs.Courses.{config_of};
+ghost use Rattle.oz_machine.specs.Answers.{IsRun};
+
+use crate::course::Course;
+use crate::turn::step;
+use oz_base::{Ident, SpaceName};
+use oz_language::Kernel;
+use oz_semantics::{State, Stepped};
+use stability::{goes_on, space_state};
+use std::alloc::{AllocError, Global};
+
+/// How a run ends. The steps are those that it took.
+#[derive(Drop)]
+pub enum Ran {
+    /// Nothing of the space or below it can step; its state, if it is there.
+    Ended { state: Option<State>, steps: u64 },
+    /// The top ended with the exception that is this variable's term.
+    TopEnded { exception: Ident, steps: u64 },
+    /// The next step would pass the fuel. It is not made.
+    OutOfFuel,
+}
+
+/// What a run answers that ends with so much left of its fuel.
+fn ended(
+    alloc: Global,
+    kernel: &Kernel,
+    course: &Course,
+    space: &SpaceName,
+    fuel: u64,
+    left: u64,
+) -> Result<Ran, AllocError>
+    requires { left ≤ fuel }
+    ensures { IfOk result (IsRun (record { kernel = kernel.now; config = config_of course.now }) space.now fuel (Ended (config_of course.now) left)) }
+{
+    let statements = kernel.statements.as_slice();
+    let state = space_state(alloc, statements, &course.levels, space)?;
+    let steps = fuel - left;
+    Ok(Ran::Ended { state, steps })
+}
+
+/// Turns while something of the space or below it can step, for no more than the fuel.
+pub fn run(
+    alloc: Global,
+    kernel: &Kernel,
+    course: &mut Course,
+    space: &SpaceName,
+    fuel: u64,
+) -> Result<Ran, AllocError>
+    ensures { IfOk result (IsRun (record { kernel = kernel.now; config = config_of course.new }) space.now fuel (run kernel.now space.now (config_of course.old) fuel)) }
+{
+    let statements = kernel.statements.as_slice();
+    let mut left = fuel;
+    'turns: while goes_on(alloc, statements, &course.levels, space)? {
+        let Some(stepped) = step(alloc, kernel, course, left)? else {
+            return Ok(Ran::OutOfFuel);
+        };
+        match stepped {
+            Stepped::Moved { cost } => left -= cost,
+            Stepped::Quiescent => return ended(alloc, kernel, course, space, fuel, left),
+            Stepped::TopEnded { exception, cost } => {
+                let steps = fuel - (left - cost);
+                return Ok(Ran::TopEnded { exception, steps });
+            }
+        }
+    }
+    ended(alloc, kernel, course, space, fuel, left)
+}

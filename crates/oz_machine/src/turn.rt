@@ -1,0 +1,242 @@
+//! One turn of the machine: the head of the queue makes one step.
+ghost use Rattle.std.specs.Prelude.{◌≡◌, ◌≤◌, ◌<◌, ◌+◌, ◌∷◌, [], true, is_some, length, position, IfOk, IfSome, OnOk, Some, None};
+ghost use Rattle.oz_semantics.specs.Configurations.{is_of, layer_at, stack_of};
+ghost use Rattle.oz_semantics.specs.Statements.{stack_answer};
+ghost use Rattle.oz_semantics.specs.Spaces.{sight};
+ghost use Rattle.oz_semantics.specs.Answers as answers;
+ghost use Rattle.oz_semantics.specs.Steps.{without_top, after_answer, shown_by, stepped};
+ghost use Rattle.oz_semantics.specs.Schedule.{turn};
+ghost use Rattle.builtins.specs.Answers.{act_of, IsAnswer};
+ghost use Rattle.oz_machine.specs.Courses.{config_of};
+ghost use Rattle.oz_machine.specs.Turns.{cost_of, CostsWithin, IsTurn};
+
+use crate::acts::act;
+use crate::course::Course;
+use crate::raising::{raise, raise_kind};
+use crate::settling::{follow, go_on};
+use builtins::{Act, Answer};
+use oz_base::{Ident, Sequence};
+use oz_language::{Kernel, Statement};
+use oz_semantics::{RaiseKind, Stepped};
+use space_core::Levels;
+use statements::answer;
+use std::alloc::{AllocError, Global};
+use term_text::{Text, term_text};
+
+/// What the statement on top of a thread's stack answers.
+fn top_answer(
+    alloc: Global,
+    statements: &[Statement],
+    levels: &Levels,
+    place: usize,
+    id: &Ident,
+) -> Result<Answer, AllocError>
+    requires within { place < length levels.now }
+    requires place { Some place ≡ position (is_of id.now.space) levels.now }
+    ensures { IfOk result (IsAnswer (stack_answer (sight statements.now levels.now id.now.space) (stack_of levels.now id.now))) }
+{
+    match levels.top_frame(id) {
+        None => Ok(Answer::Rests),
+        Some(frame) => answer(alloc, statements, &id.space, levels.store_at(place), frame),
+    }
+}
+
+/// The thread does what an act says that shows nothing. Its statement is off its stack already.
+fn make_act(
+    alloc: Global,
+    kernel: &Kernel,
+    id: &Ident,
+    what: Act,
+    course: &mut Course,
+) -> Result<Stepped, AllocError>
+    requires { is_some (layer_at course.old.levels id.now.space) ≡ true }
+    ensures turn { IfOk result (λ stepped. after_answer kernel.now id.now course.old.levels (config_of course.old) (answers.Acts (act_of what)) ≡ (stepped, config_of course.new)) }
+    ensures cost { IfOk result (λ stepped. cost_of stepped ≡ 1) }
+{
+    let statements = kernel.statements.as_slice();
+    if act(alloc, &mut course.levels, id, what)? {
+        go_on(alloc, statements, id, 1, course)
+    } else {
+        raise_kind(alloc, statements, id, RaiseKind::FailureTell, course)
+    }
+}
+
+/// The thread steps as its statement answered, which shows nothing.
+fn make_step(
+    alloc: Global,
+    kernel: &Kernel,
+    id: &Ident,
+    answer: Answer,
+    course: &mut Course,
+) -> Result<Stepped, AllocError>
+    requires { is_some (layer_at course.old.levels id.now.space) ≡ true }
+    ensures turn { (a : answers.Answer) → IsAnswer a answer → IfOk result (λ stepped. after_answer kernel.now id.now (without_top id.now course.old.levels) (config_of course.old) a ≡ (stepped, config_of course.new)) }
+    ensures cost { IfOk result (λ stepped. cost_of stepped ≡ 1) }
+{
+    let statements = kernel.statements.as_slice();
+    match answer {
+        Answer::Rests => {
+            course.levels.consistent();
+            follow(alloc, statements, id, 1, course)
+        }
+        Answer::Acts(what) => {
+            let _frame = course.levels.pop(id);
+            make_act(alloc, kernel, id, what, course)
+        }
+        Answer::RaisesKind(kind) => {
+            let _frame = course.levels.pop(id);
+            raise_kind(alloc, statements, id, kind, course)
+        }
+        Answer::RaisesTerm(exception) => {
+            let _frame = course.levels.pop(id);
+            course.levels.consistent();
+            raise(alloc, statements, id, exception, course)
+        }
+    }
+}
+
+/// What a step costs that shows so many nodes.
+fn text_cost(nodes: u64) -> Result<u64, AllocError>
+    ensures { IfOk result (λ cost. cost ≡ 1 + nodes) }
+{
+    match nodes.checked_add(1) {
+        None => Err(AllocError),
+        Some(cost) => Ok(cost),
+    }
+}
+
+/// The thread shows a text, which is made already.
+fn show_text(
+    alloc: Global,
+    kernel: &Kernel,
+    id: &Ident,
+    text: Text,
+    course: &mut Course,
+) -> Result<Stepped, AllocError>
+    ensures turn { IfOk result (λ stepped. shown_by kernel.now.statements id.now (record { bytes = text.bytes; nodes = text.nodes }) (without_top id.now course.old.levels) (config_of course.old) ≡ (stepped, config_of course.new)) }
+    ensures cost { IfOk result (λ stepped. cost_of stepped ≡ 1 + text.nodes) }
+{
+    let Text { bytes, nodes } = text;
+    let cost = text_cost(nodes)?;
+    let statements = kernel.statements.as_slice();
+    let _frame = course.levels.pop(id);
+    course.levels.consistent();
+    course.shown.push(alloc, bytes)?;
+    go_on(alloc, statements, id, cost, course)
+}
+
+/// The thread shows a term, unless that costs more than the fuel: then nothing changes.
+fn show(
+    alloc: Global,
+    kernel: &Kernel,
+    place: usize,
+    id: &Ident,
+    variable: &Ident,
+    course: &mut Course,
+    fuel: u64,
+) -> Result<Option<Stepped>, AllocError>
+    requires within { place < length course.old.levels }
+    requires place { Some place ≡ position (is_of id.now.space) course.old.levels }
+    requires fuel { 1 ≤ fuel }
+    ensures turn { IfOk result (IsTurn (after_answer kernel.now id.now (without_top id.now course.old.levels) (config_of course.old) (answers.Acts (answers.Shows variable.now))) fuel (config_of course.old) (config_of course.new)) }
+    ensures cost { IfOk result (λ turned. IfSome turned (CostsWithin fuel)) }
+{
+    let store = course.levels.store_at(place);
+    match term_text(alloc, &kernel.words, store, variable, fuel - 1)? {
+        None => Ok(None),
+        Some(text) => Ok(Some(show_text(alloc, kernel, id, text, course)?)),
+    }
+}
+
+/// The thread steps as its statement answered, unless that costs more than the fuel: then nothing changes.
+fn step_as(
+    alloc: Global,
+    kernel: &Kernel,
+    place: usize,
+    id: &Ident,
+    answer: Answer,
+    course: &mut Course,
+    fuel: u64,
+) -> Result<Option<Stepped>, AllocError>
+    requires within { place < length course.old.levels }
+    requires place { Some place ≡ position (is_of id.now.space) course.old.levels }
+    requires fuel { 1 ≤ fuel }
+    ensures turn { (a : answers.Answer) → IsAnswer a answer → IfOk result (IsTurn (after_answer kernel.now id.now (without_top id.now course.old.levels) (config_of course.old) a) fuel (config_of course.old) (config_of course.new)) }
+    ensures cost { IfOk result (λ turned. IfSome turned (CostsWithin fuel)) }
+{
+    if let Answer::Acts(Act::Shows(variable)) = &answer {
+        return show(alloc, kernel, place, id, variable, course, fuel);
+    }
+    Ok(Some(make_step(alloc, kernel, id, answer, course)?))
+}
+
+/// A step of a thread. None exactly where it costs more than the fuel: it is not made, and nothing changes.
+fn step_of(
+    alloc: Global,
+    kernel: &Kernel,
+    id: &Ident,
+    course: &mut Course,
+    fuel: u64,
+) -> Result<Option<Stepped>, AllocError>
+    requires { 1 ≤ fuel }
+    ensures turn { IfOk result (IsTurn (stepped kernel.now id.now (config_of course.old)) fuel (config_of course.old) (config_of course.new)) }
+    ensures cost { IfOk result (λ turned. IfSome turned (CostsWithin fuel)) }
+{
+    let statements = kernel.statements.as_slice();
+    match course.levels.place(&id.space) {
+        None => {
+            course.levels.consistent();
+            Ok(Some(follow(alloc, statements, id, 1, course)?))
+        }
+        Some(place) => {
+            let answer = top_answer(alloc, statements, &course.levels, place, id)?;
+            step_as(alloc, kernel, place, id, answer, course, fuel)
+        }
+    }
+}
+
+/// A thread that did not step is the head of the queue again.
+fn put_back(course: &mut Course, id: Ident) -> Result<Option<Stepped>, AllocError>
+    ensures none { IfOk result (λ stepped. stepped ≡ None) }
+    ensures back { OnOk result (config_of course.new ≡ record { layers = course.old.levels; queue = id ∷ course.old.queue; shown = course.old.shown }) }
+{
+    course.queue.push_front(id)?;
+    Ok(None)
+}
+
+/// A step of the thread that was the head of the queue. None exactly where it costs more than the fuel: it is not made, and the
+/// thread is the head again.
+fn step_head(
+    alloc: Global,
+    kernel: &Kernel,
+    id: Ident,
+    course: &mut Course,
+    fuel: u64,
+) -> Result<Option<Stepped>, AllocError>
+    ensures turn { IfOk result (IsTurn (stepped kernel.now id (config_of course.old)) fuel (record { layers = course.old.levels; queue = id ∷ course.old.queue; shown = course.old.shown }) (config_of course.new)) }
+    ensures cost { IfOk result (λ turned. IfSome turned (CostsWithin fuel)) }
+{
+    if fuel == 0 {
+        return put_back(course, id);
+    }
+    match step_of(alloc, kernel, &id, course, fuel)? {
+        Some(stepped) => Ok(Some(stepped)),
+        None => put_back(course, id),
+    }
+}
+
+/// A turn. None exactly where it costs more than the fuel: it is not made, and nothing changes.
+pub fn step(
+    alloc: Global,
+    kernel: &Kernel,
+    course: &mut Course,
+    fuel: u64,
+) -> Result<Option<Stepped>, AllocError>
+    ensures turn { IfOk result (IsTurn (turn kernel.now (config_of course.old)) fuel (config_of course.old) (config_of course.new)) }
+    ensures cost { IfOk result (λ turned. IfSome turned (CostsWithin fuel)) }
+{
+    match course.queue.next() {
+        None => Ok(Some(Stepped::Quiescent)),
+        Some(id) => step_head(alloc, kernel, id, course, fuel),
+    }
+}
