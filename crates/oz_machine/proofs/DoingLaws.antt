@@ -71,7 +71,7 @@ pub record Leaves (k : Kernel) (id : Ident) (effect : Effect) (old new : List La
   pub follows : ◌≡◌ {A = Turned} (after_effect k id old c effect) (went_on k.statements id 1 before c)
 
 pub done_leaves : (k : Kernel) (id : Ident) (effect : Effect) (old new : List Layer) (c : Configuration) → IsDone id effect old new true → Leaves k id effect old new c
-done_leaves k id (Makes changes) old new c h = record { before = changed_all id changes old; settles = h; follows = refl }
+done_leaves k id (Makes changes) old new c h = record { before = changed_all id changes old; settles = h.1; follows = refl }
 done_leaves k id (Tells ts changes) old new c h =
     record {
       before = changed_all id changes (in_layer id.space (telling ts) old);

@@ -5,4 +5,5 @@ pub mod TopLaws
 pub mod DoingLaws
 pub mod TurnLaws
 pub mod SearchLaws
+pub mod QuietLaws
 pub mod RunLaws

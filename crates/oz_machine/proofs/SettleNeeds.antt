@@ -20,9 +20,10 @@ pub changes_settle : (id : Ident) (changes : List Change) (before after : List L
 changes_settle id changes before after h = proved.changes_settle id changes before after h
 
 -- changes alone, where no space sees what is inconsistent
-pub makes : (id : Ident) (changes : List Change) (old new : List Layer) → inconsistent_spaces old ≡ [] → new ≡ changed_all id changes old → Settles id.space (changed_all id changes old) new
+pub makes : (id : Ident) (changes : List Change) (old new : List Layer) → inconsistent_spaces old ≡ [] → new ≡ changed_all id changes old
+    → (new ≡ changed_all id changes old) × Settles id.space (changed_all id changes old) new
 makes id changes old new e same =
-    subst (Settles id.space (changed_all id changes old)) (sym same) (changes_settle id changes old old (nothing_fails id.space old e))
+    (same, subst (Settles id.space (changed_all id changes old)) (sym same) (changes_settle id changes old old (nothing_fails id.space old e)))
 
 -- what is told fails the spaces below that then see what is inconsistent
 pub told_settles : (space : List ℕ) (ts : List Tell) (old new : List Layer) → ToldTo space ts old new → Settles space (in_layer space (telling ts) old) new

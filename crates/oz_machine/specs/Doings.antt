@@ -1,7 +1,9 @@
 -- What a step does to the layers, before what follows it.
-use Rattle.std.specs.Prelude.{◌≡◌, Bool, true, false, List, ◌++◌}
+use Rattle.std.specs.Prelude.{ℕ, ◌≡◌, Bool, true, false, List, [], ◌∷◌, ◌++◌}
 use Rattle.oz_base.specs.declared.names.Ident.{Ident}
+use Rattle.oz_semantics.specs.Names.{named}
 use Rattle.oz_semantics.specs.Store.{is_consistent}
+use Rattle.oz_semantics.specs.Answers.{Act, Passes, GoesOn, Declares, Starts, GivesValue, GivesTerm, GivesVariable, MakesProcedure, Shows}
 use Rattle.oz_semantics.specs.Configurations.{view, in_layer, telling}
 use Rattle.oz_semantics.specs.Changes.{changed_all}
 use Rattle.oz_semantics.specs.Effects.{Effect, Makes, Tells, ShowsText}
@@ -10,9 +12,33 @@ use Rattle.oz_semantics.specs.declared.configuration.Layer.{Layer}
 
 -- the layers are those that the effect leaves, less those that fail by it; or its tells clash, and nothing was done
 abbrev pub IsDone : Ident → Effect → List Layer → List Layer → Bool → Type 0
-IsDone id (Makes changes) old new true = Settles id.space (changed_all id changes old) new
+IsDone id (Makes changes) old new true = (new ≡ changed_all id changes old) × Settles id.space (changed_all id changes old) new
 IsDone id (Tells ts changes) old new true =
     (is_consistent (view old id.space ++ ts) ≡ true) × Settles id.space (changed_all id changes (in_layer id.space (telling ts) old)) new
 IsDone id (Tells ts changes) old new false = (is_consistent (view old id.space ++ ts) ≡ false) × (new ≡ old)
 IsDone id (Makes changes) old new false = ⊥
 IsDone id (ShowsText x) old new done = ⊥
+
+-- an act that tells its space nothing, and shows nothing
+abbrev pub is_quiet : Act → Bool
+is_quiet Passes = true
+is_quiet (GoesOn frames) = true
+is_quiet (Declares environment names body) = true
+is_quiet (Starts frames) = true
+is_quiet (GivesValue x v) = false
+is_quiet (GivesTerm x t) = false
+is_quiet (GivesVariable x y) = false
+is_quiet (MakesProcedure x parameters body environment) = false
+is_quiet (Shows x) = false
+
+-- the thread that an act starts, in a space with this layer
+abbrev pub started_by : List ℕ → Layer → Act → List Ident
+started_by space l (Starts frames) = named space l.next.thread ∷ []
+started_by space l Passes = []
+started_by space l (GoesOn frames) = []
+started_by space l (Declares environment names body) = []
+started_by space l (GivesValue x v) = []
+started_by space l (GivesTerm x t) = []
+started_by space l (GivesVariable x y) = []
+started_by space l (MakesProcedure x parameters body environment) = []
+started_by space l (Shows x) = []

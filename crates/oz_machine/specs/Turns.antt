@@ -16,3 +16,9 @@ CostsWithin fuel Quiescent = Unit {0}
 abbrev pub IsTurn : Turned → ℕ → Configuration → Configuration → Option Stepped → Type 0
 IsTurn turned fuel old new (Some stepped) = turned ≡ (stepped, new)
 IsTurn turned fuel old new None = (fuel < cost_of turned.0) × (new ≡ old)
+
+-- the top has not ended with this turn
+abbrev pub HasNotEnded : Stepped → Type 0
+HasNotEnded (Moved cost) = Unit {0}
+HasNotEnded (TopEnded exception cost) = ⊥
+HasNotEnded Quiescent = Unit {0}

@@ -1,5 +1,5 @@
 //! What a statement's act does to the layers.
-ghost use Rattle.std.specs.Prelude.{◌≡◌, ◌+◌, ◌∷◌, [], true, is_some, length, map, IfOk};
+ghost use Rattle.std.specs.Prelude.{◌≡◌, ◌+◌, ◌∷◌, [], true, is_some, length, map, option_to_list, IfOk};
 ghost use Rattle.std.specs.List.{range_with_len};
 ghost use Rattle.environments.specs.Environments.{Environment};
 ghost use Rattle.oz_semantics.specs.Names.{named};
@@ -10,7 +10,7 @@ ghost use Rattle.oz_semantics.specs.Changes.{Change, Pushes, Spawns, GivesOut, C
 ghost use Rattle.oz_semantics.specs.Answers as answers;
 ghost use Rattle.oz_semantics.specs.declared.value.Tell.TheVariants.{Equal, Is};
 ghost use Rattle.builtins.specs.Answers.{act_of};
-ghost use Rattle.oz_machine.specs.Doings.{IsDone};
+ghost use Rattle.oz_machine.specs.Doings.{IsDone, is_quiet, started_by};
 
 use builtins::Act;
 use environments::Environment;
@@ -172,6 +172,45 @@ fn make_procedure(
     }
     levels.count_procedure(&id.space)?;
     Ok(true)
+}
+
+/// Whether an act tells its space nothing, and shows nothing.
+pub fn is_quiet(act: &Act) -> bool
+    ensures { result ≡ is_quiet (act_of act.now) }
+{
+    match act {
+        Act::Passes | Act::GoesOn(_) | Act::Declares { .. } | Act::Starts(_) => true,
+        Act::GivesValue { .. }
+        | Act::GivesList { .. }
+        | Act::GivesVariable { .. }
+        | Act::MakesProcedure { .. }
+        | Act::Shows(_) => false,
+    }
+}
+
+/// The thread that an act starts, if it starts one.
+pub fn started(
+    alloc: Global,
+    levels: &Levels,
+    id: &Ident,
+    act: &Act,
+) -> Result<Option<Ident>, AllocError>
+    ensures { IfOk result (λ started. option_to_list started ≡ started_by id.now.space (layer_of levels.now id.now.space) (act_of act.now)) }
+{
+    match act {
+        Act::Starts(_) => Ok(Some(Ident {
+            space: id.space.copied(alloc)?,
+            number: next_of(levels, &id.space).thread,
+        })),
+        Act::Passes
+        | Act::GoesOn(_)
+        | Act::Declares { .. }
+        | Act::GivesValue { .. }
+        | Act::GivesList { .. }
+        | Act::GivesVariable { .. }
+        | Act::MakesProcedure { .. }
+        | Act::Shows(_) => Ok(None),
+    }
 }
 
 /// Does what an act says that shows nothing. False exactly where what is told clashes: then nothing was done.

@@ -6,6 +6,7 @@ mod acts;
 mod course;
 mod machine;
 mod opening;
+mod quiet;
 mod raising;
 mod runs;
 mod scripts;

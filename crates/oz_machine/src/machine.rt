@@ -30,7 +30,7 @@ pub struct Machine {
 }
 
 impl Model for Machine {
-    ghost use Rattle.oz_machine.specs.Courses.{Loaded, config_of};
+    ghost use Rattle.oz_machine.specs.Courses.{Loaded, config_of, Keeps};
     ghost use Rattle.std.specs.Coded.{codes};
     ghost use Rattle.environments.specs.contracts.environment.Environment as environment;
 
@@ -39,6 +39,8 @@ impl Model for Machine {
     ghost coded = { Prim.hlevel (codes, environment.the_row.coded) };
 
     ghost view = { λ m. record { kernel = m.kernel; config = config_of m.course } };
+
+    ghost invariant = { λ m. Keeps m.kernel.statements m.course };
 }
 
 impl Machine {

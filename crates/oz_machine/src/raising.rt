@@ -8,11 +8,13 @@ ghost use Rattle.oz_semantics.specs.Settling.{term_variable, with_raised, incons
 ghost use Rattle.oz_semantics.specs.Steps.{uncaught, raised, raised_kind};
 ghost use Rattle.oz_semantics.specs.declared.configuration.Layer.{Layer};
 ghost use Rattle.oz_machine.specs.Courses.{config_of};
+ghost use Rattle.oz_machine.specs.Quiet.{IsPopped};
 ghost use Rattle.oz_machine.specs.Turns.{cost_of};
 ghost use Rattle.settle_laws.specs.Settles.{Settles};
 
 use crate::acts::next_of;
 use crate::course::Course;
+use crate::quiet::go_on_unwound;
 use crate::settling::{follow, go_on};
 use oz_base::{Ident, SpaceName};
 use oz_language::Statement;
@@ -108,16 +110,21 @@ pub fn raise(
     statements: &[Statement],
     id: &Ident,
     exception: Ident,
+    kept: bool,
     course: &mut Course,
 ) -> Result<Stepped, AllocError>
-    ensures turn { (before : List Layer) → Settles id.now.space before course.old.levels → IfOk result (λ stepped.
+    ensures turn { (before layers : List Layer) → Settles id.now.space before course.old.levels → IsPopped statements.now id.now kept layers course.old
+        → (kept ≡ true → before ≡ course.old.levels) → IfOk result (λ stepped.
         raised statements.now id.now exception before (record { layers = before; queue = course.old.queue; shown = course.old.shown }) ≡ (stepped, config_of course.new)) }
     ensures cost { IfOk result (λ stepped. cost_of stepped ≡ 1) }
 {
-    if course.levels.unwind(alloc, id, &exception)? {
-        go_on(alloc, statements, id, 1, course)
+    if !course.levels.unwind(alloc, id, &exception)? {
+        return end_space(alloc, statements, id, exception, course);
+    }
+    if kept {
+        go_on_unwound(alloc, statements, id, course)
     } else {
-        end_space(alloc, statements, id, exception, course)
+        go_on(alloc, statements, id, 1, course)
     }
 }
 
@@ -160,5 +167,5 @@ pub fn raise_kind(
     ensures cost { IfOk result (λ stepped. cost_of stepped ≡ 1) }
 {
     let exception = tell_term(alloc, id, kind, &mut course.levels)?;
-    raise(alloc, statements, id, exception, course)
+    raise(alloc, statements, id, exception, false, course)
 }

@@ -2,15 +2,15 @@
 ghost use Rattle.std.specs.Prelude.{◌≡◌, ◌≤◌, IfOk};
 ghost use Rattle.oz_semantics.specs.Spaces.{goes_on};
 ghost use Rattle.oz_semantics.specs.Runs.{run, Ended};
-ghost use Rattle.oz_machine.specs.Courses.{config_of};
+ghost use Rattle.oz_machine.specs.Courses.{config_of, Keeps};
 ghost use Rattle.oz_machine.specs.Answers.{IsRun};
 
 use crate::course::Course;
 use crate::turn::step;
 use oz_base::{Ident, SpaceName};
-use oz_language::Kernel;
+use oz_language::{Kernel, Statement};
 use oz_semantics::{State, Stepped};
-use stability::{goes_on, space_state};
+use stability::space_state;
 use std::alloc::{AllocError, Global};
 
 /// How a run ends. The steps are those that it took.
@@ -42,6 +42,21 @@ fn ended(
     Ok(Ran::Ended { state, steps })
 }
 
+/// Whether something of the space or below it can step.
+fn goes_on(
+    alloc: Global,
+    statements: &[Statement],
+    course: &Course,
+    space: &SpaceName,
+) -> Result<bool, AllocError>
+    ensures { Keeps statements.now course.now → IfOk result (λ goes. goes ≡ goes_on statements.now course.now.levels space.now) }
+{
+    if course.kept {
+        return Ok(course.queue.any_below(space));
+    }
+    stability::goes_on(alloc, statements, &course.levels, space)
+}
+
 /// Turns while something of the space or below it can step, for no more than the fuel.
 pub fn run(
     alloc: Global,
@@ -50,11 +65,13 @@ pub fn run(
     space: &SpaceName,
     fuel: u64,
 ) -> Result<Ran, AllocError>
-    ensures { IfOk result (IsRun (record { kernel = kernel.now; config = config_of course.new }) space.now fuel (run kernel.now space.now (config_of course.old) fuel)) }
+    requires { Keeps kernel.now.statements course.old }
+    ensures run { IfOk result (IsRun (record { kernel = kernel.now; config = config_of course.new }) space.now fuel (run kernel.now space.now (config_of course.old) fuel)) }
+    ensures kept { Keeps kernel.now.statements course.new }
 {
     let statements = kernel.statements.as_slice();
     let mut left = fuel;
-    'turns: while goes_on(alloc, statements, &course.levels, space)? {
+    'turns: while goes_on(alloc, statements, course, space)? {
         let Some(stepped) = step(alloc, kernel, course, left)? else {
             return Ok(Ran::OutOfFuel);
         };

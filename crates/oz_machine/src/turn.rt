@@ -1,5 +1,5 @@
 //! One turn of the machine: the head of the queue makes one step.
-ghost use Rattle.std.specs.Prelude.{◌≡◌, ◌≤◌, ◌<◌, ◌+◌, ◌∷◌, [], true, is_some, length, position, IfOk, IfSome, OnOk, Some, None};
+ghost use Rattle.std.specs.Prelude.{◌≡◌, ◌≤◌, ◌<◌, ◌+◌, ◌∷◌, [], List, true, is_some, length, position, IfOk, IfSome, OnOk, Some, None};
 ghost use Rattle.oz_semantics.specs.Configurations.{is_of, layer_at, stack_of};
 ghost use Rattle.oz_semantics.specs.Statements.{stack_answer};
 ghost use Rattle.oz_semantics.specs.Spaces.{sight};
@@ -7,11 +7,14 @@ ghost use Rattle.oz_semantics.specs.Answers as answers;
 ghost use Rattle.oz_semantics.specs.Steps.{without_top, after_answer, shown_by, stepped};
 ghost use Rattle.oz_semantics.specs.Schedule.{turn};
 ghost use Rattle.builtins.specs.Answers.{act_of, IsAnswer};
-ghost use Rattle.oz_machine.specs.Courses.{config_of};
-ghost use Rattle.oz_machine.specs.Turns.{cost_of, CostsWithin, IsTurn};
+ghost use Rattle.oz_machine.specs.Courses.{config_of, Keeps};
+ghost use Rattle.oz_machine.specs.Quiet.{IsHead, IsPopped};
+ghost use Rattle.oz_machine.specs.Turns.{cost_of, CostsWithin, HasNotEnded, IsTurn};
+ghost use Rattle.oz_semantics.specs.declared.configuration.Layer.{Layer};
 
-use crate::acts::act;
+use crate::acts::{act, is_quiet, started};
 use crate::course::Course;
+use crate::quiet::go_on_quietly;
 use crate::raising::{raise, raise_kind};
 use crate::settling::{follow, go_on};
 use builtins::{Act, Answer};
@@ -21,6 +24,7 @@ use oz_semantics::{RaiseKind, Stepped};
 use space_core::Levels;
 use statements::answer;
 use std::alloc::{AllocError, Global};
+use std::mem;
 use term_text::{Text, term_text};
 
 /// What the statement on top of a thread's stack answers.
@@ -47,17 +51,24 @@ fn make_act(
     kernel: &Kernel,
     id: &Ident,
     what: Act,
+    kept: bool,
     course: &mut Course,
 ) -> Result<Stepped, AllocError>
     requires { is_some (layer_at course.old.levels id.now.space) ≡ true }
-    ensures turn { IfOk result (λ stepped. after_answer kernel.now id.now course.old.levels (config_of course.old) (answers.Acts (act_of what)) ≡ (stepped, config_of course.new)) }
+    ensures turn { (layers : List Layer) → IsPopped kernel.now.statements id.now kept layers course.old
+        → IfOk result (λ stepped. after_answer kernel.now id.now course.old.levels (config_of course.old) (answers.Acts (act_of what)) ≡ (stepped, config_of course.new)) }
     ensures cost { IfOk result (λ stepped. cost_of stepped ≡ 1) }
 {
     let statements = kernel.statements.as_slice();
-    if act(alloc, &mut course.levels, id, what)? {
-        go_on(alloc, statements, id, 1, course)
+    let quiet = kept && is_quiet(&what);
+    let started = started(alloc, &course.levels, id, &what)?;
+    if !act(alloc, &mut course.levels, id, what)? {
+        return raise_kind(alloc, statements, id, RaiseKind::FailureTell, course);
+    }
+    if quiet {
+        go_on_quietly(alloc, statements, id, started, 1, course)
     } else {
-        raise_kind(alloc, statements, id, RaiseKind::FailureTell, course)
+        go_on(alloc, statements, id, 1, course)
     }
 }
 
@@ -67,9 +78,11 @@ fn make_step(
     kernel: &Kernel,
     id: &Ident,
     answer: Answer,
+    kept: bool,
     course: &mut Course,
 ) -> Result<Stepped, AllocError>
-    requires { is_some (layer_at course.old.levels id.now.space) ≡ true }
+    requires there { is_some (layer_at course.old.levels id.now.space) ≡ true }
+    requires kept { kept ≡ true → IsHead kernel.now.statements id.now course.old.levels course.old.queue course.old.shown }
     ensures turn { (a : answers.Answer) → IsAnswer a answer → IfOk result (λ stepped. after_answer kernel.now id.now (without_top id.now course.old.levels) (config_of course.old) a ≡ (stepped, config_of course.new)) }
     ensures cost { IfOk result (λ stepped. cost_of stepped ≡ 1) }
 {
@@ -81,7 +94,7 @@ fn make_step(
         }
         Answer::Acts(what) => {
             let _frame = course.levels.pop(id);
-            make_act(alloc, kernel, id, what, course)
+            make_act(alloc, kernel, id, what, kept, course)
         }
         Answer::RaisesKind(kind) => {
             let _frame = course.levels.pop(id);
@@ -90,7 +103,7 @@ fn make_step(
         Answer::RaisesTerm(exception) => {
             let _frame = course.levels.pop(id);
             course.levels.consistent();
-            raise(alloc, statements, id, exception, course)
+            raise(alloc, statements, id, exception, kept, course)
         }
     }
 }
@@ -111,8 +124,10 @@ fn show_text(
     kernel: &Kernel,
     id: &Ident,
     text: Text,
+    kept: bool,
     course: &mut Course,
 ) -> Result<Stepped, AllocError>
+    requires { kept ≡ true → IsHead kernel.now.statements id.now course.old.levels course.old.queue course.old.shown }
     ensures turn { IfOk result (λ stepped. shown_by kernel.now.statements id.now (record { bytes = text.bytes; nodes = text.nodes }) (without_top id.now course.old.levels) (config_of course.old) ≡ (stepped, config_of course.new)) }
     ensures cost { IfOk result (λ stepped. cost_of stepped ≡ 1 + text.nodes) }
 {
@@ -122,7 +137,11 @@ fn show_text(
     let _frame = course.levels.pop(id);
     course.levels.consistent();
     course.shown.push(alloc, bytes)?;
-    go_on(alloc, statements, id, cost, course)
+    if kept {
+        go_on_quietly(alloc, statements, id, None, cost, course)
+    } else {
+        go_on(alloc, statements, id, cost, course)
+    }
 }
 
 /// The thread shows a term, unless that costs more than the fuel: then nothing changes.
@@ -132,11 +151,13 @@ fn show(
     place: usize,
     id: &Ident,
     variable: &Ident,
+    kept: bool,
     course: &mut Course,
     fuel: u64,
 ) -> Result<Option<Stepped>, AllocError>
     requires within { place < length course.old.levels }
     requires place { Some place ≡ position (is_of id.now.space) course.old.levels }
+    requires kept { kept ≡ true → IsHead kernel.now.statements id.now course.old.levels course.old.queue course.old.shown }
     requires fuel { 1 ≤ fuel }
     ensures turn { IfOk result (IsTurn (after_answer kernel.now id.now (without_top id.now course.old.levels) (config_of course.old) (answers.Acts (answers.Shows variable.now))) fuel (config_of course.old) (config_of course.new)) }
     ensures cost { IfOk result (λ turned. IfSome turned (CostsWithin fuel)) }
@@ -144,7 +165,7 @@ fn show(
     let store = course.levels.store_at(place);
     match term_text(alloc, &kernel.words, store, variable, fuel - 1)? {
         None => Ok(None),
-        Some(text) => Ok(Some(show_text(alloc, kernel, id, text, course)?)),
+        Some(text) => Ok(Some(show_text(alloc, kernel, id, text, kept, course)?)),
     }
 }
 
@@ -155,19 +176,21 @@ fn step_as(
     place: usize,
     id: &Ident,
     answer: Answer,
+    kept: bool,
     course: &mut Course,
     fuel: u64,
 ) -> Result<Option<Stepped>, AllocError>
     requires within { place < length course.old.levels }
     requires place { Some place ≡ position (is_of id.now.space) course.old.levels }
+    requires kept { kept ≡ true → IsHead kernel.now.statements id.now course.old.levels course.old.queue course.old.shown }
     requires fuel { 1 ≤ fuel }
     ensures turn { (a : answers.Answer) → IsAnswer a answer → IfOk result (IsTurn (after_answer kernel.now id.now (without_top id.now course.old.levels) (config_of course.old) a) fuel (config_of course.old) (config_of course.new)) }
     ensures cost { IfOk result (λ turned. IfSome turned (CostsWithin fuel)) }
 {
     if let Answer::Acts(Act::Shows(variable)) = &answer {
-        return show(alloc, kernel, place, id, variable, course, fuel);
+        return show(alloc, kernel, place, id, variable, kept, course, fuel);
     }
-    Ok(Some(make_step(alloc, kernel, id, answer, course)?))
+    Ok(Some(make_step(alloc, kernel, id, answer, kept, course)?))
 }
 
 /// A step of a thread. None exactly where it costs more than the fuel: it is not made, and nothing changes.
@@ -175,10 +198,12 @@ fn step_of(
     alloc: Global,
     kernel: &Kernel,
     id: &Ident,
+    kept: bool,
     course: &mut Course,
     fuel: u64,
 ) -> Result<Option<Stepped>, AllocError>
-    requires { 1 ≤ fuel }
+    requires kept { kept ≡ true → IsHead kernel.now.statements id.now course.old.levels course.old.queue course.old.shown }
+    requires fuel { 1 ≤ fuel }
     ensures turn { IfOk result (IsTurn (stepped kernel.now id.now (config_of course.old)) fuel (config_of course.old) (config_of course.new)) }
     ensures cost { IfOk result (λ turned. IfSome turned (CostsWithin fuel)) }
 {
@@ -190,7 +215,7 @@ fn step_of(
         }
         Some(place) => {
             let answer = top_answer(alloc, statements, &course.levels, place, id)?;
-            step_as(alloc, kernel, place, id, answer, course, fuel)
+            step_as(alloc, kernel, place, id, answer, kept, course, fuel)
         }
     }
 }
@@ -210,18 +235,30 @@ fn step_head(
     alloc: Global,
     kernel: &Kernel,
     id: Ident,
+    kept: bool,
     course: &mut Course,
     fuel: u64,
 ) -> Result<Option<Stepped>, AllocError>
+    requires { kept ≡ true → IsHead kernel.now.statements id course.old.levels course.old.queue course.old.shown }
     ensures turn { IfOk result (IsTurn (stepped kernel.now id (config_of course.old)) fuel (record { layers = course.old.levels; queue = id ∷ course.old.queue; shown = course.old.shown }) (config_of course.new)) }
     ensures cost { IfOk result (λ turned. IfSome turned (CostsWithin fuel)) }
 {
     if fuel == 0 {
         return put_back(course, id);
     }
-    match step_of(alloc, kernel, &id, course, fuel)? {
+    match step_of(alloc, kernel, &id, kept, course, fuel)? {
         Some(stepped) => Ok(Some(stepped)),
         None => put_back(course, id),
+    }
+}
+
+/// Whether the machine goes on after a turn as it went before: the top has not ended.
+fn goes_on(turned: &Option<Stepped>) -> bool
+    ensures { result ≡ true → IfSome turned.now HasNotEnded }
+{
+    match turned {
+        Some(Stepped::TopEnded { .. }) => false,
+        Some(Stepped::Moved { .. }) | Some(Stepped::Quiescent) | None => true,
     }
 }
 
@@ -234,9 +271,14 @@ pub fn step(
 ) -> Result<Option<Stepped>, AllocError>
     ensures turn { IfOk result (IsTurn (turn kernel.now (config_of course.old)) fuel (config_of course.old) (config_of course.new)) }
     ensures cost { IfOk result (λ turned. IfSome turned (CostsWithin fuel)) }
+    ensures kept { Keeps kernel.now.statements course.old → Keeps kernel.now.statements course.new }
 {
-    match course.queue.next() {
-        None => Ok(Some(Stepped::Quiescent)),
-        Some(id) => step_head(alloc, kernel, id, course, fuel),
-    }
+    // Until the turn is made.
+    let kept = mem::replace(&mut course.kept, false);
+    let turned = match course.queue.next() {
+        None => Some(Stepped::Quiescent),
+        Some(id) => step_head(alloc, kernel, id, kept, course, fuel)?,
+    };
+    course.kept = kept && goes_on(&turned);
+    Ok(turned)
 }

@@ -1,4 +1,4 @@
-use Rattle.std.proofs.Common.{◌≡◌, ◌∙◌, true, sym, ap, subst}
+use Rattle.std.proofs.Common.{◌≡◌, ◌∙◌, true, refl, sym, ap, subst}
 use Rattle.oz_semantics.specs.Configurations.{layer_of}
 use Rattle.oz_semantics.specs.Effects.{act_effect}
 use Rattle.oz_semantics.specs.Answers as answers
@@ -11,7 +11,7 @@ pub returns-in-Passes : goal.returns-in-Passes
 returns-in-Passes c =
     let id = c.args.id.now in
     let old = c.args.levels.now in
-    subst (λ a. IsDone id (act_effect (layer_of old id.space) (act_of a)) old old true) (sym c.in-Passes.is) (nothing_fails id.space old c.consistent.ensures)
+    subst (λ a. IsDone id (act_effect (layer_of old id.space) (act_of a)) old old true) (sym c.in-Passes.is) (refl, nothing_fails id.space old c.consistent.ensures)
 
 pub returns-in-Declares : goal.returns-in-Declares
 returns-in-Declares c =

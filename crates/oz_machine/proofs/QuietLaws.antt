@@ -1,0 +1,233 @@
+-- What follows a step that told nothing.
+use Rattle.std.proofs.Common.{Contains, arith, ◌≡◌, inl, inr, ℕ, Bool, true, false, ◌&&◌, ◌||◌, cond, if◌then◌else◌, List, [], ◌∷◌, ◌++◌, refl, sym, ap, subst, ◌∙◌, Option, Some, None, is_some, map, filter, unwrap_or}
+use Rattle.std.specs.Prelude.{option_to_list}
+use Rattle.std.specs.List.{find, list_any}
+use Rattle.std.proofs.lemmas.List.{append_assoc}
+use Rattle.std.proofs.lemmas.List.Folds.{list_any-append}
+use Rattle.std.proofs.lemmas.Bool.{false≢true}
+use Rattle.oz_base.specs.Lists.{list_eq, holds_of}
+use Rattle.oz_base.specs.Names.{ident_eq}
+use Rattle.oz_base.specs.declared.names.Ident.{Ident}
+use Rattle.oz_language.specs.declared.kernel.Statement.{Statement}
+use Rattle.oz_semantics.specs.Names.{named}
+use Rattle.oz_semantics.specs.Configurations.{is_of, layer_at, layer_of, thread_at, frames_in, is_open, in_layer, with_frames, without_terminated, new_layer}
+use Rattle.oz_semantics.specs.Sights.{Sight, can_step}
+use Rattle.oz_semantics.specs.Statements.{stack_answer}
+use Rattle.oz_semantics.specs.Readiness.{answer_ready, thread_ready}
+use Rattle.oz_semantics.specs.Spaces.{sight}
+use Rattle.oz_semantics.specs.Changes.{Change, changed_all}
+use Rattle.oz_semantics.specs.Settling.{Turned, is_among, mover_in, queue_after, runnable_in, runnable}
+use Rattle.oz_semantics.specs.Steps.{went_on, without_top}
+use Rattle.oz_semantics.specs.declared.configuration.Frame.{Frame}
+use Rattle.oz_semantics.specs.declared.configuration.Thread.{Thread}
+use Rattle.oz_semantics.specs.declared.configuration.Layer.{Layer}
+use Rattle.oz_semantics.specs.declared.configuration.Configuration.{Configuration}
+use Rattle.oz_semantics.specs.declared.outcome.Stepped.TheVariants.{Moved}
+use Rattle.oz_base.specs.ListLaws.{list_eq-equivalence}
+use Rattle.oz_laws.proofs.SameLaws.{ident_eq-refl}
+use Rattle.view_laws.specs.Queues.{AreNew}
+use Rattle.oz_semantics.specs.declared.configuration.Status.{Status}
+use Rattle.view_laws.specs.Steps.{MadeOf, spawned_from}
+use Rattle.view_laws.proofs.NumberLaws.{step_new}
+use Rattle.view_laws.proofs.QueueLaws.{queue_exact}
+use Rattle.view_laws.proofs.QuietLaws.{quiet_queue}
+use Rattle.view_laws.proofs.StepLaws.{changes_made, stack_made}
+use Rattle.turn_laws.specs.Orderly.{AreOrderly}
+use Rattle.turn_laws.specs.Kept.{IsKept, IsThere}
+use Rattle.turn_laws.proofs.OrderlyLaws.{changes_orderly, stack_orderly}
+use Rattle.turn_laws.proofs.HeadLaws.{mover_alone, kept_layers, kept_head, head_numbered, kept_changes, kept_stack}
+use Rattle.oz_machine.specs.Quiet.{top_steps, able_in, able_of, IsHead, news_of, names_in}
+use Rattle.oz_machine.proofs.PlaceLaws.{layer_of_name}
+
+-- What the first statement of a thread can do
+
+holds_frames : (s : Sight) (o : Option Thread) → holds_of (λ (t : Thread). can_step (thread_ready s t)) o ≡ can_step (answer_ready (stack_answer s (frames_in o)))
+holds_frames s None = refl
+holds_frames s (Some t) = refl
+
+-- in an open space this alone tells whether the thread is among those that can step
+able_alone : (statements : List Statement) (layers : List Layer) (id : Ident) → AreOrderly layers → is_open (layer_of layers id.space).status ≡ true
+    → is_among (runnable statements layers) id ≡ top_steps statements layers id
+able_alone statements layers id good opened =
+    mover_alone statements layers id good
+    ∙ ap (λ (b : Bool). b && holds_of (λ (t : Thread). can_step (thread_ready (sight statements layers id.space) t)) (thread_at (layer_of layers id.space).threads id.number)) opened
+    ∙ holds_frames (sight statements layers id.space) (thread_at (layer_of layers id.space).threads id.number)
+
+mover_joins : (statements : List Statement) (layers : List Layer) (id : Ident) → AreOrderly layers → is_open (layer_of layers id.space).status ≡ true
+    → mover_in (Some id) (runnable statements layers) ≡ able_in statements layers id
+mover_joins statements layers id good opened = ap (λ (b : Bool). if b then id ∷ [] else []) (able_alone statements layers id good opened)
+
+-- The layer that changed
+
+edited_at : (space : List ℕ) (after before : Layer) (layers : List Layer) → layer_at layers space ≡ Some before → is_of space after ≡ true → layer_at (in_layer space (λ l. after) layers) space ≡ Some after
+edited_at space after before [] e same = absurd (cc)
+edited_at space after before (l ∷ ls) e same = by (is_of space l) refl e
+  where
+    by : (b : Bool) → is_of space l ≡ b → cond b (Some l) (find (is_of space) ls) ≡ Some before
+        → find (is_of space) (cond b (after ∷ ls) (l ∷ in_layer space (λ k. after) ls)) ≡ Some after
+    by true t rest = ap (λ (b : Bool). cond b (Some after) (find (is_of space) ls)) same
+    by false t rest = ap (λ (b : Bool). cond b (Some l) (find (is_of space) (in_layer space (λ k. after) ls))) t ∙ edited_at space after before ls rest same
+
+-- it is as open as before
+made_open : (id : Ident) (layers result : List Layer) (before : Layer) (news : List Thread) (made : MadeOf id layers result before news) → layer_at layers id.space ≡ Some before → is_of id.space before ≡ true
+    → is_open before.status ≡ true → is_open (layer_of result id.space).status ≡ true
+made_open id layers result before news made at same opened =
+    let after = made.after in
+    let own : is_of id.space after ≡ true = ap (λ s. list_eq s id.space) made.steps.space ∙ same in
+    let found : layer_at result id.space ≡ Some after = ap (λ ls. layer_at ls id.space) made.left ∙ edited_at id.space after before layers at own in
+    ap (λ (o : Option Layer). is_open (unwrap_or o (new_layer id.space)).status) found ∙ ap is_open made.steps.status ∙ opened
+
+-- New threads
+
+-- either it stands there or none does
+alone_among : (b c : Bool) (n m : Ident) → m ≡ n → ident_eq n n ≡ true → (if b then (if c then m ∷ [] else []) else []) ≡ (if is_among (if b then (if c then m ∷ [] else []) else []) n then n ∷ [] else [])
+alone_among true true n m e same =
+    ap (λ (i : Ident). i ∷ []) e ∙ sym (ap (λ (d : Bool). if d || false then n ∷ [] else []) (ap (ident_eq n) e ∙ same))
+alone_among true false n m e same = refl
+alone_among false c n m e same = refl
+
+-- a list of one
+alone_in : (b : Bool) (p : Thread → Bool) (space : List ℕ) (t : Thread)
+    → (if b then map (λ (u : Thread). named space u.number) (filter p (t ∷ [])) else []) ≡ (if b then (if p t then named space t.number ∷ [] else []) else [])
+alone_in false p space t = refl
+alone_in true p space t = by (p t) refl
+  where
+    by : (c : Bool) → p t ≡ c → map (λ (u : Thread). named space u.number) (filter p (t ∷ [])) ≡ (if p t then named space t.number ∷ [] else [])
+    by true e = rw e refl
+    by false e = rw e refl
+
+none_open : (b : Bool) → ◌≡◌ {A = List Ident} (if b then [] else []) []
+none_open true = refl
+none_open false = refl
+
+-- the threads of these names
+none_named : {space : List ℕ} (ts : List Thread) → names_in space ts ≡ [] → ts ≡ []
+none_named [] e = refl
+none_named (t ∷ ts) e = absurd (cc)
+
+one_named : {space : List ℕ} (ts : List Thread) (n : Ident) → names_in space ts ≡ n ∷ [] → (t : Thread) × (ts ≡ t ∷ []) × (named space t.number ≡ n)
+one_named [] n e = absurd (cc)
+one_named {space} (t ∷ []) n e = (t, refl, (cc))
+one_named (t ∷ u ∷ ts) n e = absurd (cc)
+
+-- the name, the status and the threads of a layer decide which of its threads can step
+same_runnable : (statements : List Statement) (layers : List Layer) (a b : Layer) → a.space ≡ b.space → a.status ≡ b.status → a.threads ≡ b.threads → runnable_in statements layers a ≡ runnable_in statements layers b
+same_runnable statements layers a b space status threads =
+    ap (λ (k : Status). if is_open k then map (λ (t : Thread). named a.space t.number) (filter (λ t. can_step (thread_ready (sight statements layers a.space) t)) a.threads) else []) status
+    ∙ ap (λ s. if is_open b.status then map (λ (t : Thread). named s t.number) (filter (λ t. can_step (thread_ready (sight statements layers s) t)) a.threads) else []) space
+    ∙ ap (λ ts. if is_open b.status then map (λ (t : Thread). named b.space t.number) (filter (λ t. can_step (thread_ready (sight statements layers b.space) t)) ts) else []) threads
+
+or_false : (a b : Bool) → (a || b) ≡ false → (a ≡ false) × (b ≡ false)
+or_false true b e = absurd (cc)
+or_false false b e = (refl, e)
+
+among_append : (xs ys : List Ident) (id : Ident) → is_among (xs ++ ys) id ≡ (is_among xs id || is_among ys id)
+among_append xs ys id = list_any-append (ident_eq id) xs ys
+
+-- a thread that is not the one that stepped does not join with it
+not_mover : (b : Bool) (id n : Ident) → ident_eq n id ≡ false → is_among (if b then id ∷ [] else []) n ≡ false
+not_mover true id n e = ap (λ (c : Bool). c || false) e
+not_mover false id n e = refl
+
+module _ (statements : List Statement) (id : Ident) (layers result : List Layer) (queue : List Ident) (shown : List (List ℕ)) (changes : List Change)
+    (head : IsHead statements id layers queue shown) (left : result ≡ in_layer id.space without_terminated (changed_all id changes (without_top id layers))) where
+  before : Layer
+  before = layer_of layers id.space
+
+  c : Configuration
+  c = record { layers = layers; queue = queue; shown = shown }
+
+  there : IsThere statements layers id
+  there = kept_head statements id queue c head
+
+  news : List Thread
+  news = news_of before changes
+
+  made : MadeOf id layers result before news
+  made = subst (λ ls. MadeOf id layers ls before news) (sym left) (changes_made id changes layers before there.layer there.thread)
+
+  good : AreOrderly result
+  good = subst AreOrderly (sym left) (changes_orderly id changes layers (kept_layers statements (record c { queue = id ∷ queue }) head))
+
+  opened : is_open (layer_of result id.space).status ≡ true
+  opened =
+      made_open id layers result before news made there.layer (subst (λ s. list_eq s id.space ≡ true) (sym (layer_of_name layers id.space)) (list_eq-equivalence.refl id.space)) there.opened
+
+  abbrev ids : List Ident
+  ids = runnable statements result
+
+  abbrev able_news : List Ident
+  able_news = runnable_in statements result (record before { threads = news })
+
+  abbrev steps_there : Thread → Bool
+  steps_there t = can_step (thread_ready (sight statements result before.space) t)
+
+  -- of the queue after the step these are what is neither of the rest nor the thread itself
+  queue_is : queue_after ids (Some id) queue ≡ queue ++ mover_in (Some id) ids ++ able_news
+  queue_is =
+      ap (λ ls. queue_after (runnable statements ls) (Some id) queue) made.left
+      ∙ quiet_queue statements layers id queue before made.after news there.layer made.steps head.exact head.once new_ones
+      ∙ ap (λ ls. queue ++ mover_in (Some id) (runnable statements ls) ++ runnable_in statements ls (record made.after { threads = news })) (sym made.left)
+      ∙ ap (λ xs. queue ++ mover_in (Some id) ids ++ xs) (same_runnable statements result (record made.after { threads = news }) (record before { threads = news }) made.steps.space made.steps.status refl)
+    where
+      new_ones : AreNew id.space news (id ∷ queue)
+      new_ones = step_new statements changes layers id.space (id ∷ queue) before head.tree.ordered there.layer (head_numbered statements id queue c head) head.exact
+
+  -- one new thread joins exactly where it can step
+  one_joins : (n : Ident) (t : Thread) → news ≡ t ∷ [] → named id.space t.number ≡ n → able_news ≡ able_in statements result n
+  one_joins n t is e =
+      let mine : named before.space t.number ≡ n = ap (λ s. named s t.number) (layer_of_name layers id.space) ∙ e in
+      let single : able_news ≡ (if is_open before.status then (if steps_there t then named before.space t.number ∷ [] else []) else [])
+      = ap (λ ts. runnable_in statements result (record before { threads = ts })) is ∙ alone_in (is_open before.status) steps_there before.space t in
+      let alone : able_news ≡ (if is_among able_news n then n ∷ [] else [])
+      = single ∙ alone_among (is_open before.status) (steps_there t) n (named before.space t.number) mine (ident_eq-refl n)
+      ∙ ap (λ xs. if is_among xs n then n ∷ [] else []) (sym single) in
+      let new : is_among (id ∷ queue) n ≡ false
+      = subst (λ m. is_among (id ∷ queue) m ≡ false) e
+      (step_new statements changes layers id.space (id ∷ queue) before head.tree.ordered there.layer (head_numbered statements id queue c head) head.exact t (subst (λ ts. Contains ts t) (sym is) (0, omega arith, refl))) in
+      let apart = or_false (ident_eq n id) (is_among queue n) new in
+      let counted : is_among ids n ≡ is_among able_news n
+      = sym (queue_exact ids (Some id) queue n) ∙ ap (λ q. is_among q n) queue_is ∙ among_append queue (mover_in (Some id) ids ++ able_news) n
+      ∙ ap (λ b. b || is_among (mover_in (Some id) ids ++ able_news) n) apart.1 ∙ among_append (mover_in (Some id) ids) able_news n
+      ∙ ap (λ b. b || is_among able_news n) (not_mover (is_among ids id) id n apart.0) in
+      let as_open : is_open (layer_of result n.space).status ≡ true = subst (λ s. is_open (layer_of result s).status ≡ true) (ap (λ (i : Ident). i.space) e) opened in
+      alone ∙ ap (λ (b : Bool). if b then n ∷ [] else []) (sym counted ∙ able_alone statements result n good as_open)
+
+  news_join : (started : Option Ident) → names_in id.space news ≡ option_to_list started → able_news ≡ able_of statements result started
+  news_join None e = ap (λ ts. runnable_in statements result (record before { threads = ts })) (none_named news e) ∙ none_open (is_open before.status)
+  news_join (Some n) e = let one = one_named news n e in one_joins n one.0 one.1 one.2
+
+-- a step that made changes
+pub quiet_turn : (statements : List Statement) (id : Ident) (layers old new : List Layer) (queue after : List Ident) (shown : List (List ℕ)) (changes : List Change) (started : Option Ident) (cost : ℕ)
+    → IsHead statements id layers queue shown → old ≡ changed_all id changes (without_top id layers) → names_in id.space (news_of (layer_of layers id.space) changes) ≡ option_to_list started
+    → new ≡ in_layer id.space without_terminated old → after ≡ (queue ++ able_in statements new id) ++ able_of statements new started
+    → ◌≡◌ {A = Turned} (went_on statements id cost old (record { layers = old; queue = queue; shown = shown })) (Moved cost, record { layers = new; queue = after; shown = shown })
+quiet_turn statements id layers old new queue after shown changes started cost head is names left joined =
+    let result : new ≡ in_layer id.space without_terminated (changed_all id changes (without_top id layers)) = left ∙ ap (in_layer id.space without_terminated) is in
+    let c : Configuration = record { layers = layers; queue = queue; shown = shown } in
+    let same : queue ++ mover_in (Some id) (runnable statements new) ++ runnable_in statements new (record (layer_of layers id.space) { threads = news_of (layer_of layers id.space) changes }) ≡ after
+    = ap (λ xs. queue ++ xs ++ runnable_in statements new (record (layer_of layers id.space) { threads = news_of (layer_of layers id.space) changes }))
+    (mover_joins statements new id (good statements id layers new queue shown changes head result) (opened statements id layers new queue shown changes head result))
+    ∙ ap (λ xs. queue ++ able_in statements new id ++ xs) (news_join statements id layers new queue shown changes head result started names)
+    ∙ sym (append_assoc queue (able_in statements new id) (able_of statements new started)) ∙ sym joined in
+    ap (λ ls. went_on statements id cost ls (record c { layers = ls })) is
+    ∙ kept_changes statements c id queue changes cost head new result
+    ∙ ap (λ q. (Moved cost, record c { layers = new; queue = q })) same
+
+-- and one where it goes on with another stack
+pub unwound_turn : (statements : List Statement) (id : Ident) (layers old new : List Layer) (queue after : List Ident) (shown : List (List ℕ)) (frames : List Frame) (cost : ℕ)
+    → IsHead statements id layers queue shown → old ≡ in_layer id.space (with_frames id.number (λ rest. frames)) (without_top id layers)
+    → new ≡ in_layer id.space without_terminated old → after ≡ queue ++ able_in statements new id
+    → ◌≡◌ {A = Turned} (went_on statements id cost old (record { layers = old; queue = queue; shown = shown })) (Moved cost, record { layers = new; queue = after; shown = shown })
+unwound_turn statements id layers old new queue after shown frames cost head is left joined =
+    let result : new ≡ in_layer id.space without_terminated (in_layer id.space (with_frames id.number (λ rest. frames)) (without_top id layers)) = left ∙ ap (in_layer id.space without_terminated) is in
+    let c : Configuration = record { layers = layers; queue = queue; shown = shown } in
+    let there = kept_head statements id queue c head in
+    let before = layer_of layers id.space in
+    let made : MadeOf id layers new before [] = subst (λ ls. MadeOf id layers ls before []) (sym result) (stack_made id frames layers before there.layer there.thread) in
+    let good : AreOrderly new = subst AreOrderly (sym result) (stack_orderly id frames layers (kept_layers statements (record c { queue = id ∷ queue }) head)) in
+    let opened = made_open id layers new before [] made there.layer (subst (λ s. list_eq s id.space ≡ true) (sym (layer_of_name layers id.space)) (list_eq-equivalence.refl id.space)) there.opened in
+    let same : queue ++ mover_in (Some id) (runnable statements new) ≡ after = ap (λ xs. queue ++ xs) (mover_joins statements new id good opened) ∙ sym joined in
+    ap (λ ls. went_on statements id cost ls (record c { layers = ls })) is
+    ∙ kept_stack statements c id queue frames cost head new result
+    ∙ ap (λ q. (Moved cost, record c { layers = new; queue = q })) same

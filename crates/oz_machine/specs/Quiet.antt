@@ -1,0 +1,46 @@
+-- Steps that told nothing, and the queue after them.
+use Rattle.std.specs.Prelude.{ℕ, ◌≡◌, Bool, true, if◌then◌else◌, List, [], ◌∷◌, Option, Some, None, map}
+use Rattle.oz_base.specs.declared.names.Ident.{Ident}
+use Rattle.oz_language.specs.declared.kernel.Statement.{Statement}
+use Rattle.oz_semantics.specs.Names.{named}
+use Rattle.oz_semantics.specs.Configurations.{stack_of}
+use Rattle.oz_semantics.specs.Sights.{can_step}
+use Rattle.oz_semantics.specs.Statements.{stack_answer}
+use Rattle.oz_semantics.specs.Readiness.{answer_ready}
+use Rattle.oz_semantics.specs.Spaces.{sight}
+use Rattle.oz_semantics.specs.Changes.{Change}
+use Rattle.oz_semantics.specs.Steps.{without_top}
+use Rattle.oz_semantics.specs.declared.configuration.Thread.{Thread}
+use Rattle.oz_semantics.specs.declared.configuration.Layer.{Layer}
+use Rattle.view_laws.specs.Steps.{spawned_from}
+use Rattle.turn_laws.specs.Kept.{IsKept}
+use Rattle.oz_machine.specs.declared.course.Course.{Course}
+
+-- whether the statement on top of a thread's stack can step
+abbrev pub top_steps : List Statement → List Layer → Ident → Bool
+top_steps statements layers id = can_step (answer_ready (stack_answer (sight statements layers id.space) (stack_of layers id)))
+
+-- the thread, if it can step
+abbrev pub able_in : List Statement → List Layer → Ident → List Ident
+able_in statements layers id = if top_steps statements layers id then id ∷ [] else []
+
+-- the thread that was started, if one was, and it can step
+abbrev pub able_of : List Statement → List Layer → Option Ident → List Ident
+able_of statements layers None = []
+able_of statements layers (Some id) = able_in statements layers id
+
+-- the thread was the head of the queue, when all held that holds from turn to turn
+abbrev pub IsHead : List Statement → Ident → List Layer → List Ident → List (List ℕ) → Type 0
+IsHead statements id layers queue shown = IsKept statements (record { layers = layers; queue = id ∷ queue; shown = shown })
+
+-- and then its statement was taken off its stack, where this was known
+abbrev pub IsPopped : List Statement → Ident → Bool → List Layer → Course → Type 0
+IsPopped statements id kept layers c = kept ≡ true → (c.levels ≡ without_top id layers) × IsHead statements id layers c.queue c.shown
+
+-- the threads that changes start in a space with this layer
+abbrev pub news_of : Layer → List Change → List Thread
+news_of before changes = spawned_from before.next.thread changes
+
+-- their names
+abbrev pub names_in : List ℕ → List Thread → List Ident
+names_in space threads = map (λ (t : Thread). named space t.number) threads
