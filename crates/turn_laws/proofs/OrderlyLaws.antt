@@ -1,7 +1,8 @@
 -- Edits that leave the layers orderly.
-use Rattle.std.proofs.Common.{◌≡◌, inl, inr, ℕ, ◌≤◌, Bool, true, false, not, if◌then◌else◌, List, [], ◌∷◌, ◌++◌, refl, sym, ap, subst, ◌∙◌, arith, Option, Some, None, is_some, drop, filter, length, unwrap_or}
+use Rattle.std.proofs.Common.{◌≡◌, inl, inr, ℕ, ◌≤◌, Bool, true, false, not, if◌then◌else◌, List, [], ◌∷◌, ◌++◌, refl, sym, ap, subst, ◌∙◌, arith, Option, Some, None, is_some, drop, filter, length, unwrap_or, cond}
+use Rattle.std.specs.List.{find, fold}
 use Rattle.std.proofs.lemmas.Bool.{false≢true}
-use Rattle.oz_base.specs.Lists.{list_eq}
+use Rattle.oz_base.specs.Lists.{list_eq, put_before}
 use Rattle.oz_base.specs.declared.names.Ident.{Ident}
 use Rattle.oz_semantics.specs.Names.{is_properly_below, space_lt}
 use Rattle.oz_semantics.specs.Configurations.{is_of, layer_at, layer_of, in_layer, with_frames, without_terminated, telling, giving_out, counting_procedure, counting_child, spawning, failed, ending, next_child, new_layer}

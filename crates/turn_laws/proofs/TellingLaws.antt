@@ -49,7 +49,7 @@ use Rattle.turn_laws.specs.Orderly.{AreOrderly}
 use Rattle.turn_laws.specs.Kept.{IsKept}
 use Rattle.turn_laws.specs.Telling.{IsAlone, others_of, staying, TellQueue}
 use Rattle.turn_laws.proofs.OrderlyLaws.{changes_orderly, edit_orderly, tells_edit, is_there}
-use Rattle.turn_laws.proofs.HeadLaws.{kept_head, head_numbered, own_among}
+use Rattle.turn_laws.proofs.HeadLaws.{kept_head, head_numbered}
 
 -- A tell may come after the changes
 
@@ -127,7 +127,7 @@ stays_step before after Steps q e h = ap can_step h
 stays_step before after (Waits xs) q e h = absurd (false≢true e)
 stays_step before after (Offers offer xs) q e h = absurd (false≢true e)
 
-module _ (space : List ℕ) (ts : List Tell) (old : List Layer) (good : AreOrderly old) (sound : IsSound old) (at : is_some (layer_at old space) ≡ true) (alone : IsAlone old space)
+module _ (space : List ℕ) (ts : List Tell) (old : List Layer) (sound : IsSound old) (at : is_some (layer_at old space) ≡ true) (alone : IsAlone old space)
     (fits : is_consistent (view old space ++ ts) ≡ true) where
   abbrev pub new : List Layer
   new = in_layer space (telling ts) old
@@ -284,7 +284,7 @@ module _ (statements : List Statement) (c : Configuration) (id : Ident) (queue :
       ∙ fits
 
   told_sound : IsSound told
-  told_sound = sound_later id.space ts quiet quiet_orderly still_sound still_there still_alone still_fits
+  told_sound = sound_later id.space ts quiet still_sound still_there still_alone still_fits
 
   told_orderly : AreOrderly told
   told_orderly = edit_orderly id.space (telling ts) quiet (tells_edit ts) quiet_orderly
@@ -340,7 +340,7 @@ module _ (statements : List Statement) (c : Configuration) (id : Ident) (queue :
   rest_stays : filter (is_among ids) queue ≡ queue
   rest_stays =
       filter_all (is_among ids) queue
-      (λ o h. in_among ids o (runs_later id.space ts quiet quiet_orderly still_sound still_there still_alone still_fits statements o (queue_ran o h)))
+      (λ o h. in_among ids o (runs_later id.space ts quiet still_sound still_there still_alone still_fits statements o (queue_ran o h)))
 
   others_stay : (l : Layer) → In l told → is_of id.space l ≡ false → filter comes (runnable_in statements told l) ≡ []
   others_stay l h apart =
@@ -349,7 +349,7 @@ module _ (statements : List Statement) (c : Configuration) (id : Ident) (queue :
       let n : o.space ≡ id.space → ⊥ =
       λ q. not_both _ (subst (λ s. list_eq s id.space ≡ true) (sym (ap (λ (x : Ident). x.space) r.name ∙ q)) (names_equal id.space)) apart in
       let held : In o queue =
-      others_queued o n (other_ran id.space ts quiet quiet_orderly still_sound still_there still_alone still_fits statements l o h apart i) in
+      others_queued o n (other_ran id.space ts quiet still_sound still_there still_alone still_fits statements l o h apart i) in
       ap not (in_among stay o (In-left o queue (mover_in (Some id) ids) held)))
 
   told_there : layer_at told id.space ≡ Some (layer_of told id.space)
