@@ -7,7 +7,7 @@ use Rattle.oz_language.specs.declared.kernel.Statement.{Statement}
 use Rattle.oz_language.specs.declared.kernel.Kernel.{Kernel}
 use Rattle.oz_semantics.specs.Names.{is_top, child_name, space_lt}
 use Rattle.oz_semantics.specs.Store.{View, is_consistent}
-use Rattle.oz_semantics.specs.Configurations.{is_of, layer_of, stack_of, view, in_layer, with_frames, without_terminated, counting_child, ending, failed, raised_by, frames_of, next_child, new_layer}
+use Rattle.oz_semantics.specs.Configurations.{is_of, layer_of, stack_of, view, in_layer, with_frames, without_terminated, counting_child, spawning, ending, failed, raised_by, frames_of, next_child, new_layer}
 use Rattle.oz_semantics.specs.Answers.{Answer, Acts, RaisesKind, RaisesTerm, Rests}
 use Rattle.oz_semantics.specs.Statements.{stack_answer}
 use Rattle.oz_semantics.specs.Spaces.{sight}

@@ -305,26 +305,32 @@ module _ (statements : List Statement) (c : Configuration) (id : Ident) (queue :
           (quiet_queue statements c.layers id queue before made.after news at made.steps kept.exact kept.once
           (step_new statements changes c.layers id.space (id ∷ queue) before kept.tree.ordered at (head_numbered statements id queue c kept) kept.exact))
 
+  abbrev able_mover : List Ident
+  able_mover = mover_in (Some id) (runnable statements quiet)
+
+  abbrev able_news : List Ident
+  able_news = runnable_in statements quiet (record made.after { threads = news })
+
   queue_ran : (o : Ident) → In o queue → In o (runnable statements quiet)
   queue_ran o h =
       among_in (runnable statements quiet) o
-      (sym (went_exact o)
-      ∙ in_among went o
-      (In-left o queue (mover_in (Some id) (runnable statements quiet) ++ runnable_in statements quiet (record made.after { threads = news })) h))
+      (sym (went_exact o) ∙ in_among went o (In-left o (queue ++ able_mover) able_news (In-left o queue able_mover h)))
+
+  not_mover : (o : Ident) → (o.space ≡ id.space → ⊥) → In o able_mover → ⊥
+  not_mover o n h =
+      let same : ◌≡◌ {A = Option Ident} (Some id) (Some o) = (mover_able (Some id) (runnable statements quiet) o h).1 in
+      let is : id ≡ o = cc in
+      n (ap (λ (i : Ident). i.space) (sym is))
+
+  not_new : (o : Ident) → (o.space ≡ id.space → ⊥) → In o able_news → ⊥
+  not_new o n h = let r = can_from statements quiet (record made.after { threads = news }) o h in n (ap (λ (i : Ident). i.space) (sym r.name) ∙ after_name)
 
   -- what can step of another space stood in the queue
   others_queued : (o : Ident) → (o.space ≡ id.space → ⊥) → In o (runnable statements quiet) → In o queue
-  others_queued o n h =
-      elim (In-cases o queue (mover_in (Some id) (runnable statements quiet) ++ runnable_in statements quiet (record made.after { threads = news }))
-      (among_in went o (went_exact o ∙ in_among (runnable statements quiet) o h))) [
-        | inl k ↦ k
-        | inr k ↦ elim (In-cases o (mover_in (Some id) (runnable statements quiet)) (runnable_in statements quiet (record made.after { threads = news })) k) [
-          | inl m ↦ (let same : ◌≡◌ {A = Option Ident} (Some id) (Some o) = (mover_able (Some id) (runnable statements quiet) o m).1 in
-              let is : id ≡ o = cc in
-              absurd (n (ap (λ (i : Ident). i.space) (sym is))))
-          | inr m ↦ (let r = can_from statements quiet (record made.after { threads = news }) o m in absurd (n (ap (λ (i : Ident). i.space) (sym r.name) ∙ after_name)))
-        ]
-      ]
+  others_queued o n h = elim (In-cases o (queue ++ able_mover) able_news (among_in went o (went_exact o ∙ in_among (runnable statements quiet) o h))) [
+    | inl k ↦ elim (In-cases o queue able_mover k) [ inl m ↦ m | inr m ↦ absurd (not_mover o n m) ]
+    | inr k ↦ absurd (not_new o n k)
+  ]
 
   -- What can step now
 
