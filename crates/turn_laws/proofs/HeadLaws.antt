@@ -24,7 +24,7 @@ use Rattle.view_laws.proofs.QueueLaws.{can_from, not_among, queue_tells}
 use Rattle.view_laws.proofs.NumberLaws.{first_numbered, mover_told}
 use Rattle.view_laws.proofs.SettleLaws.{changes_settle, stack_settle}
 use Rattle.turn_laws.specs.Orderly.{AreOrderly, MoverAlone}
-use Rattle.turn_laws.specs.Kept.{IsKept, KeptLayers, KeptGoesOn, IsThere, KeptHead, KeptChanges, KeptStack}
+use Rattle.turn_laws.specs.Kept.{IsKept, KeptLayers, KeptShown, KeptGoesOn, IsThere, KeptHead, KeptChanges, KeptStack}
 use Rattle.turn_laws.proofs.OrderlyLaws.{is_there}
 
 -- a layer is the first of its name
@@ -91,6 +91,9 @@ mover_alone statements layers id good = told_alone statements layers id good
 
 pub kept_layers : KeptLayers
 kept_layers statements c kept = record { tree = kept.tree; top = kept.top; numbered = kept.numbered }
+
+pub kept_shown : KeptShown
+kept_shown statements c texts kept = record { tree = kept.tree; top = kept.top; numbered = kept.numbered; sound = kept.sound; exact = kept.exact; once = kept.once }
 
 pub kept_goes_on : KeptGoesOn
 kept_goes_on statements c space kept = queue_tells statements c.layers c.queue space kept.exact

@@ -1,6 +1,5 @@
 -- What is so of a configuration is so after each turn, and where a program opens, the search begins, or a space is committed.
 use Rattle.std.proofs.Common.{◌≡◌, inl, inr, ℕ, ◌+◌, Bool, true, false, not, ◌&&◌, if◌then◌else◌, List, [], ◌∷◌, ◌++◌, refl, sym, ap, subst, ◌∙◌, Option, Some, None}
-use Rattle.std.proofs.lemmas.Bool.{false≢true}
 use Rattle.oz_base.specs.Lists.{holds_of}
 use Rattle.oz_base.specs.declared.names.Ident.{Ident}
 use Rattle.oz_language.specs.declared.kernel.Statement.{Statement}
@@ -42,7 +41,7 @@ use Rattle.settle_laws.proofs.OpeningLaws.{opening_sound}
 use Rattle.settle_laws.proofs.TreeSteps.{opening_tree}
 use Rattle.turn_laws.specs.Orderly.{AreOrderly}
 use Rattle.turn_laws.specs.Kept.{IsKept, KeptTurn, KeptStep, KeptOpening, KeptRoot, KeptChosen}
-use Rattle.turn_laws.proofs.NumberedLaws.{edits_numbered, none_numbered, spawned_numbered}
+use Rattle.turn_laws.proofs.NumberedLaws.{none_numbered, spawned_numbered}
 use Rattle.turn_laws.proofs.OrderlyLaws.{edit_orderly, end_orderly, left_orderly, frames_edit, term_edit, popped_orderly, changed_orderly, done_all_orderly, ended_orderly, created_orderly, committed_orderly}
 
 -- where the machine moved, it is so

@@ -1,5 +1,5 @@
 -- Edits that leave the threads of a layer in the order of their numbers.
-use Rattle.std.proofs.Common.{◌≡◌, inl, inr, ℕ, ◌+◌, ◌<◌, Bool, true, false, not, cond, List, [], ◌∷◌, ◌++◌, refl, sym, ap, subst, arith, Contains, Option, Some, None, filter, map, is_some}
+use Rattle.std.proofs.Common.{◌≡◌, inl, inr, ℕ, ◌<◌, Bool, true, false, not, cond, List, [], ◌∷◌, ◌++◌, refl, sym, ap, subst, arith, Contains, Option, Some, None, filter, map, is_some}
 use Rattle.std.proofs.lemmas.List.{map-append}
 use Rattle.oz_base.specs.Lists.{edit_first, is_empty}
 use Rattle.oz_semantics.specs.Configurations.{is_numbered, with_frames, spawning}

@@ -1,5 +1,5 @@
 -- Edits that leave the layers orderly.
-use Rattle.std.proofs.Common.{◌≡◌, inl, inr, ℕ, ◌≤◌, Bool, true, false, not, if◌then◌else◌, List, [], ◌∷◌, ◌++◌, refl, sym, ap, subst, ◌∙◌, arith, Option, Some, None, is_some, drop, filter, length, unwrap_or, cond}
+use Rattle.std.proofs.Common.{◌≡◌, inl, inr, ℕ, ◌≤◌, Bool, true, false, not, List, [], ◌∷◌, ◌++◌, refl, sym, ap, subst, ◌∙◌, arith, Option, Some, None, is_some, drop, filter, unwrap_or, cond}
 use Rattle.std.specs.List.{find, fold}
 use Rattle.std.proofs.lemmas.Bool.{false≢true}
 use Rattle.oz_base.specs.Lists.{list_eq, put_before}
@@ -22,7 +22,7 @@ use Rattle.view_laws.specs.Sights.{IsEnd}
 use Rattle.view_laws.specs.Steps.{IsNumbered}
 use Rattle.view_laws.proofs.ListLaws.{filter_in, in_edit, found_in}
 use Rattle.view_laws.proofs.NameLaws.{equal_names}
-use Rattle.view_laws.proofs.TreeLaws.{in_put, put_in, change_tree, end_tree, tree_created}
+use Rattle.view_laws.proofs.TreeLaws.{in_put, change_tree, end_tree, tree_created}
 use Rattle.settle_laws.proofs.ListEdits.{find_filter, is_found_edit}
 use Rattle.turn_laws.specs.Orderly.{KeepsNumbered, AreOrderly, ChangesOrderly, DoneOrderly, StackOrderly, CreatedOrderly, CommittedOrderly}
 use Rattle.turn_laws.proofs.NumberedLaws.{edits_numbered, none_numbered, spawned_numbered}

@@ -1,5 +1,5 @@
 -- What a step that tells something makes of the queue, where no space is below the one that is told.
-use Rattle.std.proofs.Common.{◌≡◌, ◌⊎◌, inl, inr, ℕ, Bool, true, false, not, ◌&&◌, if◌then◌else◌, cond, List, [], ◌∷◌, ◌++◌, refl, sym, ap, ap₂, subst, ◌∙◌, Contains, Option, Some, None, is_some, filter, map, flat_map}
+use Rattle.std.proofs.Common.{◌≡◌, inl, inr, ℕ, Bool, true, false, not, ◌&&◌, if◌then◌else◌, cond, List, [], ◌∷◌, ◌++◌, refl, sym, ap, ap₂, subst, ◌∙◌, Contains, Option, Some, None, is_some, filter, map, flat_map}
 use Rattle.std.specs.List.{find}
 use Rattle.std.proofs.lemmas.Bool.{false≢true}
 use Rattle.std.proofs.lemmas.List.{append-nil}
@@ -15,7 +15,7 @@ use Rattle.oz_semantics.specs.Readiness.{thread_ready}
 use Rattle.oz_semantics.specs.Spaces.{sight}
 use Rattle.oz_semantics.specs.Changes.{Change, GivesOut, CountsProcedure, Pushes, Spawns, changed_all, done}
 use Rattle.oz_semantics.specs.Settling.{Turned, may_fail, is_inconsistent, inconsistent_spaces, is_among, mover_in, queue_after, runnable_in, runnable, settled}
-use Rattle.oz_semantics.specs.Steps.{without_top, went_on}
+use Rattle.oz_semantics.specs.Steps.{without_top}
 use Rattle.oz_semantics.specs.declared.value.Tell.{Tell}
 use Rattle.oz_semantics.specs.declared.configuration.Thread.{Thread}
 use Rattle.oz_semantics.specs.declared.configuration.Status.{Status}
@@ -28,8 +28,8 @@ use Rattle.oz_laws.proofs.StoreLaws.{tests_consistent}
 use Rattle.view_laws.specs.Readies.{Keeps, Stays, seeing}
 use Rattle.view_laws.specs.Trees.{is_ascending, names_of}
 use Rattle.view_laws.specs.Steps.{spawned_from, MadeOf, IsSound}
-use Rattle.view_laws.proofs.Members.{decide, not_both, In-left, In-right, In-cases}
-use Rattle.view_laws.proofs.ListLaws.{among_in, in_among, filter_in, in_filter, filter_all, filter_none, map_in, in_map, in_edit, edit_in, edited_in, found_in}
+use Rattle.view_laws.proofs.Members.{decide, not_both, In-left, In-cases}
+use Rattle.view_laws.proofs.ListLaws.{among_in, in_among, in_filter, filter_all, filter_none, map_in, in_edit, edit_in, edited_in, found_in}
 use Rattle.view_laws.proofs.NameLaws.{names_equal, equal_names, properly, properly_by}
 use Rattle.view_laws.proofs.SightLaws.{space_of, change_unseen, tell_seen}
 use Rattle.view_laws.proofs.TreeLaws.{one_of_name}
@@ -39,7 +39,6 @@ use Rattle.view_laws.proofs.QuietLaws.{quiet_queue}
 use Rattle.view_laws.proofs.StepLaws.{changes_made}
 use Rattle.view_laws.proofs.NumberLaws.{step_new}
 use Rattle.view_laws.proofs.SettleLaws.{quiet_sound}
-use Rattle.settle_laws.specs.Settles.{IsQuiet}
 use Rattle.settle_laws.proofs.EditLaws.{edits_join, edits_agree, are_quiet, quiet_view, pop_view}
 use Rattle.settle_laws.proofs.ListEdits.{is_found_edit}
 use Rattle.settle_laws.proofs.SettleLaws.{settled_by}

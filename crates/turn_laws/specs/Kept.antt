@@ -41,6 +41,10 @@ pub record IsKept (statements : List Statement) (c : Configuration) : Type 0 whe
 abbrev pub KeptLayers : Type 0
 KeptLayers = (statements : List Statement) (c : Configuration) → IsKept statements c → AreOrderly c.layers
 
+-- which does not depend on what was shown
+abbrev pub KeptShown : Type 0
+KeptShown = (statements : List Statement) (c : Configuration) (texts : List (List ℕ)) → IsKept statements c → IsKept statements (record c { shown = texts })
+
 -- Turns
 
 -- So it is after each turn that does not end the top

@@ -1,5 +1,5 @@
 -- Layers of a tree, with their threads in the order of their numbers, and the edits that leave them so.
-use Rattle.std.specs.Prelude.{ℕ, ◌≡◌, true, ◌&&◌, List, [], Contains, Some, is_some}
+use Rattle.std.specs.Prelude.{ℕ, ◌≡◌, true, ◌&&◌, List, [], Contains, is_some}
 use Rattle.oz_base.specs.Lists.{holds_of}
 use Rattle.oz_base.specs.declared.names.Ident.{Ident}
 use Rattle.oz_language.specs.declared.kernel.Statement.{Statement}

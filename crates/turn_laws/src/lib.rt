@@ -4,7 +4,7 @@
 #![tactic(auto)]
 
 ghost use Rattle.turn_laws.specs.Orderly.{EditsNumbered, ChangesOrderly, DoneOrderly, StackOrderly, CreatedOrderly, CommittedOrderly, MoverAlone};
-ghost use Rattle.turn_laws.specs.Kept.{KeptLayers, KeptTurn, KeptStep, KeptOpening, KeptRoot, KeptChosen, KeptGoesOn, KeptHead, KeptChanges, KeptStack};
+ghost use Rattle.turn_laws.specs.Kept.{KeptLayers, KeptShown, KeptTurn, KeptStep, KeptOpening, KeptRoot, KeptChosen, KeptGoesOn, KeptHead, KeptChanges, KeptStack};
 ghost use Rattle.turn_laws.specs.Telling.{TellQueue};
 
 /// Which edits leave the layers orderly, and what a thread's own layer then tells. Nothing: it holds laws.
@@ -21,6 +21,7 @@ pub fn orderly_law()
 /// What is so of a configuration from turn to turn. Nothing: it holds laws.
 pub fn kept_law()
     ensures layers { KeptLayers }
+    ensures shown { KeptShown }
     ensures turn { KeptTurn }
     ensures step { KeptStep }
     ensures opening { KeptOpening }
