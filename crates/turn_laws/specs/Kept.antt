@@ -37,11 +37,11 @@ pub record IsKept (statements : List Statement) (c : Configuration) : Type 0 whe
   pub exact : HasExact statements c
   pub once : is_once c.queue ≡ true
 
--- the layers alone
+-- Its layers are then orderly
 abbrev pub KeptLayers : Type 0
 KeptLayers = (statements : List Statement) (c : Configuration) → IsKept statements c → AreOrderly c.layers
 
--- which does not depend on what was shown
+-- It may have shown any texts
 abbrev pub KeptShown : Type 0
 KeptShown = (statements : List Statement) (c : Configuration) (texts : List (List ℕ)) → IsKept statements c → IsKept statements (record c { shown = texts })
 
