@@ -1,11 +1,10 @@
 -- What follows a step that told nothing.
-use Rattle.std.proofs.Common.{Contains, arith, ◌≡◌, inl, inr, ℕ, Bool, true, false, ◌&&◌, ◌||◌, cond, if◌then◌else◌, List, [], ◌∷◌, ◌++◌, refl, sym, ap, subst, ◌∙◌, Option, Some, None, is_some, map, filter, unwrap_or}
-use Rattle.std.specs.Prelude.{option_to_list}
+use Rattle.std.proofs.Common.{Contains, arith, ◌≡◌, ◌≤◌, inl, inr, ℕ, Bool, true, false, ◌&&◌, ◌||◌, cond, if◌then◌else◌, List, [], ◌∷◌, ◌++◌, refl, sym, ap, subst, ◌∙◌, Option, Some, None, is_some, map, filter, drop, unwrap_or}
+use Rattle.std.specs.Prelude.{IfSome, option_to_list}
 use Rattle.std.specs.List.{find, list_any}
-use Rattle.std.proofs.lemmas.List.{append_assoc}
 use Rattle.std.proofs.lemmas.List.Folds.{list_any-append}
 use Rattle.std.proofs.lemmas.Bool.{false≢true}
-use Rattle.oz_base.specs.Lists.{list_eq, holds_of}
+use Rattle.oz_base.specs.Lists.{first, list_eq, holds_of}
 use Rattle.oz_base.specs.Names.{ident_eq}
 use Rattle.oz_base.specs.declared.names.Ident.{Ident}
 use Rattle.oz_language.specs.declared.kernel.Statement.{Statement}
@@ -15,14 +14,23 @@ use Rattle.oz_semantics.specs.Sights.{Sight, can_step}
 use Rattle.oz_semantics.specs.Statements.{stack_answer}
 use Rattle.oz_semantics.specs.Readiness.{answer_ready, thread_ready}
 use Rattle.oz_semantics.specs.Spaces.{sight}
-use Rattle.oz_semantics.specs.Changes.{Change, changed_all}
+use Rattle.oz_semantics.specs.Changes.{Change, Pushes, Spawns, changed_all}
+use Rattle.oz_semantics.specs.Answers.{Act, Passes, GoesOn, Declares, Starts, GivesValue, GivesTerm, GivesVariable, MakesProcedure, Shows}
+use Rattle.oz_semantics.specs.Effects.{Makes, declared_changes, act_effect}
+use Rattle.oz_machine.specs.Doings.{IsDone, is_quiet, started_by}
 use Rattle.oz_semantics.specs.Settling.{Turned, is_among, mover_in, queue_after, runnable_in, runnable}
-use Rattle.oz_semantics.specs.Steps.{went_on, without_top}
+use Rattle.oz_semantics.specs.Steps.{went_on, without_top, stepped}
 use Rattle.oz_semantics.specs.declared.configuration.Frame.{Frame}
 use Rattle.oz_semantics.specs.declared.configuration.Thread.{Thread}
 use Rattle.oz_semantics.specs.declared.configuration.Layer.{Layer}
 use Rattle.oz_semantics.specs.declared.configuration.Configuration.{Configuration}
-use Rattle.oz_semantics.specs.declared.outcome.Stepped.TheVariants.{Moved}
+use Rattle.oz_semantics.specs.declared.outcome.Stepped.{Stepped}
+use Rattle.oz_semantics.specs.declared.outcome.Stepped.TheVariants.{Moved, TopEnded, Quiescent}
+use Rattle.oz_language.specs.declared.kernel.Kernel.{Kernel}
+use Rattle.oz_semantics.specs.Schedule.{turn_of, turn}
+use Rattle.settle_laws.proofs.TurnLaws.{cost_law}
+use Rattle.turn_laws.proofs.KeptLaws.{kept_turn}
+use Rattle.oz_machine.specs.Turns.{cost_of, HasNotEnded, IsTurn}
 use Rattle.oz_base.specs.ListLaws.{list_eq-equivalence}
 use Rattle.oz_laws.proofs.SameLaws.{ident_eq-refl}
 use Rattle.view_laws.specs.Queues.{AreNew}
@@ -57,16 +65,38 @@ mover_joins : (statements : List Statement) (layers : List Layer) (id : Ident) �
     → mover_in (Some id) (runnable statements layers) ≡ able_in statements layers id
 mover_joins statements layers id good opened = ap (λ (b : Bool). if b then id ∷ [] else []) (able_alone statements layers id good opened)
 
+-- a thread without statements can do nothing
+pub empty_steps : (s : Sight) (frames : List Frame) → None ≡ first frames → false ≡ can_step (answer_ready (stack_answer s frames))
+empty_steps s [] e = refl
+empty_steps s (frame ∷ frames) e = absurd (cc)
+
+-- nor can one of a space that is not there
+pub nowhere_steps : (statements : List Statement) (layers : List Layer) (id : Ident) → layer_at layers id.space ≡ None → false ≡ top_steps statements layers id
+nowhere_steps statements layers id e =
+    sym (ap (λ (o : Option Layer). can_step (answer_ready (stack_answer (sight statements layers id.space) (frames_in (thread_at (unwrap_or o (new_layer id.space)).threads id.number))))) e)
+
 -- The layer that changed
 
-edited_at : (space : List ℕ) (after before : Layer) (layers : List Layer) → layer_at layers space ≡ Some before → is_of space after ≡ true → layer_at (in_layer space (λ l. after) layers) space ≡ Some after
-edited_at space after before [] e same = absurd (cc)
-edited_at space after before (l ∷ ls) e same = by (is_of space l) refl e
+pub edited_at : (space : List ℕ) (edit : Layer → Layer) (before : Layer) (layers : List Layer) → layer_at layers space ≡ Some before → is_of space (edit before) ≡ true
+    → layer_at (in_layer space edit layers) space ≡ Some (edit before)
+edited_at space edit before [] e same = absurd (cc)
+edited_at space edit before (l ∷ ls) e same = by (is_of space l) refl e (λ rest. edited_at space edit before ls rest same)
   where
     by : (b : Bool) → is_of space l ≡ b → cond b (Some l) (find (is_of space) ls) ≡ Some before
-        → find (is_of space) (cond b (after ∷ ls) (l ∷ in_layer space (λ k. after) ls)) ≡ Some after
-    by true t rest = ap (λ (b : Bool). cond b (Some after) (find (is_of space) ls)) same
-    by false t rest = ap (λ (b : Bool). cond b (Some l) (find (is_of space) (in_layer space (λ k. after) ls))) t ∙ edited_at space after before ls rest same
+        → (find (is_of space) ls ≡ Some before → find (is_of space) (in_layer space edit ls) ≡ Some (edit before))
+        → find (is_of space) (cond b (edit l ∷ ls) (l ∷ in_layer space edit ls)) ≡ Some (edit before)
+    by true t rest more =
+        let is : l ≡ before = cc in
+        rw is (ap (λ (b : Bool). cond b (Some (edit before)) (find (is_of space) ls)) same)
+    by false t rest more = ap (λ (b : Bool). cond b (Some l) (find (is_of space) (in_layer space edit ls))) t ∙ more rest
+
+-- what a layer gives out next does not depend on the stacks of its threads
+pub popped_next : (id : Ident) (layers : List Layer) → layer_at layers id.space ≡ Some (layer_of layers id.space)
+    → (layer_of (without_top id layers) id.space).next ≡ (layer_of layers id.space).next
+popped_next id layers at =
+    let pops : Layer → Layer = with_frames id.number (λ (frames : List Frame). drop 1 frames) in
+    ap (λ (o : Option Layer). (unwrap_or o (new_layer id.space)).next)
+    (edited_at id.space pops (layer_of layers id.space) layers at (subst (λ s. list_eq s id.space ≡ true) (sym (layer_of_name layers id.space)) (list_eq-equivalence.refl id.space)))
 
 -- it is as open as before
 made_open : (id : Ident) (layers result : List Layer) (before : Layer) (news : List Thread) (made : MadeOf id layers result before news) → layer_at layers id.space ≡ Some before → is_of id.space before ≡ true
@@ -74,7 +104,7 @@ made_open : (id : Ident) (layers result : List Layer) (before : Layer) (news : L
 made_open id layers result before news made at same opened =
     let after = made.after in
     let own : is_of id.space after ≡ true = ap (λ s. list_eq s id.space) made.steps.space ∙ same in
-    let found : layer_at result id.space ≡ Some after = ap (λ ls. layer_at ls id.space) made.left ∙ edited_at id.space after before layers at own in
+    let found : layer_at result id.space ≡ Some after = ap (λ ls. layer_at ls id.space) made.left ∙ edited_at id.space (λ l. after) before layers at own in
     ap (λ (o : Option Layer). is_open (unwrap_or o (new_layer id.space)).status) found ∙ ap is_open made.steps.status ∙ opened
 
 -- New threads
@@ -101,14 +131,14 @@ none_open true = refl
 none_open false = refl
 
 -- the threads of these names
-none_named : {space : List ℕ} (ts : List Thread) → names_in space ts ≡ [] → ts ≡ []
-none_named [] e = refl
-none_named (t ∷ ts) e = absurd (cc)
+none_named : (space : List ℕ) (ts : List Thread) → names_in space ts ≡ [] → ts ≡ []
+none_named space [] e = refl
+none_named space (t ∷ ts) e = absurd (cc)
 
-one_named : {space : List ℕ} (ts : List Thread) (n : Ident) → names_in space ts ≡ n ∷ [] → (t : Thread) × (ts ≡ t ∷ []) × (named space t.number ≡ n)
-one_named [] n e = absurd (cc)
-one_named {space} (t ∷ []) n e = (t, refl, (cc))
-one_named (t ∷ u ∷ ts) n e = absurd (cc)
+one_named : (space : List ℕ) (ts : List Thread) (n : Ident) → names_in space ts ≡ n ∷ [] → (t : Thread) × (ts ≡ t ∷ []) × (named space t.number ≡ n)
+one_named space [] n e = absurd (cc)
+one_named space (t ∷ []) n e = (t, refl, (cc))
+one_named space (t ∷ u ∷ ts) n e = absurd (cc)
 
 -- the name, the status and the threads of a layer decide which of its threads can step
 same_runnable : (statements : List Statement) (layers : List Layer) (a b : Layer) → a.space ≡ b.space → a.status ≡ b.status → a.threads ≡ b.threads → runnable_in statements layers a ≡ runnable_in statements layers b
@@ -131,16 +161,16 @@ not_mover false id n e = refl
 
 module _ (statements : List Statement) (id : Ident) (layers result : List Layer) (queue : List Ident) (shown : List (List ℕ)) (changes : List Change)
     (head : IsHead statements id layers queue shown) (left : result ≡ in_layer id.space without_terminated (changed_all id changes (without_top id layers))) where
-  before : Layer
+  abbrev before : Layer
   before = layer_of layers id.space
 
-  c : Configuration
+  abbrev c : Configuration
   c = record { layers = layers; queue = queue; shown = shown }
 
   there : IsThere statements layers id
   there = kept_head statements id queue c head
 
-  news : List Thread
+  abbrev news : List Thread
   news = news_of before changes
 
   made : MadeOf id layers result before news
@@ -187,15 +217,15 @@ module _ (statements : List Statement) (id : Ident) (layers result : List Layer)
       (step_new statements changes layers id.space (id ∷ queue) before head.tree.ordered there.layer (head_numbered statements id queue c head) head.exact t (subst (λ ts. Contains ts t) (sym is) (0, omega arith, refl))) in
       let apart = or_false (ident_eq n id) (is_among queue n) new in
       let counted : is_among ids n ≡ is_among able_news n
-      = sym (queue_exact ids (Some id) queue n) ∙ ap (λ q. is_among q n) queue_is ∙ among_append queue (mover_in (Some id) ids ++ able_news) n
-      ∙ ap (λ b. b || is_among (mover_in (Some id) ids ++ able_news) n) apart.1 ∙ among_append (mover_in (Some id) ids) able_news n
-      ∙ ap (λ b. b || is_among able_news n) (not_mover (is_among ids id) id n apart.0) in
+      = sym (queue_exact ids (Some id) queue n) ∙ ap (λ q. is_among q n) queue_is ∙ among_append (queue ++ mover_in (Some id) ids) able_news n
+      ∙ ap (λ b. b || is_among able_news n)
+      (among_append queue (mover_in (Some id) ids) n ∙ ap (λ b. b || is_among (mover_in (Some id) ids) n) apart.1 ∙ not_mover (is_among ids id) id n apart.0) in
       let as_open : is_open (layer_of result n.space).status ≡ true = subst (λ s. is_open (layer_of result s).status ≡ true) (ap (λ (i : Ident). i.space) e) opened in
       alone ∙ ap (λ (b : Bool). if b then n ∷ [] else []) (sym counted ∙ able_alone statements result n good as_open)
 
   news_join : (started : Option Ident) → names_in id.space news ≡ option_to_list started → able_news ≡ able_of statements result started
-  news_join None e = ap (λ ts. runnable_in statements result (record before { threads = ts })) (none_named news e) ∙ none_open (is_open before.status)
-  news_join (Some n) e = let one = one_named news n e in one_joins n one.0 one.1 one.2
+  news_join None e = ap (λ ts. runnable_in statements result (record before { threads = ts })) (none_named id.space news e) ∙ none_open (is_open before.status)
+  news_join (Some n) e = let one = one_named id.space news n e in one_joins n one.0 one.1 one.2
 
 -- a step that made changes
 pub quiet_turn : (statements : List Statement) (id : Ident) (layers old new : List Layer) (queue after : List Ident) (shown : List (List ℕ)) (changes : List Change) (started : Option Ident) (cost : ℕ)
@@ -209,7 +239,7 @@ quiet_turn statements id layers old new queue after shown changes started cost h
     = ap (λ xs. queue ++ xs ++ runnable_in statements new (record (layer_of layers id.space) { threads = news_of (layer_of layers id.space) changes }))
     (mover_joins statements new id (good statements id layers new queue shown changes head result) (opened statements id layers new queue shown changes head result))
     ∙ ap (λ xs. queue ++ able_in statements new id ++ xs) (news_join statements id layers new queue shown changes head result started names)
-    ∙ sym (append_assoc queue (able_in statements new id) (able_of statements new started)) ∙ sym joined in
+    ∙ sym joined in
     ap (λ ls. went_on statements id cost ls (record c { layers = ls })) is
     ∙ kept_changes statements c id queue changes cost head new result
     ∙ ap (λ q. (Moved cost, record c { layers = new; queue = q })) same
@@ -231,3 +261,40 @@ unwound_turn statements id layers old new queue after shown frames cost head is 
     ap (λ ls. went_on statements id cost ls (record c { layers = ls })) is
     ∙ kept_stack statements c id queue frames cost head new result
     ∙ ap (λ q. (Moved cost, record c { layers = new; queue = q })) same
+
+-- Quiet acts
+
+-- the changes that a quiet act makes, and the thread that it starts
+pub record MakesQuietly (id : Ident) (l : Layer) (act : Act) (old new : List Layer) : Type 0 where
+  pub changes : List Change
+  pub effect : act_effect l act ≡ Makes changes
+  pub made : new ≡ changed_all id changes old
+  pub started : names_in id.space (news_of l changes) ≡ started_by id.space l act
+
+pub quiet_done : (id : Ident) (l : Layer) (act : Act) (old new : List Layer) → is_quiet act ≡ true → IsDone id (act_effect l act) old new true → MakesQuietly id l act old new
+quiet_done id l Passes old new e h = record { changes = []; effect = refl; made = h.0; started = refl }
+quiet_done id l (GoesOn frames) old new e h = record { changes = Pushes frames ∷ []; effect = refl; made = h.0; started = refl }
+quiet_done id l (Declares environment names body) old new e h = record { changes = declared_changes l environment names body; effect = refl; made = h.0; started = refl }
+quiet_done id l (Starts frames) old new e h = record { changes = Spawns frames ∷ []; effect = refl; made = h.0; started = refl }
+quiet_done id l (GivesValue x v) old new e h = absurd (false≢true e)
+quiet_done id l (GivesTerm x t) old new e h = absurd (false≢true e)
+quiet_done id l (GivesVariable x y) old new e h = absurd (false≢true e)
+quiet_done id l (MakesProcedure x parameters body environment) old new e h = absurd (false≢true e)
+quiet_done id l (Shows x) old new e h = absurd (false≢true e)
+
+-- What is kept from turn to turn
+
+quiet_stays : (k : Kernel) (c : Configuration) (queue : List Ident) (d : Configuration) → ◌≡◌ {A = Turned} (turn_of k c queue) (Quiescent, d) → d ≡ c
+quiet_stays k c [] d e = sym (ap (λ (t : Turned). t.1) e)
+quiet_stays k c (id ∷ queue) d e =
+    let dear : 1 ≤ cost_of (stepped k id (record c { queue = queue })).0 = cost_law k id (record c { queue = queue }) in
+    absurd (no_cost (subst (λ (t : Turned). 1 ≤ cost_of t.0) e dear))
+  where
+    no_cost : 1 ≤ 0 → ⊥
+    no_cost h = omega (arith, h)
+
+pub kept_turned : (k : Kernel) (c d : Configuration) (fuel : ℕ) (o : Option Stepped) → IsKept k.statements c → IsTurn (turn k c) fuel c d o → IfSome o HasNotEnded → IsKept k.statements d
+kept_turned k c d fuel None kept t h = subst (IsKept k.statements) (sym t.1) kept
+kept_turned k c d fuel (Some (Moved cost)) kept t h = kept_turn k c cost d kept t
+kept_turned k c d fuel (Some (TopEnded x cost)) kept t h = absurd h
+kept_turned k c d fuel (Some Quiescent) kept t h = subst (IsKept k.statements) (sym (quiet_stays k c c.queue d t)) kept

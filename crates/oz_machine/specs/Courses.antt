@@ -1,5 +1,5 @@
 -- What contracts see of a machine.
-use Rattle.std.specs.Prelude.{◌≡◌, true, List}
+use Rattle.std.specs.Prelude.{◌≡◌, Bool, true, List}
 use Rattle.oz_language.specs.declared.kernel.Kernel.{Kernel}
 use Rattle.oz_semantics.specs.declared.configuration.Configuration.{Configuration}
 use Rattle.oz_language.specs.declared.kernel.Statement.{Statement}
@@ -10,9 +10,9 @@ use Rattle.oz_machine.specs.declared.course.Course.{Course}
 abbrev pub config_of : Course → Configuration
 config_of c = record { layers = c.levels; queue = c.queue; shown = c.shown }
 
--- where it says so, all holds that holds from turn to turn
-abbrev pub Keeps : List Statement → Course → Type 0
-Keeps statements c = c.kept ≡ true → IsKept statements (config_of c)
+-- where it is known, all holds that holds from turn to turn
+abbrev pub Keeps : List Statement → Bool → Course → Type 0
+Keeps statements kept c = kept ≡ true → IsKept statements (config_of c)
 
 -- a machine is a program and a configuration
 pub record Loaded : Type 0 where

@@ -11,8 +11,6 @@ pub struct Course {
     pub levels: Levels,
     pub queue: Queue,
     pub shown: SharedList<Sequence<u8>>,
-    /// Whether all is known to hold that holds from turn to turn. It is not once the top has ended, and after a refusal.
-    pub kept: bool,
 }
 
 impl Copies for Course {
@@ -21,7 +19,6 @@ impl Copies for Course {
             levels: self.levels.copied(alloc)?,
             queue: self.queue.copied(alloc)?,
             shown: self.shown.copied(alloc)?,
-            kept: self.kept,
         })
     }
 }

@@ -21,12 +21,15 @@ use oz_semantics::{State, Stepped};
 use shared_list::SharedList;
 use std::alloc::{AllocError, Global};
 use std::marker::Model;
+use std::mem;
 
 /// A loaded program and what it is in the course of its run. Contracts see the kernel and the configuration.
 #[derive(Drop)]
 pub struct Machine {
     kernel: Shared<Kernel>,
     course: Course,
+    /// Whether all is known to hold that holds from turn to turn. It is not once the top has ended, and after a refusal.
+    kept: bool,
 }
 
 impl Model for Machine {
@@ -40,7 +43,7 @@ impl Model for Machine {
 
     ghost view = { λ m. record { kernel = m.kernel; config = config_of m.course } };
 
-    ghost invariant = { λ m. Keeps m.kernel.statements m.course };
+    ghost invariant = { λ m. Keeps m.kernel.statements m.kept m.course };
 }
 
 impl Machine {
@@ -53,6 +56,7 @@ impl Machine {
         Ok(Machine {
             kernel: Shared::new(alloc, kernel)?,
             course,
+            kept: true,
         })
     }
 
@@ -63,6 +67,7 @@ impl Machine {
         Ok(Machine {
             kernel: self.kernel.copied(alloc)?,
             course: self.course.copied(alloc)?,
+            kept: self.kept,
         })
     }
 
@@ -72,8 +77,12 @@ impl Machine {
         ensures cost { IfOk result (λ turned. IfSome turned (CostsWithin fuel)) }
         ensures kernel { OnOk result (self.new.kernel ≡ self.old.kernel) }
     {
-        let Machine { kernel, course } = self;
-        step(alloc, kernel.get(), course, fuel)
+        let Machine {
+            kernel,
+            course,
+            kept,
+        } = self;
+        step(alloc, kernel.get(), course, kept, fuel)
     }
 
     /// Turns while something of the space or below it can step, for no more than the fuel. A text that is shown costs a step for
@@ -82,8 +91,12 @@ impl Machine {
         ensures run { IfOk result (IsRun self.new space.now fuel (run self.old.kernel space.now self.old.config fuel)) }
         ensures kernel { OnOk result (self.new.kernel ≡ self.old.kernel) }
     {
-        let Machine { kernel, course } = self;
-        run(alloc, kernel.get(), course, space, fuel)
+        let Machine {
+            kernel,
+            course,
+            kept,
+        } = self;
+        run(alloc, kernel.get(), course, kept, space, fuel)
     }
 
     /// The texts that were shown, in their order.
@@ -127,9 +140,17 @@ impl Machine {
         ensures name { IfOk result (λ space. space ≡ search_space self.old.config) }
         ensures kernel { OnOk result (self.new.kernel ≡ self.old.kernel) }
     {
-        let Machine { kernel, course } = self;
+        let Machine {
+            kernel,
+            course,
+            kept,
+        } = self;
         let statements = kernel.get().statements.as_slice();
-        searching::root(alloc, statements, procedure, course)
+        // Until the edit is made.
+        let was = mem::replace(kept, false);
+        let space = searching::root(alloc, statements, procedure, course)?;
+        *kept = was;
+        Ok(space)
     }
 
     /// Commits a space that offers alternatives to one of them, from 1.
@@ -137,9 +158,17 @@ impl Machine {
         ensures commit { OnOk result (self.new.config ≡ chosen_in self.old.kernel.statements space.now index self.old.config) }
         ensures kernel { OnOk result (self.new.kernel ≡ self.old.kernel) }
     {
-        let Machine { kernel, course } = self;
+        let Machine {
+            kernel,
+            course,
+            kept,
+        } = self;
         let statements = kernel.get().statements.as_slice();
-        searching::commit(alloc, statements, space, index, course)
+        // Until the edit is made.
+        let was = mem::replace(kept, false);
+        searching::commit(alloc, statements, space, index, course)?;
+        *kept = was;
+        Ok(())
     }
 
     /// What is shown of a space in this state. None exactly where that costs more than the fuel.

@@ -8,7 +8,7 @@ ghost use Rattle.oz_semantics.specs.Configurations.{spawning, frames_of};
 ghost use Rattle.oz_semantics.specs.Runs.{opening_environment, builtin_tells, top_layer, opening};
 ghost use Rattle.oz_semantics.specs.declared.value.Tell;
 ghost use Rattle.oz_semantics.specs.declared.value.Value;
-ghost use Rattle.oz_machine.specs.Courses.{config_of, Keeps};
+ghost use Rattle.oz_machine.specs.Courses.{config_of};
 
 use crate::course::Course;
 use crate::settling::requeue;
@@ -111,16 +111,13 @@ fn opening_levels(alloc: Global, kernel: &Kernel) -> Result<Levels, AllocError>
 
 /// The opening configuration.
 pub fn opening(alloc: Global, kernel: &Kernel) -> Result<Course, AllocError>
-    ensures opening { IfOk result (λ course. config_of course ≡ opening kernel.now) }
-    ensures kept { IfOk result (Keeps kernel.now.statements) }
+    ensures { IfOk result (λ course. config_of course ≡ opening kernel.now) }
 {
     let mut course = Course {
         levels: opening_levels(alloc, kernel)?,
         queue: Queue::new(alloc),
         shown: SharedList::new(),
-        kept: false,
     };
     requeue(alloc, kernel.statements.as_slice(), None, &mut course)?;
-    course.kept = true;
     Ok(course)
 }

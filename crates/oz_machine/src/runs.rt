@@ -47,11 +47,12 @@ fn goes_on(
     alloc: Global,
     statements: &[Statement],
     course: &Course,
+    kept: bool,
     space: &SpaceName,
 ) -> Result<bool, AllocError>
-    ensures { Keeps statements.now course.now → IfOk result (λ goes. goes ≡ goes_on statements.now course.now.levels space.now) }
+    ensures { Keeps statements.now kept course.now → IfOk result (λ goes. goes ≡ goes_on statements.now course.now.levels space.now) }
 {
-    if course.kept {
+    if kept {
         return Ok(course.queue.any_below(space));
     }
     stability::goes_on(alloc, statements, &course.levels, space)
@@ -62,17 +63,18 @@ pub fn run(
     alloc: Global,
     kernel: &Kernel,
     course: &mut Course,
+    kept: &mut bool,
     space: &SpaceName,
     fuel: u64,
 ) -> Result<Ran, AllocError>
-    requires { Keeps kernel.now.statements course.old }
+    requires { Keeps kernel.now.statements kept.old course.old }
     ensures run { IfOk result (IsRun (record { kernel = kernel.now; config = config_of course.new }) space.now fuel (run kernel.now space.now (config_of course.old) fuel)) }
-    ensures kept { Keeps kernel.now.statements course.new }
+    ensures kept { Keeps kernel.now.statements kept.new course.new }
 {
     let statements = kernel.statements.as_slice();
     let mut left = fuel;
-    'turns: while goes_on(alloc, statements, course, space)? {
-        let Some(stepped) = step(alloc, kernel, course, left)? else {
+    'turns: while goes_on(alloc, statements, course, *kept, space)? {
+        let Some(stepped) = step(alloc, kernel, course, kept, left)? else {
             return Ok(Ran::OutOfFuel);
         };
         match stepped {

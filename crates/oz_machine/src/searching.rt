@@ -2,7 +2,7 @@
 ghost use Rattle.std.specs.Prelude.{◌≡◌, IfOk, OnOk};
 ghost use Rattle.oz_semantics.specs.Edits.{committed};
 ghost use Rattle.oz_semantics.specs.Search.{followed, with_root, search_space, chosen_in};
-ghost use Rattle.oz_machine.specs.Courses.{config_of, Keeps};
+ghost use Rattle.oz_machine.specs.Courses.{config_of};
 
 use crate::course::Course;
 use crate::settling::requeue;
@@ -11,7 +11,6 @@ use oz_language::Statement;
 use space_core::Levels;
 use stability::{Choice, chosen};
 use std::alloc::{AllocError, Global};
-use std::mem;
 
 /// What follows an edit: the queue.
 fn follow_edit(
@@ -34,17 +33,13 @@ pub fn root(
 ) -> Result<SpaceName, AllocError>
     ensures root { OnOk result (config_of course.new ≡ with_root statements.now procedure (config_of course.old)) }
     ensures name { IfOk result (λ space. space ≡ search_space (config_of course.old)) }
-    ensures kept { Keeps statements.now course.old → Keeps statements.now course.new }
 {
     let top = SpaceName::top();
     if course.levels.place(&top).is_none() {
         return Err(AllocError);
     }
-    // Until the queue follows.
-    let kept = mem::replace(&mut course.kept, false);
     let space = course.levels.create(alloc, &top, procedure)?;
     follow_edit(alloc, statements, course)?;
-    course.kept = kept;
     Ok(space)
 }
 
@@ -72,13 +67,8 @@ pub fn commit(
     index: u64,
     course: &mut Course,
 ) -> Result<(), AllocError>
-    ensures commit { OnOk result (config_of course.new ≡ chosen_in statements.now space.now index (config_of course.old)) }
-    ensures kept { Keeps statements.now course.old → Keeps statements.now course.new }
+    ensures { OnOk result (config_of course.new ≡ chosen_in statements.now space.now index (config_of course.old)) }
 {
-    // Until the queue follows.
-    let kept = mem::replace(&mut course.kept, false);
     commit_in(alloc, statements, space, index, &mut course.levels)?;
-    follow_edit(alloc, statements, course)?;
-    course.kept = kept;
-    Ok(())
+    follow_edit(alloc, statements, course)
 }

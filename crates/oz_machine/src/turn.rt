@@ -1,5 +1,5 @@
 //! One turn of the machine: the head of the queue makes one step.
-ghost use Rattle.std.specs.Prelude.{◌≡◌, ◌≤◌, ◌<◌, ◌+◌, ◌∷◌, [], List, true, is_some, length, position, IfOk, IfSome, OnOk, Some, None};
+ghost use Rattle.std.specs.Prelude.{◌≡◌, ◌≤◌, ◌<◌, ◌+◌, ◌&&◌, ◌∷◌, [], List, true, is_some, length, position, IfOk, IfSome, OnOk, Some, None};
 ghost use Rattle.oz_semantics.specs.Configurations.{is_of, layer_at, stack_of};
 ghost use Rattle.oz_semantics.specs.Statements.{stack_answer};
 ghost use Rattle.oz_semantics.specs.Spaces.{sight};
@@ -8,6 +8,7 @@ ghost use Rattle.oz_semantics.specs.Steps.{without_top, after_answer, shown_by, 
 ghost use Rattle.oz_semantics.specs.Schedule.{turn};
 ghost use Rattle.builtins.specs.Answers.{act_of, IsAnswer};
 ghost use Rattle.oz_machine.specs.Courses.{config_of, Keeps};
+ghost use Rattle.oz_machine.specs.Doings.{is_quiet};
 ghost use Rattle.oz_machine.specs.Quiet.{IsHead, IsPopped};
 ghost use Rattle.oz_machine.specs.Turns.{cost_of, CostsWithin, HasNotEnded, IsTurn};
 ghost use Rattle.oz_semantics.specs.declared.configuration.Layer.{Layer};
@@ -45,6 +46,13 @@ fn top_answer(
     }
 }
 
+/// Whether an act tells nothing, where this spares a look at the other threads.
+fn is_known_quiet(what: &Act, kept: bool) -> bool
+    ensures { result ≡ (kept && is_quiet (act_of what.now)) }
+{
+    kept && is_quiet(what)
+}
+
 /// The thread does what an act says that shows nothing. Its statement is off its stack already.
 fn make_act(
     alloc: Global,
@@ -60,7 +68,7 @@ fn make_act(
     ensures cost { IfOk result (λ stepped. cost_of stepped ≡ 1) }
 {
     let statements = kernel.statements.as_slice();
-    let quiet = kept && is_quiet(&what);
+    let quiet = is_known_quiet(&what, kept);
     let started = started(alloc, &course.levels, id, &what)?;
     if !act(alloc, &mut course.levels, id, what)? {
         return raise_kind(alloc, statements, id, RaiseKind::FailureTell, course);
@@ -252,33 +260,52 @@ fn step_head(
     }
 }
 
-/// Whether the machine goes on after a turn as it went before: the top has not ended.
-fn goes_on(turned: &Option<Stepped>) -> bool
-    ensures { result ≡ true → IfSome turned.now HasNotEnded }
+/// The head of the queue makes a step.
+fn take_turn(
+    alloc: Global,
+    kernel: &Kernel,
+    kept: bool,
+    course: &mut Course,
+    fuel: u64,
+) -> Result<Option<Stepped>, AllocError>
+    requires { Keeps kernel.now.statements kept course.old }
+    ensures turn { IfOk result (IsTurn (turn kernel.now (config_of course.old)) fuel (config_of course.old) (config_of course.new)) }
+    ensures cost { IfOk result (λ turned. IfSome turned (CostsWithin fuel)) }
 {
-    match turned {
-        Some(Stepped::TopEnded { .. }) => false,
-        Some(Stepped::Moved { .. }) | Some(Stepped::Quiescent) | None => true,
+    match course.queue.next() {
+        None => Ok(Some(Stepped::Quiescent)),
+        Some(id) => step_head(alloc, kernel, id, kept, course, fuel),
     }
 }
 
-/// A turn. None exactly where it costs more than the fuel: it is not made, and nothing changes.
+/// Whether all that was known to hold before a turn is known after it: the top has not ended.
+fn is_still_kept(was: bool, turned: &Option<Stepped>) -> bool
+    ensures was { result ≡ true → was ≡ true }
+    ensures turned { result ≡ true → IfSome turned.now HasNotEnded }
+{
+    match turned {
+        Some(Stepped::TopEnded { .. }) => false,
+        Some(Stepped::Moved { .. }) | Some(Stepped::Quiescent) | None => was,
+    }
+}
+
+/// A turn. None exactly where it costs more than the fuel: it is not made, and nothing changes. What was known to hold from turn to
+/// turn is known after it too, unless the top has ended or memory was refused.
 pub fn step(
     alloc: Global,
     kernel: &Kernel,
     course: &mut Course,
+    kept: &mut bool,
     fuel: u64,
 ) -> Result<Option<Stepped>, AllocError>
+    requires { Keeps kernel.now.statements kept.old course.old }
     ensures turn { IfOk result (IsTurn (turn kernel.now (config_of course.old)) fuel (config_of course.old) (config_of course.new)) }
     ensures cost { IfOk result (λ turned. IfSome turned (CostsWithin fuel)) }
-    ensures kept { Keeps kernel.now.statements course.old → Keeps kernel.now.statements course.new }
+    ensures kept { Keeps kernel.now.statements kept.new course.new }
 {
     // Until the turn is made.
-    let kept = mem::replace(&mut course.kept, false);
-    let turned = match course.queue.next() {
-        None => Some(Stepped::Quiescent),
-        Some(id) => step_head(alloc, kernel, id, kept, course, fuel)?,
-    };
-    course.kept = kept && goes_on(&turned);
+    let was = mem::replace(kept, false);
+    let turned = take_turn(alloc, kernel, was, course, fuel)?;
+    *kept = is_still_kept(was, &turned);
     Ok(turned)
 }

@@ -1,22 +1,22 @@
-use Rattle.std.proofs.Common.{◌≡◌, ◌∙◌, ◌-◌, List, true, false, sym, ap, refl, arith}
+use Rattle.std.proofs.Common.{◌≡◌, ◌∙◌, ◌-◌, List, true, false, sym, ap, subst, refl, arith}
 use Rattle.oz_language.specs.declared.kernel.Statement.{Statement}
 use Rattle.oz_semantics.specs.Spaces.{goes_on}
 use Rattle.oz_semantics.specs.Schedule.{turn}
 use Rattle.oz_semantics.specs.Runs.{TopRaised}
-use Rattle.oz_machine.specs.Courses.{config_of}
+use Rattle.oz_machine.specs.Courses.{config_of, Keeps}
 use Rattle.oz_machine.proofs.RunLaws.{was_made, not_made, made_within, moved_within, ended_within, ok_run, run_still, run_out, run_quiet, run_stopped, run_went}
 use Rattle.oz_machine.proofs.runs.run.Goals as goal
 
 pub turns-init : goal.turns-init
-turns-init c = record { within = omega arith; same = refl }
+turns-init c = record { within = omega arith; same = refl; kept = c.requires }
 
-pub returns-in_default : goal.returns-in_default
-returns-in_default c =
+pub returns-in_default-clause-run : goal.returns-in_default-clause-run
+returns-in_default-clause-run c =
     let k = c.args.kernel.now in
     let here = config_of c.turns.course in
     let there = config_of c.step.new.course in
     let goes : goes_on k.statements here.layers c.args.space.now ≡ true
-    = ap (λ (st : List Statement). goes_on st here.layers c.args.space.now) (sym c.as_slice-statements.ensures) ∙ sym c.in_ok-goes_on.ensures ∙ c.if-branch.true in
+    = ap (λ (st : List Statement). goes_on st here.layers c.args.space.now) (sym c.as_slice-statements.ensures) ∙ sym (c.in_ok-goes_on.ensures (subst (λ st. Keeps st c.turns.kept c.turns.course) (sym c.as_slice-statements.ensures) c.turns.invariant.kept)) ∙ c.if-branch.true in
     let over = not_made (turn k here) c.turns.left here there c.in_ok-stepped.field-0 c.in_ok-stepped.ensures.turn c.in_default.not-Some in
     sym c.turns.invariant.same ∙ run_out k c.args.space.now c.turns.left here there goes over.0 over.1
 
@@ -32,25 +32,26 @@ turns-preserved c =
     let here = config_of c.turns.course in
     let there = config_of c.step.new.course in
     let goes : goes_on k.statements here.layers c.args.space.now ≡ true
-    = ap (λ (st : List Statement). goes_on st here.layers c.args.space.now) (sym c.as_slice-statements.ensures) ∙ sym c.in_ok-goes_on.ensures ∙ c.if-branch.true in
+    = ap (λ (st : List Statement). goes_on st here.layers c.args.space.now) (sym c.as_slice-statements.ensures) ∙ sym (c.in_ok-goes_on.ensures (subst (λ st. Keeps st c.turns.kept c.turns.course) (sym c.as_slice-statements.ensures) c.turns.invariant.kept)) ∙ c.if-branch.true in
     let turned = was_made (turn k here) c.turns.left here there c.in_ok-stepped.field-0 c.in-Some.stepped c.in_ok-stepped.ensures.turn c.in-Some.is in
     let made = made_within c.turns.left c.in_ok-stepped.field-0 c.in-Some.stepped c.in_ok-stepped.ensures.cost c.in-Some.is in
     let cost = moved_within c.turns.left c.in-Moved.cost c.in-Some.stepped made c.in-Moved.is in
     let held = c.turns.invariant.within in record {
       within = omega (arith, held);
+      kept = c.in_ok-stepped.ensures.kept;
       same = run_went k c.args.space.now c.turns.left here there c.in-Moved.cost goes (turned ∙ ap (λ s. (s, there)) c.in-Moved.is) cost.0 cost.1 ∙ c.turns.invariant.same;
     }
 
 pub ended-requires : goal.ended-requires
 ended-requires c = c.turns.invariant.within
 
-pub returns-in-Quiescent : goal.returns-in-Quiescent
-returns-in-Quiescent c =
+pub returns-in-Quiescent-clause-run : goal.returns-in-Quiescent-clause-run
+returns-in-Quiescent-clause-run c =
     let k = c.args.kernel.now in
     let here = config_of c.turns.course in
     let there = config_of c.step.new.course in
     let goes : goes_on k.statements here.layers c.args.space.now ≡ true
-    = ap (λ (st : List Statement). goes_on st here.layers c.args.space.now) (sym c.as_slice-statements.ensures) ∙ sym c.in_ok-goes_on.ensures ∙ c.if-branch.true in
+    = ap (λ (st : List Statement). goes_on st here.layers c.args.space.now) (sym c.as_slice-statements.ensures) ∙ sym (c.in_ok-goes_on.ensures (subst (λ st. Keeps st c.turns.kept c.turns.course) (sym c.as_slice-statements.ensures) c.turns.invariant.kept)) ∙ c.if-branch.true in
     let turned = was_made (turn k here) c.turns.left here there c.in_ok-stepped.field-0 c.in-Some.stepped c.in_ok-stepped.ensures.turn c.in-Some.is in
     let quiet = run_quiet k c.args.space.now c.turns.left here there goes (turned ∙ ap (λ s. (s, there)) c.in-Quiescent.is) in
     ok_run c.ended.result k there c.args.space.now c.args.fuel _ _ (sym c.turns.invariant.same ∙ quiet) c.ended.ensures
@@ -58,13 +59,13 @@ returns-in-Quiescent c =
 pub overflow_sub-steps-in-TopEnded : goal.overflow_sub-steps-in-TopEnded
 overflow_sub-steps-in-TopEnded c = let held = c.turns.invariant.within in omega (arith, held)
 
-pub returns-in-TopEnded : goal.returns-in-TopEnded
-returns-in-TopEnded c =
+pub returns-in-TopEnded-clause-run : goal.returns-in-TopEnded-clause-run
+returns-in-TopEnded-clause-run c =
     let k = c.args.kernel.now in
     let here = config_of c.turns.course in
     let there = config_of c.step.new.course in
     let goes : goes_on k.statements here.layers c.args.space.now ≡ true
-    = ap (λ (st : List Statement). goes_on st here.layers c.args.space.now) (sym c.as_slice-statements.ensures) ∙ sym c.in_ok-goes_on.ensures ∙ c.if-branch.true in
+    = ap (λ (st : List Statement). goes_on st here.layers c.args.space.now) (sym c.as_slice-statements.ensures) ∙ sym (c.in_ok-goes_on.ensures (subst (λ st. Keeps st c.turns.kept c.turns.course) (sym c.as_slice-statements.ensures) c.turns.invariant.kept)) ∙ c.if-branch.true in
     let turned = was_made (turn k here) c.turns.left here there c.in_ok-stepped.field-0 c.in-Some.stepped c.in_ok-stepped.ensures.turn c.in-Some.is in
     let made = made_within c.turns.left c.in_ok-stepped.field-0 c.in-Some.stepped c.in_ok-stepped.ensures.cost c.in-Some.is in
     let cost = ended_within c.turns.left c.in-TopEnded.cost c.in-TopEnded.exception c.in-Some.stepped made c.in-TopEnded.is in
@@ -79,10 +80,10 @@ returns-in-TopEnded c =
 pub ended-requires-2 : goal.ended-requires-2
 ended-requires-2 c = c.turns.invariant.within
 
-pub returns : goal.returns
-returns c =
+pub returns-clause-run : goal.returns-clause-run
+returns-clause-run c =
     let k = c.args.kernel.now in
     let here = config_of c.turns.course in
     let still : goes_on k.statements here.layers c.args.space.now ≡ false
-    = ap (λ (st : List Statement). goes_on st here.layers c.args.space.now) (sym c.as_slice-statements.ensures) ∙ sym c.in_ok-goes_on.ensures ∙ c.if-branch.false in
+    = ap (λ (st : List Statement). goes_on st here.layers c.args.space.now) (sym c.as_slice-statements.ensures) ∙ sym (c.in_ok-goes_on.ensures (subst (λ st. Keeps st c.turns.kept c.turns.course) (sym c.as_slice-statements.ensures) c.turns.invariant.kept)) ∙ c.if-branch.false in
     ok_run c.ended-2.result k here c.args.space.now c.args.fuel _ _ (sym c.turns.invariant.same ∙ run_still k c.args.space.now c.turns.left here still) c.ended-2.ensures

@@ -1,4 +1,4 @@
-use Rattle.std.proofs.Common.{◌∙◌, List, Some, drop, ap, sym}
+use Rattle.std.proofs.Common.{◌∙◌, List, Some, drop, refl, ap, sym, subst}
 use Rattle.std.specs.Prelude.{is_some}
 use Rattle.oz_semantics.specs.Configurations.{layer_at, with_frames}
 use Rattle.oz_semantics.specs.Answers as answers
@@ -10,6 +10,7 @@ use Rattle.builtins.specs.Answers.{act_of}
 use Rattle.settle_laws.proofs.EditLaws.{are_quiet, quiet_there}
 use Rattle.settle_laws.proofs.SettleLaws.{nothing_fails}
 use Rattle.oz_machine.specs.Courses.{config_of}
+use Rattle.oz_machine.specs.Quiet.{IsHead}
 use Rattle.oz_machine.proofs.DoingLaws.{ok_turn, acts_anywhere, raised_anywhere}
 use Rattle.oz_machine.proofs.turn.make_step.Goals as goal
 
@@ -18,14 +19,14 @@ make_act-requires c =
     let s = c.args.id.now.space in
     let pops = λ (frames : List Frame). drop 1 frames in
     ap (λ (ls : List Layer). is_some (layer_at ls s)) c.pop-frame.ensures.popped
-    ∙ quiet_there (with_frames c.args.id.now.number pops) c.args.course.now.levels s s (are_quiet.frames c.args.id.now.number pops) ∙ c.requires
+    ∙ quiet_there (with_frames c.args.id.now.number pops) c.args.course.now.levels s s (are_quiet.frames c.args.id.now.number pops) ∙ c.requires.there
 
 pub raise_kind-requires : goal.raise_kind-requires
 raise_kind-requires c =
     let s = c.args.id.now.space in
     let pops = λ (frames : List Frame). drop 1 frames in
     ap (λ (ls : List Layer). is_some (layer_at ls s)) c.pop-frame-in-RaisesKind.ensures.popped
-    ∙ quiet_there (with_frames c.args.id.now.number pops) c.args.course.now.levels s s (are_quiet.frames c.args.id.now.number pops) ∙ c.requires
+    ∙ quiet_there (with_frames c.args.id.now.number pops) c.args.course.now.levels s s (are_quiet.frames c.args.id.now.number pops) ∙ c.requires.there
 
 pub returns-in-Rests-clause-turn : goal.returns-in-Rests-clause-turn
 returns-in-Rests-clause-turn c = λ a h.
@@ -51,7 +52,7 @@ returns-in-Acts-clause-turn c = λ a h.
     ∙ acts_anywhere k id (without_top id now.layers) now.layers popped now.queue now.shown (act_of c.in-Acts.what)
     ∙ ap (λ (ls : List Layer). after_answer k id ls (record now { layers = popped }) act) (sym c.pop-frame.ensures.popped)
     )
-    c.make_act.ensures.turn
+    (c.make_act.ensures.turn now.layers (λ known. (c.pop-frame.ensures.popped, c.requires.kept known)))
 
 pub returns-in-RaisesTerm-clause-turn : goal.returns-in-RaisesTerm-clause-turn
 returns-in-RaisesTerm-clause-turn c = λ a h.
@@ -68,4 +69,7 @@ returns-in-RaisesTerm-clause-turn c = λ a h.
     ∙ raised_anywhere c.as_slice-statements.result.now id x (without_top id now.layers) now.layers popped now.queue now.shown
     ∙ ap (λ (ls : List Layer). raised c.as_slice-statements.result.now id x ls (record now { layers = popped })) (sym c.pop-frame-in-RaisesTerm.ensures.popped)
     )
-    (c.raise.ensures.turn popped (nothing_fails id.space popped c.consistent-in-RaisesTerm.ensures))
+    (
+    c.raise.ensures.turn popped now.layers (nothing_fails id.space popped c.consistent-in-RaisesTerm.ensures)
+    (λ known. (c.pop-frame-in-RaisesTerm.ensures.popped, subst (λ ss. IsHead ss id now.layers now.queue now.shown) (sym c.as_slice-statements.ensures) (c.requires.kept known))) (λ known. refl)
+    )

@@ -1,0 +1,8 @@
+use Rattle.std.proofs.Common.{◌∙◌, sym}
+use Rattle.oz_machine.proofs.QuietLaws.{nowhere_steps}
+use Rattle.oz_machine.proofs.PlaceLaws.{place_none}
+use Rattle.oz_machine.proofs.quiet.steps.Goals as goal
+
+pub returns-in_default : goal.returns-in_default
+returns-in_default c =
+    nowhere_steps c.args.statements.now c.args.levels.now c.args.id.now (place_none c.args.levels.now c.args.id.now.space c.in_default.ensures)
