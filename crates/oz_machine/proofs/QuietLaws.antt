@@ -1,7 +1,7 @@
 -- What follows a step that told nothing.
-use Rattle.std.proofs.Common.{Contains, arith, ◌≡◌, ◌≤◌, inl, inr, ℕ, Bool, true, false, ◌&&◌, ◌||◌, cond, if◌then◌else◌, List, [], ◌∷◌, ◌++◌, refl, sym, ap, subst, ◌∙◌, Option, Some, None, is_some, map, filter, drop, unwrap_or}
+use Rattle.std.proofs.Common.{Contains, arith, ◌≡◌, ◌≤◌, ℕ, Bool, true, false, ◌&&◌, ◌||◌, cond, if◌then◌else◌, List, [], ◌∷◌, ◌++◌, refl, sym, ap, subst, ◌∙◌, Option, Some, None, map, filter, drop, unwrap_or}
 use Rattle.std.specs.Prelude.{IfSome, option_to_list}
-use Rattle.std.specs.List.{find, list_any}
+use Rattle.std.specs.List.{find}
 use Rattle.std.proofs.lemmas.List.Folds.{list_any-append}
 use Rattle.std.proofs.lemmas.Bool.{false≢true}
 use Rattle.oz_base.specs.Lists.{first, list_eq, holds_of}
@@ -35,7 +35,7 @@ use Rattle.oz_base.specs.ListLaws.{list_eq-equivalence}
 use Rattle.oz_laws.proofs.SameLaws.{ident_eq-refl}
 use Rattle.view_laws.specs.Queues.{AreNew}
 use Rattle.oz_semantics.specs.declared.configuration.Status.{Status}
-use Rattle.view_laws.specs.Steps.{MadeOf, spawned_from}
+use Rattle.view_laws.specs.Steps.{MadeOf}
 use Rattle.view_laws.proofs.NumberLaws.{step_new}
 use Rattle.view_laws.proofs.QueueLaws.{queue_exact}
 use Rattle.view_laws.proofs.QuietLaws.{quiet_queue}

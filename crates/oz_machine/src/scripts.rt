@@ -3,45 +3,12 @@ ghost use Rattle.std.specs.Prelude.{◌≡◌, [], option_copied};
 ghost use Rattle.oz_base.specs.Lists.{holds_of};
 ghost use Rattle.oz_semantics.specs.Store.{value_of};
 ghost use Rattle.oz_semantics.specs.Configurations.{view};
-ghost use Rattle.oz_semantics.specs.Builtins.{arguments_of, operands_of};
 ghost use Rattle.oz_semantics.specs.Search.{is_script, script_variable};
 
+use builtins::arguments_of;
 use oz_base::{Ident, SpaceName};
-use oz_language::Operation;
-use oz_semantics::{Builtin, Value};
+use oz_semantics::Value;
 use space_core::Levels;
-
-/// How many arguments an operation takes, with its output.
-fn operands_of(operation: Operation) -> usize
-    ensures { result ≡ operands_of operation }
-{
-    match operation {
-        Operation::Bound | Operation::BoundEach => 2,
-        Operation::Same
-        | Operation::Differs
-        | Operation::Less
-        | Operation::AtMost
-        | Operation::Greater
-        | Operation::AtLeast
-        | Operation::Plus
-        | Operation::Minus
-        | Operation::Times
-        | Operation::Div
-        | Operation::Mod
-        | Operation::Select => 3,
-    }
-}
-
-/// How many arguments a built-in takes.
-fn arguments_of(builtin: Builtin) -> usize
-    ensures { result ≡ arguments_of builtin }
-{
-    match builtin {
-        Builtin::Operation(operation) => operands_of(operation),
-        Builtin::Label | Builtin::Width | Builtin::Arity => 2,
-        Builtin::Wait | Builtin::Show => 1,
-    }
-}
 
 fn is_script(value: Option<&Value>) -> bool
     ensures { result ≡ holds_of is_script (option_copied value.entry) }

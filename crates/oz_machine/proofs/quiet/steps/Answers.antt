@@ -1,4 +1,3 @@
-use Rattle.std.proofs.Common.{◌∙◌, sym}
 use Rattle.oz_machine.proofs.QuietLaws.{nowhere_steps}
 use Rattle.oz_machine.proofs.PlaceLaws.{place_none}
 use Rattle.oz_machine.proofs.quiet.steps.Goals as goal

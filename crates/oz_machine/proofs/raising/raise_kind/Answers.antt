@@ -1,4 +1,4 @@
-use Rattle.std.proofs.Common.{◌≡◌, ◌∙◌, [], ap, sym}
+use Rattle.std.proofs.Common.{◌∙◌, [], ap, sym}
 use Rattle.std.proofs.lemmas.Bool.{false≢true}
 use Rattle.oz_semantics.specs.Settling.{with_raised}
 use Rattle.oz_semantics.specs.Steps.{raised, raised_kind}
