@@ -1,6 +1,6 @@
 """Compares the definitions with ozref, and with a further command, on the worked rows and on random texts.
 
-  python3 check.py --crates DIR [--names oz|plain] [--stage N] [--rows] [--points] [--count N] [--seed N] [--kinds a,b] [--cmd "COMMAND"]
+  python3 check.py --crates DIR [--stage N] [--rows] [--points] [--count N] [--seed N] [--kinds a,b] [--cmd "COMMAND"]
                    [--budgets a,b] [--kernels] [--plain] [--unused] [--first] [--verbose]
 
 Kinds of texts, with the request that serves them: small and functional (4), threads and exceptions (5), objects (6), children,
@@ -63,7 +63,6 @@ def functional(r):
 def work():
     ap = argparse.ArgumentParser()
     ap.add_argument("--crates", required=True)
-    ap.add_argument("--names", default="oz")
     ap.add_argument("--stage", type=int, default=8)
     ap.add_argument("--rows", action="store_true")
     ap.add_argument("--points", action="store_true")
@@ -87,7 +86,7 @@ def work():
     import random_texts
     import rows
     import texts
-    d = run.Definitions(args.crates, args.plain, args.names)
+    d = run.Definitions(args.crates, args.plain)
     served = {"small": 4, "functional": 4, "threads": 5, "exceptions": 5, "objects": 6, "children": 7, "nested": 7, "states": 7,
               "general": 8, "spaces": 8, "fd": 8}
     kinds = {"threads": texts.threads, "exceptions": texts.exceptions, "objects": texts.objects, "children": texts.children,

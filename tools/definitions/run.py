@@ -1,6 +1,6 @@
 """Runs the definitions on a text:
 
-  python3 run.py --crates DIR run|all|kernel [--names oz|plain] [--budget N] [--plain] < TEXT
+  python3 run.py --crates DIR run|all|kernel [--budget N] [--plain] < TEXT
 
 The reply is what the definitions answer, the exit status theirs."""
 import argparse
@@ -62,12 +62,12 @@ class Counted:
 
 
 class Definitions:
-    """The converted definitions of the crates of a folder. `names` is what the crates of semantics and replies are called by:
-    `oz` for oz_semantics and oz_replies. Where one of them is not there, its modules are sought in the others."""
+    """The converted definitions of the crates of a folder. Where that of semantics or of replies is not there, its modules are
+    sought in the others."""
 
-    def __init__(self, crates, plain=False, names="oz"):
+    def __init__(self, crates, plain=False):
         counted = Counted()
-        semantics, replies = names + "_semantics", names + "_replies"
+        semantics, replies = "oz_semantics", "oz_replies"
         there = {c: os.path.join(crates, c) for c in sorted(os.listdir(crates)) if os.path.isdir(os.path.join(crates, c, "specs"))}
         self.order = [c for c in (replies, semantics, "oz_language") if c in there]
         natives = {semantics + "." + k: f for k, f in fast.STORE.items()}
@@ -129,13 +129,12 @@ def deep(f):
 def main():
     ap = argparse.ArgumentParser()
     ap.add_argument("--crates", required=True)
-    ap.add_argument("--names", default="oz")
     ap.add_argument("--plain", action="store_true")
     ap.add_argument("--budget", type=int, default=1000000)
     ap.add_argument("command", choices=("run", "all", "kernel"))
     args = ap.parse_args()
     text = sys.stdin.buffer.read()
-    got = deep(lambda: Definitions(args.crates, args.plain, args.names).reply(args.command, args.budget, text))
+    got = deep(lambda: Definitions(args.crates, args.plain).reply(args.command, args.budget, text))
     if got is None:
         sys.exit(70)
     sys.stdout.buffer.write(got[0])
