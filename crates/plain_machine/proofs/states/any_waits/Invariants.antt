@@ -1,8 +1,0 @@
-use Rattle.std.proofs.Common.{◌≡◌, take, false}
-use Rattle.std.specs.List.{list_any}
-use Rattle.plain_semantics.specs.Statements.{thread_ready, waits_of}
-use Rattle.plain_semantics.specs.Spaces.{is_held}
-use Rattle.plain_machine.proofs.states.any_waits.Given as goal
-
-abbrev pub invariant-loop-thread : goal.invariant-loop-thread
-invariant-loop-thread l = list_any (λ t. list_any (is_held l.seen l.held) (waits_of (thread_ready l.statements l.seen t))) (take l.thread-index l.threads) ≡ false

@@ -1,6 +1,0 @@
-//! What the program answers to words and a text: the definitions `Served` and `Replies`, and why a call ended.
-#![tactic(auto)]
-
-mod cause;
-
-pub use cause::Cause;

@@ -1,3 +1,0 @@
-pub mod Placed
-pub mod Printing
-pub mod Reversed

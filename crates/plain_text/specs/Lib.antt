@@ -1,4 +1,0 @@
-pub mod Operands
-pub mod Pending
-pub mod Placing
-pub mod TextWithin

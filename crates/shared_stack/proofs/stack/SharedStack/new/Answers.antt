@@ -1,5 +1,0 @@
-use Rattle.shared_stack.proofs.Stacks.{nothing_stacked}
-use Rattle.shared_stack.proofs.stack.SharedStack.new.Goals as goal
-
-pub returns : goal.returns
-returns g c = nothing_stacked _
