@@ -1,32 +1,40 @@
 -- Which answer a text has, and what a call that ends with it has read and written.
-use Rattle.std.proofs.Common.{◌≡◌, ◌≢◌, ◌⊎◌, inl, inr, ℕ, ◌+◌, ◌-◌, ◌<◌, ◌≤◌, Bool, true, false, cond, List, [], ◌++◌, Option, Some, None, length, drop, nat_le, codes, refl, sym, subst, ap, arith, ◌∙◌, append-nil, length-append}
+use Rattle.std.proofs.Common.{◌≡◌, ◌≢◌, ◌⊎◌, inl, inr, ℕ, ◌+◌, ◌-◌, ◌<◌, ◌≤◌, Bool, true, false, cond, List, [], ◌++◌, Option, Some, None, length, drop, nat_le, codes, refl, sym, subst, ap, arith, ◌∙◌, append-nil, length-append, lit≤}
+use Rattle.std.proofs.KnownBytes.{Consumes-nil}
 use Rattle.std.proofs.lemmas.List.{drop_all}
 use Rattle.std.proofs.Math.Seq.{drop-append_seam}
 use Rattle.std.specs.Io.KnownBytes.{Appends, Consumes, IsAtEnd}
-use Rattle.plain_semantics.specs.Texts.{Printed, raise_text}
-use Rattle.plain_semantics.specs.Runs.{Ran, Ended, TopRaised, Over, run, opening}
-use Rattle.plain_semantics.specs.Search.{Found, depth_first, has_script, script_variable, search_space, with_root}
+use Rattle.oz_search.specs.Trees.{Found}
+use Rattle.oz_search.specs.declared.leaf.Outcome.{Outcome}
+use Rattle.oz_semantics.specs.Configurations.{view}
+use Rattle.oz_semantics.specs.Texts.{Printed, term_text}
+use Rattle.oz_semantics.specs.Runs.{Ran, Ended, TopRaised, Over, run, opening}
+use Rattle.oz_semantics.specs.Search.{has_script, search_space, with_root, script_found}
 use Rattle.oz_language.specs.Tokens.{Whole}
 use Rattle.oz_language.specs.Refusals.{Program, Accepts, IsRefused}
-use Rattle.plain_replies.specs.Served.{IsServed, unserved_in}
+use Rattle.oz_replies.specs.Served.{IsServed, unserved_in}
 use Rattle.oz_language.specs.declared.token.Lexeme.{Lexeme}
 use Rattle.oz_lex.specs.Lexing.{OneReading}
 use Rattle.oz_language.specs.Translation.{kernel_of}
 use Rattle.oz_language.specs.Commands.{Spells, IsUsage}
-use Rattle.plain_replies.specs.Replies.{Answer, IsReply, IsTextReply, Searches, line, shown_lines, spent, text_limit, usage_reply, too_large_reply, refused_answer, unless_unserved, answer_of_tree, answer_of_raise, searched, answer_of_top, all_answer, run_answer}
+use Rattle.oz_replies.specs.Replies.{Answer, IsReply, IsTextReply, Searches, line, shown_lines, spent, text_limit, usage_reply, too_large_reply, refused_answer, unless_unserved, answer_of_tree, answer_of_raise, searched, answer_of_top, all_answer, run_answer}
 use Rattle.oz_language.specs.declared.command.Command.{Command}
 use Rattle.oz_language.specs.declared.command.Command.TheVariants as commands
 use Rattle.oz_language.specs.declared.kernel.Kernel.{Kernel}
 use Rattle.oz_language.specs.declared.fault.Fault.{Fault}
 use Rattle.oz_language.specs.declared.fault.RefusalKind.TheVariants as kinds
-use Rattle.plain_semantics.specs.declared.configuration.Configuration.{Configuration}
-use Rattle.plain_semantics.specs.declared.outcome.State.{State}
-use Rattle.plain_replies.specs.declared.cause.Cause.{Cause}
-use Rattle.plain_replies.specs.declared.cause.Cause.TheVariants as causes
-use Rattle.plain_machine.specs.Machines.{Loaded}
-use Rattle.plain_machine.specs.Answers.{IsRun}
-use Rattle.plain_machine.specs.declared.machine.Ran.TheVariants as ran
-use Rattle.oz_top.specs.Call.{Reading, Writing, answered, minded, answer_of, HasRead, ProgramGives, TextGives, ReadGives, AsText, IsCommand, Plans, IsDue, IsRead, Ends, IsExcused}
+use Rattle.oz_semantics.specs.declared.configuration.Configuration.{Configuration}
+use Rattle.oz_semantics.specs.declared.outcome.State.{State}
+use Rattle.oz_replies.specs.declared.cause.Cause.{Cause}
+use Rattle.oz_replies.specs.declared.cause.Cause.TheVariants as causes
+use Rattle.oz_machine.specs.Courses.{Loaded}
+use Rattle.oz_machine.specs.Answers.{IsRun, IsScript}
+use Rattle.machine_search.specs.Visits.{found_below}
+use Rattle.oz_base.specs.declared.names.Ident.{Ident}
+use Rattle.oz_top.specs.Searching.{leaves_of, answer_of_leaves}
+use Rattle.oz_top.proofs.Visiting.{script_answer}
+use Rattle.oz_machine.specs.declared.runs.Ran.TheVariants as ran
+use Rattle.oz_top.specs.Call.{Reading, Writing, answered, minded, answer_of, HasRead, ProgramGives, TextGives, ReadGives, AsText, IsCommand, Plans, IsDue, IsRead, IsBounded, Ends, IsExcused}
 
 -- a text gives the plan of the call
 pub plans_text : (words : List (List ℕ)) (old new : Reading) (text : List ℕ) (k : Command) (cause : Cause) (reply : List ℕ) → IsCommand words k → HasRead old new text → TextGives text k cause reply → Plans words old new cause reply
@@ -62,9 +70,9 @@ own_if : (b : Bool) (x y : Answer) → IsOwn x → IsOwn y → IsOwn (cond b x y
 own_if true x y h k = h
 own_if false x y h k = k
 
-own_tree : (shown : List ℕ) (budget : ℕ) (f : Found) → IsOwn (answer_of_tree shown budget f)
+own_tree : (shown : List ℕ) (budget : ℕ) (f : Found (List ℕ × Outcome)) → IsOwn (answer_of_tree shown budget f)
 own_tree shown budget None = tt
-own_tree shown budget (Some (leaves, left)) = tt
+own_tree shown budget (Some found) = tt
 
 own_raise : (shown : List ℕ) (budget left : ℕ) (printed : Printed) → IsOwn (answer_of_raise shown budget left printed)
 own_raise shown budget left printed =
@@ -72,19 +80,19 @@ own_raise shown budget left printed =
 
 own_searched : (k : Kernel) (budget : ℕ) (c : Configuration) (left : ℕ) → IsOwn (searched k budget c left)
 own_searched k budget c left =
-    own_if (has_script c) _ _ (own_tree (shown_lines c) budget (depth_first k (search_space c) (with_root k.statements script_variable c) left)) tt
+    own_if (has_script c) _ _ (own_tree (shown_lines c) budget (script_found k c left)) tt
 
-own_top : (rest : Configuration → ℕ → Answer) (budget : ℕ) → ((c : Configuration) (left : ℕ) → IsOwn (rest c left)) → (r : Ran) → IsOwn (answer_of_top rest budget r)
-own_top rest budget h (Over c) = tt
-own_top rest budget h (TopRaised c left raise) = own_raise (shown_lines c) budget left (raise_text raise)
-own_top rest budget h (Ended c left) = h c left
+own_top : (k : Kernel) (rest : Configuration → ℕ → Answer) (budget : ℕ) → ((c : Configuration) (left : ℕ) → IsOwn (rest c left)) → (r : Ran) → IsOwn (answer_of_top k rest budget r)
+own_top k rest budget h (Over c) = tt
+own_top k rest budget h (TopRaised c left exception) = own_raise (shown_lines c) budget left (term_text k.words (view c.layers []) exception)
+own_top k rest budget h (Ended c left) = h c left
 
 own_kernel_answer : (c : Command) (p : Program) → IsOwn (answered c p)
 unfolding all_answer run_answer
 own_kernel_answer (commands.All workers budget) p =
-    let k = kernel_of p in own_top (searched k budget) budget (own_searched k budget) (run k [] (opening k) budget)
+    let k = kernel_of p in own_top k (searched k budget) budget (own_searched k budget) (run k [] (opening k) budget)
 own_kernel_answer (commands.Run budget) p =
-    let k = kernel_of p in own_top (λ c left. (causes.Done, shown_lines c)) budget (λ c left. tt) (run k [] (opening k) budget)
+    let k = kernel_of p in own_top k (λ c left. (causes.Done, shown_lines c)) budget (λ c left. tt) (run k [] (opening k) budget)
 own_kernel_answer commands.Kernel p = tt
 
 own_unless : (at : Option ℕ) (x : Answer) → IsOwn x → IsOwn (unless_unserved at x)
@@ -219,6 +227,10 @@ part_read (Some xs) (Some ys) bytes text b l c =
       ap Some (sym (drop-append_seam text ys) ∙ ap (λ n. drop n (text ++ ys)) l ∙ ap (drop (text_limit + 1)) (sym c ∙ same)),
     )
 
+-- where the source is as it was, nothing was taken
+pub bounded_unread : (old new : Option (List ℕ)) → new ≡ old → IsBounded old new
+bounded_unread old new e = ([], lit≤ tt, subst (λ x. Consumes old x []) (sym e) (Consumes-nil old))
+
 -- a text that was read to its end
 pub due_text : (words : List (List ℕ)) (bytes text : List ℕ) (c : Command) (before after : Option (List ℕ)) (answer : Answer) → IsCommand words c → before ≡ Some bytes → Consumes before after text → IsAtEnd after → length text ≤ text_limit
     → AsText text c answer → IsDue words bytes answer.0 answer.1
@@ -274,10 +286,19 @@ whole_written (Some xs) (Some ys) before reply o h = let k : xs ≡ before = cc 
 
 -- The top
 
-pub all_ended : (k : Kernel) (budget steps : ℕ) (m : Loaded) (s : State) → m.kernel ≡ k → IsRun m [] budget (run k [] (opening k) budget) (ran.Ended s steps)
+pub all_ended : (k : Kernel) (budget steps : ℕ) (m : Loaded) (s : Option State) → m.kernel ≡ k → IsRun m [] budget (run k [] (opening k) budget) (ran.Ended s steps)
     → searched m.kernel budget m.config (budget - steps) ≡ all_answer k budget
 unfolding all_answer
-all_ended k budget steps m s e r = ap (λ (x : Kernel). searched x budget m.config (budget - steps)) e ∙ ap (answer_of_top (searched k budget) budget) (sym r.1)
+all_ended k budget steps m s e r = ap (λ (x : Kernel). searched x budget m.config (budget - steps)) e ∙ ap (answer_of_top k (searched k budget) budget) (sym r.1)
+
+-- the tree of the script is searched
+pub script_searched : (m : Loaded) (budget left : ℕ) (x : Ident) → IsScript m (Some x)
+    → ◌≡◌ {A = Answer} (answer_of_leaves (shown_lines m.config) budget (leaves_of (found_below m.kernel (search_space m.config) (with_root m.kernel.statements x m.config) left)))
+    (searched m.kernel budget m.config left)
+script_searched m budget left x h =
+    ap (λ (y : Ident). answer_of_leaves (shown_lines m.config) budget (leaves_of (found_below m.kernel (search_space m.config) (with_root m.kernel.statements y m.config) left))) h.1
+    ∙ script_answer m.kernel m.config (shown_lines m.config) budget left
+    ∙ ap (λ b. cond b (answer_of_tree (shown_lines m.config) budget (script_found m.kernel m.config left)) (causes.NoScript, shown_lines m.config ++ line (codes "no script"))) (sym h.0)
 
 -- The whole call
 
@@ -377,11 +398,11 @@ served_answer (commands.Run budget) bytes p a = ap (λ o. unless_unserved o (ans
 served_answer commands.Kernel bytes p a = refl
 
 -- the tree of the script is searched
-pub searched_all : (k : Kernel) (budget : ℕ) (found : Found) (s : Searches k budget found) → all_answer k budget ≡ answer_of_tree (shown_lines s.top) budget found
+pub searched_all : (k : Kernel) (budget : ℕ) (found : Found (List ℕ × Outcome)) (s : Searches k budget found) → all_answer k budget ≡ answer_of_tree (shown_lines s.top) budget found
 unfolding all_answer
 searched_all k budget found s = rw (s.ended, s.script, s.searched) refl
 
 -- the top comes to rest
 pub ended_run : (k : Kernel) (budget left : ℕ) (top : Configuration) → run k [] (opening k) budget ≡ Ended top left → run_answer k budget ≡ (causes.Done, shown_lines top)
 unfolding run_answer
-ended_run k budget left top e = ap (answer_of_top (λ c left. (causes.Done, shown_lines c)) budget) e
+ended_run k budget left top e = ap (answer_of_top k (λ c left. (causes.Done, shown_lines c)) budget) e

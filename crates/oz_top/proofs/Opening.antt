@@ -1,9 +1,9 @@
 -- The next alternative that waits.
 use Rattle.std.proofs.Common.{◌≡◌, ℕ, zero, suc, ◌+◌, ◌-◌, ◌<◌, ◌≤◌, List, ◌∷◌, ◌++◌, map, refl, sym, subst, ap, ◌∙◌, arith}
 use Rattle.std.specs.List.{range_with_len}
-use Rattle.plain_semantics.specs.Search.{chosen_in}
-use Rattle.plain_semantics.specs.declared.configuration.Configuration.{Configuration}
-use Rattle.plain_machine.specs.Machines.{Loaded}
+use Rattle.oz_semantics.specs.Search.{chosen_in}
+use Rattle.oz_semantics.specs.declared.configuration.Configuration.{Configuration}
+use Rattle.oz_machine.specs.Courses.{Loaded}
 use Rattle.oz_top.specs.declared.open.Open.{Open}
 use Rattle.oz_top.specs.Searching.{alternatives_of, waiting, AreOf, OpensNext}
 

@@ -2,11 +2,14 @@
 ghost use Rattle.std.specs.Prelude.{◌≡◌, ◌++◌, [], IfOk, OnOk, codes};
 ghost use Rattle.oz_language.specs.Refusals.{Program};
 ghost use Rattle.oz_language.specs.Translation.{kernel_of};
-ghost use Rattle.plain_semantics.specs.Runs.{run, opening};
-ghost use Rattle.plain_semantics.specs.Search.{with_root, search_space, depth_first};
-ghost use Rattle.plain_semantics.specs.Texts.{raise_text};
-ghost use Rattle.plain_replies.specs.Replies.{shown_lines, spent, answer_of_tree, answer_of_raise, searched, all_answer, run_answer, kernel_answer};
-ghost use Rattle.plain_machine.specs.Answers.{IsRun};
+ghost use Rattle.oz_semantics.specs.Configurations.{view};
+ghost use Rattle.oz_semantics.specs.Runs.{run, opening};
+ghost use Rattle.oz_semantics.specs.Search.{with_root, search_space};
+ghost use Rattle.oz_semantics.specs.Texts.{term_text};
+ghost use Rattle.machine_search.specs.Visits.{found_below};
+ghost use Rattle.oz_replies.specs.Replies.{shown_lines, spent, answer_of_raise, searched, all_answer, run_answer, kernel_answer};
+ghost use Rattle.oz_machine.specs.Answers.{IsRun};
+ghost use Rattle.oz_top.specs.Searching.{leaves_of, answer_of_leaves};
 ghost use Rattle.oz_top.specs.Call.{answered};
 
 use crate::reply::{add_decimal, add_leaves_reply, lines};
@@ -14,10 +17,9 @@ use crate::search::depth_first;
 use kernel_form::kernel_text;
 use oz_base::{Ident, SpaceName};
 use oz_language::{Command, Kernel};
+use oz_machine::{Machine, Ran};
 use oz_outside::Gate;
-use plain_machine::{Machine, Ran, exception_text};
-use plain_replies::Cause;
-use plain_semantics::Raise;
+use oz_replies::Cause;
 use std::alloc::{AllocError, Global};
 
 /// A cause, and what is to be written for it.
@@ -59,14 +61,16 @@ fn add_raised(text: &[u8], out: &mut Vec<u8>) -> Result<(), AllocError>
 /// An exception of the top, with so many steps left for its text.
 fn raised(
     alloc: Global,
-    mut reply: Vec<u8>,
-    raise: Raise,
+    machine: &Machine,
+    exception: &Ident,
     budget: u64,
     left: u64,
 ) -> Result<Plan, AllocError>
-    ensures { IfOk result (λ plan. (plan.cause, plan.reply.items) ≡ answer_of_raise reply.items budget left (raise_text raise)) }
+    ensures { IfOk result (λ plan. (plan.cause, plan.reply.items)
+        ≡ answer_of_raise (shown_lines machine.now.config) budget left (term_text machine.now.kernel.words (view machine.now.config.layers []) exception.now)) }
 {
-    match exception_text(alloc, raise, left)? {
+    let mut reply = shown_lines(alloc, machine)?;
+    match machine.top_text(alloc, exception, left)? {
         None => spent(alloc, reply, budget),
         Some(text) => {
             add_raised(text.bytes.as_slice(), &mut reply)?;
@@ -80,13 +84,14 @@ fn raised(
 fn search<G: Gate>(
     alloc: Global,
     mut machine: Machine,
-    script: &Ident,
+    script: Ident,
     budget: u64,
     left: u64,
     gate: &G,
 ) -> Result<Plan, AllocError>
     ensures { IfOk result (λ plan. (plan.cause, plan.reply.items)
-        ≡ answer_of_tree (shown_lines machine.config) budget (depth_first machine.kernel (search_space machine.config) (with_root machine.kernel.statements script.now machine.config) left)) }
+        ≡ answer_of_leaves (shown_lines machine.config) budget
+        (leaves_of (found_below machine.kernel (search_space machine.config) (with_root machine.kernel.statements script machine.config) left))) }
 {
     let mut reply = shown_lines(alloc, &machine)?;
     let space = machine.root(alloc, script)?;
@@ -123,9 +128,9 @@ fn searched<G: Gate>(
 ) -> Result<Plan, AllocError>
     ensures { IfOk result (λ plan. (plan.cause, plan.reply.items) ≡ searched machine.kernel budget machine.config left) }
 {
-    match machine.script(alloc)? {
+    match machine.script() {
         None => no_script(alloc, &machine),
-        Some(script) => search(alloc, machine, &script, budget, left, gate),
+        Some(script) => search(alloc, machine, script, budget, left, gate),
     }
 }
 
@@ -150,7 +155,7 @@ fn run_top(alloc: Global, kernel: Kernel, budget: u64) -> Result<(Machine, Ran),
 }
 
 /// What `all` answers for a kernel.
-#[tactic(auto, unfolding(plain_replies::specs::Replies::all_answer))]
+#[tactic(auto, unfolding(oz_replies::specs::Replies::all_answer))]
 fn all_answer<G: Gate>(
     alloc: Global,
     kernel: Kernel,
@@ -162,26 +167,22 @@ fn all_answer<G: Gate>(
     let (machine, ran) = run_top(alloc, kernel, budget)?;
     match ran {
         Ran::OutOfFuel => spent(alloc, shown_lines(alloc, &machine)?, budget),
-        Ran::TopEnded { raise, steps } => {
-            let shown = shown_lines(alloc, &machine)?;
-            raised(alloc, shown, raise, budget, budget - steps)
-        }
+        Ran::TopEnded { exception, steps } =>
+            raised(alloc, &machine, &exception, budget, budget - steps),
         Ran::Ended { steps, .. } => searched(alloc, machine, budget, budget - steps, gate),
     }
 }
 
 /// What `run` answers for a kernel.
-#[tactic(auto, unfolding(plain_replies::specs::Replies::run_answer))]
+#[tactic(auto, unfolding(oz_replies::specs::Replies::run_answer))]
 fn run_answer(alloc: Global, kernel: Kernel, budget: u64) -> Result<Plan, AllocError>
     ensures { IfOk result (λ plan. (plan.cause, plan.reply.items) ≡ run_answer kernel budget) }
 {
     let (machine, ran) = run_top(alloc, kernel, budget)?;
     match ran {
         Ran::OutOfFuel => spent(alloc, shown_lines(alloc, &machine)?, budget),
-        Ran::TopEnded { raise, steps } => {
-            let shown = shown_lines(alloc, &machine)?;
-            raised(alloc, shown, raise, budget, budget - steps)
-        }
+        Ran::TopEnded { exception, steps } =>
+            raised(alloc, &machine, &exception, budget, budget - steps),
         Ran::Ended { .. } => done(alloc, &machine),
     }
 }

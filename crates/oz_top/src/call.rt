@@ -5,20 +5,20 @@ ghost use Rattle.std.specs.Io.KnownBytes.{Appends};
 ghost use Rattle.oz_outside.specs.Counts.{Rose};
 ghost use Rattle.oz_language.specs.Tokens.{Lexes, Whole};
 ghost use Rattle.oz_language.specs.Refusals.{Program, Accepts, IsRefused};
-ghost use Rattle.plain_replies.specs.Served.{IsServed, unserved_in};
+ghost use Rattle.oz_replies.specs.Served.{IsServed, unserved_in};
 ghost use Rattle.oz_language.specs.Translation.{statements_of, kernel_of};
 ghost use Rattle.oz_language.specs.KernelTexts.{kernel_text};
 ghost use Rattle.oz_language.specs.Commands.{Spells, IsUsage, AsksAll, AsksRun, AsksKernel};
-ghost use Rattle.plain_semantics.specs.Runs.{Ended, run, opening};
-ghost use Rattle.plain_replies.specs.Replies.{IsReply, Searches, status_of, text_limit, usage_reply, too_large_reply, shown_lines, leaves_reply, kind_text, refused_reply, refused_answer, unless_unserved, all_answer, run_answer};
+ghost use Rattle.oz_semantics.specs.Runs.{Ended, run, opening};
+ghost use Rattle.oz_replies.specs.Replies.{IsReply, Searches, status_of, text_limit, usage_reply, too_large_reply, shown_lines, leaves_reply, kind_text, refused_reply, refused_answer, unless_unserved, all_answer, run_answer};
 ghost use Rattle.oz_language.specs.declared.command.Command.{Command};
-ghost use Rattle.plain_semantics.specs.declared.configuration.Configuration.{Configuration};
+ghost use Rattle.oz_semantics.specs.declared.configuration.Configuration.{Configuration};
 ghost use Rattle.oz_language.specs.declared.token.Lexeme.{Lexeme};
 ghost use Rattle.oz_language.specs.declared.fault.RefusalKind.{RefusalKind};
 ghost use Rattle.oz_language.specs.declared.fault.Fault.{Fault};
-ghost use Rattle.plain_semantics.specs.declared.outcome.Leaf.{Leaf};
-ghost use Rattle.plain_replies.specs.declared.cause.Cause.{Cause};
-ghost use Rattle.oz_top.specs.Call.{answered, minded, answer_of, TextGives, AsText, IsCommand, Plans, IsDue, IsRead, Ends, Answers, IsExcused};
+ghost use Rattle.oz_search.specs.declared.leaf.Outcome.{Outcome as Leaf};
+ghost use Rattle.oz_replies.specs.declared.cause.Cause.{Cause};
+ghost use Rattle.oz_top.specs.Call.{answered, minded, answer_of, TextGives, AsText, IsCommand, Plans, IsDue, IsRead, IsBounded, Ends, Answers, IsExcused};
 
 use crate::answers::{Plan, answered};
 use crate::reply::add_decimal;
@@ -29,7 +29,7 @@ use oz_language::{Command, Fault, RefusalKind};
 use oz_lex::one_reading;
 use oz_outside::{Gate, READ_LIMIT, ReadError as SourceError, Sink, Source, read_all, write_all};
 use oz_reader::{Program, ReadError, read_program};
-use plain_replies::Cause;
+use oz_replies::Cause;
 use std::alloc::{AllocError, Global};
 
 fn make_plan(alloc: Global, cause: Cause, reply: &[u8]) -> Result<Plan, AllocError>
@@ -193,6 +193,7 @@ fn plan_command<S: Source, G: Gate>(
         (record { left = S.left source.new; faults = S.faults source.new }) result.cause result.reply.items }
     ensures due { (words : List (List ℕ)) (bytes : List ℕ) → IsCommand words command → S.left source.old ≡ Some bytes → IsDue words bytes result.cause result.reply.items }
     ensures read { (bytes : List ℕ) → S.left source.old ≡ Some bytes → IsRead bytes (S.left source.new) result.cause }
+    ensures bounded { IsBounded (S.left source.old) (S.left source.new) }
 {
     match read_all(alloc, source) {
         Ok(text) => plan_text(alloc, command, text.as_slice(), gate),
@@ -221,6 +222,7 @@ fn plan_words<S: Source, G: Gate>(alloc: Global, words: &[String], source: &mut 
     ensures due { (bytes : List ℕ) → S.left source.old ≡ Some bytes → IsDue (map string_bytes words.now) bytes result.cause result.reply.items }
     ensures read { (c : Command) (bytes : List ℕ) → Spells (map string_bytes words.now) c → S.left source.old ≡ Some bytes → IsRead bytes (S.left source.new) result.cause }
     ensures unread { IsUsage (map string_bytes words.now) → source.new ≡ source.old }
+    ensures bounded { IsBounded (S.left source.old) (S.left source.new) }
 {
     match read_command(alloc, words) {
         Ok(Some(command)) => plan_command(alloc, command, source, gate),
@@ -305,11 +307,11 @@ pub fn oz_call<S: Source, K: Sink, G: Gate>(
 
     // `all` on an accepted text whose top becomes quiescent with a script, and whose tree takes no more than what is left of
     // the budget, writes what the top has shown and exactly the unfailed leaves, each once, left to right, and their totals.
-    ensures leaves { (budget : ℕ) (bytes before : List ℕ) (p : Program) (found : List Leaf) (left : ℕ) → AsksAll (map string_bytes words.now) budget
+    ensures leaves { (budget : ℕ) (bytes before : List ℕ) (p : Program) (found : List (List ℕ × Leaf)) (steps : ℕ) → AsksAll (map string_bytes words.now) budget
         → S.left source.old ≡ Some bytes → K.written sink.old ≡ Some before → length bytes ≤ text_limit → IsServed bytes p
-        → (s : Searches (kernel_of p) budget (Some (found, left)))
+        → (s : Searches (kernel_of p) budget (Some (found, steps)))
         → result.cause ≢ Cause.ReadFault → result.cause ≢ Cause.WriteFault → result.cause ≢ Cause.NoMemory
-        → (result.cause ≡ Cause.Done) × (K.written sink.new ≡ Some (before ++ shown_lines s.top ++ leaves_reply found)) }
+        → (result.cause ≡ Cause.Done) × (K.written sink.new ≡ Some (before ++ shown_lines s.top ++ leaves_reply (map (λ (leaf : List ℕ × Leaf). leaf.1) found))) }
 
     // It is spent exactly where the tree takes more.
     ensures spent { (budget : ℕ) (bytes : List ℕ) (p : Program) → AsksAll (map string_bytes words.now) budget
@@ -335,6 +337,9 @@ pub fn oz_call<S: Source, K: Sink, G: Gate>(
 
     // All bytes are read, or the one after the last that a text may have.
     ensures read { (c : Command) (bytes : List ℕ) → Spells (map string_bytes words.now) c → S.left source.old ≡ Some bytes → IsRead bytes (S.left source.new) result.cause }
+
+    // Whatever the answer is, a fault and want of memory too, at most 1,048,577 bytes are taken from the source.
+    ensures bounded { IsBounded (S.left source.old) (S.left source.new) }
 
     // When each other cause comes.
     ensures too_large { (c : Command) (bytes : List ℕ) → Spells (map string_bytes words.now) c → S.left source.old ≡ Some bytes → text_limit < length bytes

@@ -1,21 +1,32 @@
 //! What is written of the texts that were shown, and of the leaves of a search.
-ghost use Rattle.std.specs.Prelude.{◌≡◌, ◌++◌, IfOk, OnOk, codes, count_by};
+ghost use Rattle.std.specs.Prelude.{◌≡◌, ◌<◌, ◌++◌, IfOk, OnOk, codes, count_by, length, slice_index_or};
 ghost use Rattle.std.specs.List.{flat_map};
 ghost use Rattle.std.specs.Fmt.{decimal};
-ghost use Rattle.plain_replies.specs.Replies.{line, leaf_line, leaf_lines, is_solved, is_stuck, is_raised, is_suspended, total_line, leaves_reply};
-ghost use Rattle.plain_semantics.specs.declared.outcome.Leaf.{Leaf};
+ghost use Rattle.oz_replies.specs.Replies.{line, leaf_line, leaf_lines, is_solved, is_stuck, is_raised, is_suspended, total_line, leaves_reply};
 
 use oz_base::Sequence;
-use plain_semantics::{Leaf, State};
+use oz_search::Outcome;
+use shared_list::SharedList;
 use std::alloc::{AllocError, Global};
 
+/// One of the texts.
+fn text_at(texts: &SharedList<Sequence<u8>>, place: u64) -> &[u8]
+    requires { place < length texts.now }
+    ensures { result.now ≡ slice_index_or texts.now place result.now }
+{
+    match texts.get(place) {
+        Some(text) => text.as_slice(),
+        None => unreachable!(),
+    }
+}
+
 /// A line for each text.
-pub fn lines(alloc: Global, texts: &[Sequence<u8>]) -> Result<Vec<u8>, AllocError>
+pub fn lines(alloc: Global, texts: &SharedList<Sequence<u8>>) -> Result<Vec<u8>, AllocError>
     ensures { IfOk result (λ lines. lines.items ≡ flat_map line texts.now) }
 {
     let mut lines = Vec::new(alloc);
-    for text in texts {
-        lines.extend_from_slice(text.as_slice())?;
+    'texts: for place in 0..texts.len() {
+        lines.extend_from_slice(text_at(texts, place))?;
         lines.extend_from_slice(b"\n")?;
     }
     Ok(lines)
@@ -54,87 +65,86 @@ fn add_suspended(alloc: Global, number: u64, out: &mut Vec<u8>) -> Result<(), Al
     out.extend_from_slice(b"\n")
 }
 
-/// Adds the line of a leaf.
+/// Adds the line of a leaf. Of a failed node there is none.
 fn add_leaf_line(
     alloc: Global,
     number: u64,
-    state: State,
-    text: &[u8],
+    leaf: &Outcome,
     out: &mut Vec<u8>,
 ) -> Result<(), AllocError>
-    ensures { OnOk result (out.new.items ≡ out.old.items ++ leaf_line number text.now state) }
+    ensures { OnOk result (out.new.items ≡ out.old.items ++ leaf_line number leaf.now) }
 {
-    match state {
-        State::Solved => add_shown(alloc, b"solved ", number, text, out),
-        State::Stuck => add_shown(alloc, b"stuck ", number, text, out),
-        State::Raised(_) => add_shown(alloc, b"raised ", number, text, out),
-        State::Suspended => add_suspended(alloc, number, out),
-        State::Running | State::Failed | State::Alternatives(_) => Ok(()),
+    match leaf {
+        Outcome::Solved(text) => add_shown(alloc, b"solved ", number, text.as_slice(), out),
+        Outcome::Stuck(text) => add_shown(alloc, b"stuck ", number, text.as_slice(), out),
+        Outcome::Raised(text) => add_shown(alloc, b"raised ", number, text.as_slice(), out),
+        Outcome::Suspended => add_suspended(alloc, number, out),
+        Outcome::Failed => Ok(()),
     }
 }
 
 /// Adds a line for each leaf, numbered from 1.
-fn add_leaf_lines(alloc: Global, leaves: &[Leaf], out: &mut Vec<u8>) -> Result<(), AllocError>
+fn add_leaf_lines(alloc: Global, leaves: &[Outcome], out: &mut Vec<u8>) -> Result<(), AllocError>
     ensures { OnOk result (out.new.items ≡ out.old.items ++ leaf_lines 1 leaves.now) }
 {
     let mut number: u64 = 1;
     for leaf in leaves {
-        add_leaf_line(alloc, number, leaf.state, leaf.text.as_slice(), out)?;
+        add_leaf_line(alloc, number, leaf, out)?;
         number += 1;
     }
     Ok(())
 }
 
-fn is_solved(leaf: &Leaf) -> bool
-    ensures { result ≡ is_solved leaf.now.state }
+fn is_solved(leaf: &Outcome) -> bool
+    ensures { result ≡ is_solved leaf.now }
 {
-    matches!(leaf.state, State::Solved)
+    matches!(leaf, Outcome::Solved(_))
 }
 
-fn is_stuck(leaf: &Leaf) -> bool
-    ensures { result ≡ is_stuck leaf.now.state }
+fn is_stuck(leaf: &Outcome) -> bool
+    ensures { result ≡ is_stuck leaf.now }
 {
-    matches!(leaf.state, State::Stuck)
+    matches!(leaf, Outcome::Stuck(_))
 }
 
-fn is_raised(leaf: &Leaf) -> bool
-    ensures { result ≡ is_raised leaf.now.state }
+fn is_raised(leaf: &Outcome) -> bool
+    ensures { result ≡ is_raised leaf.now }
 {
-    matches!(leaf.state, State::Raised(_))
+    matches!(leaf, Outcome::Raised(_))
 }
 
-fn is_suspended(leaf: &Leaf) -> bool
-    ensures { result ≡ is_suspended leaf.now.state }
+fn is_suspended(leaf: &Outcome) -> bool
+    ensures { result ≡ is_suspended leaf.now }
 {
-    matches!(leaf.state, State::Suspended)
+    matches!(leaf, Outcome::Suspended)
 }
 
-fn count_solved(leaves: &[Leaf]) -> usize
-    ensures { result ≡ count_by (λ (leaf : Leaf). is_solved leaf.state) leaves.now }
+fn count_solved(leaves: &[Outcome]) -> usize
+    ensures { result ≡ count_by is_solved leaves.now }
 {
     leaves.iter().filter(|leaf| is_solved(leaf)).count()
 }
 
-fn count_stuck(leaves: &[Leaf]) -> usize
-    ensures { result ≡ count_by (λ (leaf : Leaf). is_stuck leaf.state) leaves.now }
+fn count_stuck(leaves: &[Outcome]) -> usize
+    ensures { result ≡ count_by is_stuck leaves.now }
 {
     leaves.iter().filter(|leaf| is_stuck(leaf)).count()
 }
 
-fn count_raised(leaves: &[Leaf]) -> usize
-    ensures { result ≡ count_by (λ (leaf : Leaf). is_raised leaf.state) leaves.now }
+fn count_raised(leaves: &[Outcome]) -> usize
+    ensures { result ≡ count_by is_raised leaves.now }
 {
     leaves.iter().filter(|leaf| is_raised(leaf)).count()
 }
 
-fn count_suspended(leaves: &[Leaf]) -> usize
-    ensures { result ≡ count_by (λ (leaf : Leaf). is_suspended leaf.state) leaves.now }
+fn count_suspended(leaves: &[Outcome]) -> usize
+    ensures { result ≡ count_by is_suspended leaves.now }
 {
     leaves.iter().filter(|leaf| is_suspended(leaf)).count()
 }
 
 /// The line of the totals.
-fn total_line(alloc: Global, leaves: &[Leaf]) -> Result<Vec<u8>, AllocError>
+fn total_line(alloc: Global, leaves: &[Outcome]) -> Result<Vec<u8>, AllocError>
     ensures { IfOk result (λ line. line.items ≡ total_line leaves.now) }
 {
     let mut line = Vec::new(alloc);
@@ -151,8 +161,8 @@ fn total_line(alloc: Global, leaves: &[Leaf]) -> Result<Vec<u8>, AllocError>
 }
 
 /// Adds what a search that found these leaves writes.
-#[tactic(auto, unfolding(plain_replies::specs::Replies::leaves_reply))]
-pub fn add_leaves_reply(alloc: Global, leaves: &[Leaf], out: &mut Vec<u8>) -> Result<(), AllocError>
+#[tactic(auto, unfolding(oz_replies::specs::Replies::leaves_reply))]
+pub fn add_leaves_reply(alloc: Global, leaves: &[Outcome], out: &mut Vec<u8>) -> Result<(), AllocError>
     ensures { OnOk result (out.new.items ≡ out.old.items ++ leaves_reply leaves.now) }
 {
     add_leaf_lines(alloc, leaves, out)?;

@@ -4,22 +4,20 @@ ghost use Rattle.std.specs.List.{list_any};
 ghost use Rattle.oz_base.specs.Lists.{list_eq};
 ghost use Rattle.oz_language.specs.Tokens.{Lexes, Whole};
 ghost use Rattle.oz_language.specs.Wording.{bytes_of};
-ghost use Rattle.plain_replies.specs.Served.{is_unserved, is_lazy, unserved_in};
+ghost use Rattle.oz_replies.specs.Served.{is_unserved, is_lazy, unserved_in};
 ghost use Rattle.oz_language.specs.declared.token.Lexeme.{Lexeme};
 
 use oz_language::{Lexeme, Sort};
 use oz_lex::{lexemes, one_reading, unquoted};
 use std::alloc::{AllocError, Global};
 
-/// Symbols and reserved words.
-static TOKENS: [&[u8]; 13] = [
-    b"thread", b"try", b"raise", b"@", b":=", b"::", b":::", b"=:", b"\\=:", b"<:", b"=<:", b">:",
-    b">=:",
+/// Symbols.
+static TOKENS: [&[u8]; 10] = [
+    b"@", b":=", b"::", b":::", b"=:", b"\\=:", b"<:", b"=<:", b">:", b">=:",
 ];
 
 /// Variables, whether the text binds them itself or not.
-static NAMES: [&[u8]; 17] = [
-    b"Wait",
+static NAMES: [&[u8]; 16] = [
     b"NewName",
     b"NewCell",
     b"Access",

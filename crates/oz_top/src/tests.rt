@@ -1,7 +1,7 @@
 use super::{Outcome, oz_call};
 use oz_language::{Fault, RefusalKind};
 use oz_outside::{Gate, HoldGate, MemSink, MemSource, OpenGate, READ_LIMIT};
-use plain_replies::Cause;
+use oz_replies::Cause;
 use std::alloc::{AllocError, Global};
 use std::test::Fail;
 
@@ -23,6 +23,8 @@ const END_LEAVES: &str =
 const SHOWN_ONE: &[u8] = b"{Show a} proc {Script R} R=b end";
 
 const SHOWN_LEAF: &str = "a\nsolved 1 b\ntotal solved=1 stuck=0 raised=0 suspended=0\n";
+
+const TRIED: &[u8] = b"try raise a end catch X then {Show X} end";
 
 const ENDLESS: &[u8] = b"proc {Script R} choice R=a [] {Script R} end end";
 
@@ -71,8 +73,11 @@ fn answers_each_text(rt: HostRuntime) -> Result<(), Fail> {
 
 #[test]
 fn runs_each_text(rt: HostRuntime) -> Result<(), Fail> {
-    let cases: [(&[&str], &[u8], &str, u8); 6] = [
+    let cases: [(&[&str], &[u8], &str, u8); 9] = [
         (&["run"], b"{Show 1} {Show f(a)}", "1\nf(a)\n", 0),
+        (&["run"], b"thread {Show a} end", "a\n", 0),
+        (&["run"], TRIED, "a\n", 0),
+        (&["run"], b"raise f(a) end", "raised f(a)\n", 1),
         (&["run"], b"", "", 0),
         (&["run", "--budget", "8"], b"{Show a} {Show b}", "a\nb\n", 0),
         (
@@ -97,7 +102,7 @@ fn writes_kernels_and_what_is_not_served(rt: HostRuntime) -> Result<(), Fail> {
     let cases: [(&[&str], &[u8], &str, u8); 6] = [
         (&["kernel"], b"", "skip\n", 0),
         (&["kernel"], b"thread skip end", "thread skip end\n", 0),
-        (&["run"], b"thread skip end", "refused syntax 0\n", 3),
+        (&["run"], b"X in {NewCell 1 X}", "refused syntax 6\n", 3),
         (&["run"], b"{Show 'a b'|nil}", "'a b'|nil\n", 0),
         (&["all"], b"local FD in skip end", "refused syntax 6\n", 3),
         (

@@ -1,6 +1,6 @@
 use Rattle.std.proofs.Common.{◌≡◌, subst}
 use Rattle.std.specs.Prelude.{IfOk}
-use Rattle.plain_replies.specs.Replies.{Answer}
+use Rattle.oz_replies.specs.Replies.{Answer}
 use Rattle.oz_top.proofs.Answering.{all_ended}
 use Rattle.oz_top.proofs.answers.all_answer.Goals as goal
 

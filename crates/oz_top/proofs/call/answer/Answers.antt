@@ -1,6 +1,6 @@
 use Rattle.std.proofs.Common.{◌∙◌, ap}
 use Rattle.std.proofs.lemmas.Result.{IfOk-weaker}
-use Rattle.plain_replies.specs.Replies.{refused_answer}
+use Rattle.oz_replies.specs.Replies.{refused_answer}
 use Rattle.oz_top.proofs.Answering.{refused_gives, refused_due, accepted_gives, accepted_due}
 use Rattle.oz_top.proofs.call.answer.Goals as goal
 

@@ -1,15 +1,19 @@
 -- The clauses of the call that follow from its plan and from how the writing ended.
 use Rattle.std.proofs.Common.{ℕ, List, Some, None, map, ◌≡◌, ◌⊎◌, ◌++◌, ◌∙◌, refl, ap, sym, subst, append_assoc}
 use Rattle.std.specs.String.{string_bytes}
-use Rattle.plain_replies.specs.Replies.{Answer, shown_lines, leaves_reply}
+use Rattle.oz_replies.specs.Replies.{Answer, shown_lines, leaves_reply}
+use Rattle.oz_search.specs.declared.leaf.Outcome.{Outcome}
 use Rattle.oz_language.specs.Translation.{statements_of, kernel_of}
 use Rattle.oz_language.specs.KernelTexts.{kernel_text}
 use Rattle.oz_language.specs.declared.command.Command.TheVariants as commands
-use Rattle.plain_replies.specs.declared.cause.Cause.TheVariants as causes
+use Rattle.oz_replies.specs.declared.cause.Cause.TheVariants as causes
 use Rattle.oz_top.specs.Call.{Reading, Writing, Plans, Ends, IsExcused}
 use Rattle.oz_top.proofs.Answering.{Replied, replied, read_by, usage_ended, asked_large, asked_refused, asked_accepted, asked_unserved, written, served_answer, searched_all, ended_run}
 use Rattle.oz_top.proofs.call.oz_call.Given as given
 use Rattle.oz_top.proofs.call.oz_call.Goals as goal
+
+abbrev leaves_alone_of : List (List ℕ × Outcome) → List Outcome
+leaves_alone_of found = map (λ (leaf : List ℕ × Outcome). leaf.1) found
 
 abbrev words_of : (g : given.Over) → goal.After-drop-reply g → List (List ℕ)
 words_of g c = map string_bytes c.args.words.now
@@ -41,10 +45,10 @@ pub returns-clause-reply : goal.returns-clause-reply
 returns-clause-reply g c bytes told f m = replies g c bytes told f m
 
 pub returns-clause-leaves : goal.returns-clause-leaves
-returns-clause-leaves g c budget bytes before p found left w told o l a s f n m =
-    let d = written (words_of g c) (commands.All w.workers budget) bytes (before_of g c) (after_of g c) c.finish.result.cause w.spelled (replies g c bytes told) p l a.accepted before (causes.Done, shown_lines s.top ++ leaves_reply found)
-    (served_answer (commands.All w.workers budget) bytes p a ∙ searched_all (kernel_of p) budget (Some (found, left)) s) o f n m in
-    (d.0, d.1 ∙ ap Some (sym (append_assoc before (shown_lines s.top) (leaves_reply found))))
+returns-clause-leaves g c budget bytes before p found steps w told o l a s f n m =
+    let d = written (words_of g c) (commands.All w.workers budget) bytes (before_of g c) (after_of g c) c.finish.result.cause w.spelled (replies g c bytes told) p l a.accepted before (causes.Done, shown_lines s.top ++ leaves_reply (leaves_alone_of found))
+    (served_answer (commands.All w.workers budget) bytes p a ∙ searched_all (kernel_of p) budget (Some (found, steps)) s) o f n m in
+    (d.0, d.1 ∙ ap Some (sym (append_assoc before (shown_lines s.top) (leaves_reply (leaves_alone_of found)))))
 
 pub returns-clause-spent : goal.returns-clause-spent
 returns-clause-spent g c budget bytes p w told l a s =

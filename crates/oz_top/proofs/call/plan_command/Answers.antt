@@ -1,5 +1,5 @@
 use Rattle.std.proofs.Common.{◌≤◌, ap, subst, Err, List, ℕ, length, arith}
-use Rattle.plain_replies.specs.Replies.{text_limit}
+use Rattle.oz_replies.specs.Replies.{text_limit}
 use Rattle.oz_top.specs.Call.{TextGives, AsText}
 use Rattle.oz_top.proofs.Answering.{plans_text, due_text, read_text, plans_large, due_large, read_large}
 use Rattle.oz_top.proofs.call.plan_command.Goals as goal

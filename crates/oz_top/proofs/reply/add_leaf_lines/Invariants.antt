@@ -1,5 +1,5 @@
 use Rattle.std.proofs.Common.{◌≡◌, ◌+◌, ◌++◌, drop}
-use Rattle.plain_replies.specs.Replies.{leaf_lines}
+use Rattle.oz_replies.specs.Replies.{leaf_lines}
 use Rattle.oz_top.proofs.reply.add_leaf_lines.Given as goal
 
 -- what was written so far, and then the lines of the other leaves

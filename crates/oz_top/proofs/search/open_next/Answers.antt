@@ -1,6 +1,6 @@
 use Rattle.std.proofs.Common.{◌∙◌, ◌+◌, refl, ap}
-use Rattle.plain_semantics.specs.Search.{chosen_in}
-use Rattle.plain_machine.specs.Machines.{Loaded}
+use Rattle.oz_semantics.specs.Search.{chosen_in}
+use Rattle.oz_machine.specs.Courses.{Loaded}
 use Rattle.oz_top.proofs.Opening.{opens_next}
 use Rattle.oz_top.proofs.search.open_next.Goals as goal
 

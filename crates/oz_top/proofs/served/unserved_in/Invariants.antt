@@ -1,5 +1,5 @@
 use Rattle.std.specs.Prelude.{◌≡◌, drop}
-use Rattle.plain_replies.specs.Served.{unserved_in, unserved_behind}
+use Rattle.oz_replies.specs.Served.{unserved_in, unserved_behind}
 use Rattle.oz_top.proofs.served.unserved_in.Given as goal
 
 abbrev pub invariant-tokens : goal.invariant-tokens
