@@ -167,8 +167,13 @@ fn all_answer<G: Gate>(
     let (machine, ran) = run_top(alloc, kernel, budget)?;
     match ran {
         Ran::OutOfFuel => spent(alloc, shown_lines(alloc, &machine)?, budget),
-        Ran::TopEnded { exception, steps } =>
-            raised(alloc, &machine, &exception, budget, budget - steps),
+        Ran::TopEnded { exception, steps } => raised(
+            alloc,
+            &machine,
+            &exception,
+            budget,
+            budget - steps,
+        ),
         Ran::Ended { steps, .. } => searched(alloc, machine, budget, budget - steps, gate),
     }
 }
@@ -181,8 +186,13 @@ fn run_answer(alloc: Global, kernel: Kernel, budget: u64) -> Result<Plan, AllocE
     let (machine, ran) = run_top(alloc, kernel, budget)?;
     match ran {
         Ran::OutOfFuel => spent(alloc, shown_lines(alloc, &machine)?, budget),
-        Ran::TopEnded { exception, steps } =>
-            raised(alloc, &machine, &exception, budget, budget - steps),
+        Ran::TopEnded { exception, steps } => raised(
+            alloc,
+            &machine,
+            &exception,
+            budget,
+            budget - steps,
+        ),
         Ran::Ended { .. } => done(alloc, &machine),
     }
 }
