@@ -6,7 +6,7 @@ mod queue;
 mod readiness;
 
 pub use queue::Queue;
-pub use readiness::{can_step, ready_where, runnable, steps_where, thread_ready};
+pub use readiness::{can_step, is_step, ready_where, runnable, steps_where, thread_ready};
 
 #[cfg(test)]
 mod tests;

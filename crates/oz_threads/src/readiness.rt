@@ -39,7 +39,7 @@ pub fn ready_where(
 }
 
 /// Whether it is a step.
-fn is_step(ready: &Readiness) -> bool
+pub fn is_step(ready: &Readiness) -> bool
     ensures { (view : View) (defined : sights.Readiness) → IsReady view defined ready.now → result ≡ can_step defined }
 {
     match ready {

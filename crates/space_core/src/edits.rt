@@ -9,7 +9,7 @@ ghost use Rattle.space_core.specs.Unwinding.{IsThreadUnwound, IsLevelUnwound};
 
 use crate::level::Level;
 use crate::looking::thread_place;
-use crate::stacks::{push_all, unwound, with_top_replaced};
+use crate::stacks::unwound;
 use oz_base::{Ident, Sequence, Stack};
 use oz_semantics::{Frame, Thread};
 use std::alloc::{AllocError, Global};
@@ -42,7 +42,7 @@ fn put_frames(
     let Some(place) = thread_place(threads, number) else {
         return Ok(());
     };
-    push_all(&mut threads.get_mut(place).frames, frames)
+    threads.get_mut(place).frames.push_all(frames)
 }
 
 /// Puts statements on top of a thread's stack, the first of them uppermost.
@@ -54,7 +54,6 @@ pub fn push(level: &mut Level, number: u64, frames: Vec<Frame>) -> Result<(), Al
 }
 
 fn exchange_frames(
-    alloc: Global,
     threads: &mut Sequence<Thread>,
     number: u64,
     frames: Vec<Frame>,
@@ -65,22 +64,15 @@ fn exchange_frames(
     let Some(place) = thread_place(threads, number) else {
         return Ok(());
     };
-    let replaced = with_top_replaced(alloc, &threads.get(place).frames, frames)?;
-    threads.get_mut(place).frames = replaced;
-    Ok(())
+    threads.get_mut(place).frames.replace_top(frames)
 }
 
 /// Puts statements in the place of the one on top of a thread's stack.
-pub fn replace_top(
-    alloc: Global,
-    level: &mut Level,
-    number: u64,
-    frames: Vec<Frame>,
-) -> Result<(), AllocError>
+pub fn replace_top(level: &mut Level, number: u64, frames: Vec<Frame>) -> Result<(), AllocError>
     ensures ok { OnOk result (IsQuiet (with_frames number (replacing frames.items)) level.old level.new) }
     ensures err { OnErr result (level.new ≡ level.old) }
 {
-    exchange_frames(alloc, &mut level.threads, number, frames)
+    exchange_frames(&mut level.threads, number, frames)
 }
 
 fn clear_frames(threads: &mut Sequence<Thread>, number: u64)
@@ -133,7 +125,7 @@ pub fn spawn(alloc: Global, level: &mut Level, frames: Vec<Frame>) -> Result<(),
     let number = level.next.thread;
     let next = number.checked_add(1).ok_or(AllocError)?;
     let mut stack = Stack::new(alloc);
-    push_all(&mut stack, frames)?;
+    stack.push_all(frames)?;
     level.threads.push(Thread {
         number,
         frames: stack,

@@ -160,11 +160,10 @@ impl Levels {
         ensures ok { OnOk result (self.new ≡ in_layer id.now.space (with_frames id.now.number (replacing frames.items)) self.old) }
         ensures err { OnErr result (self.new ≡ self.old) }
     {
-        let alloc = *self.levels.allocator();
         let Some(place) = level_place(self.levels.as_slice(), &id.space) else {
             return Ok(());
         };
-        edits::replace_top(alloc, &mut self.levels[place], id.number, frames)
+        edits::replace_top(&mut self.levels[place], id.number, frames)
     }
 
     /// Takes all statements off a thread's stack.

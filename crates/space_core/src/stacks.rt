@@ -10,51 +10,6 @@ use oz_base::{Copies, Ident, Sequence, Stack};
 use oz_semantics::{Code, Frame};
 use std::alloc::{AllocError, Global};
 
-fn drop_top(stack: &mut Stack<Frame>)
-    ensures { stack.new ≡ drop 1 stack.old }
-{
-    let _top = stack.pop();
-}
-
-/// Takes so many statements off.
-fn drop_tops(stack: &mut Stack<Frame>, count: usize)
-    ensures { stack.new ≡ drop count stack.old }
-{
-    for _place in 0..count {
-        drop_top(stack);
-    }
-}
-
-/// Puts statements on top, the first of them uppermost.
-pub fn push_all(stack: &mut Stack<Frame>, mut frames: Vec<Frame>) -> Result<(), AllocError>
-    ensures ok { OnOk result (stack.new ≡ frames.items ++ stack.old) }
-    ensures err { OnErr result (stack.new ≡ stack.old) }
-{
-    let mut pushed: usize = 0;
-    'frames: while let Some(frame) = frames.pop() {
-        if stack.push(frame).is_err() {
-            drop_tops(stack, pushed);
-            return Err(AllocError);
-        }
-        pushed += 1;
-    }
-    Ok(())
-}
-
-/// A stack with statements in the place of the one on top.
-pub fn with_top_replaced(
-    alloc: Global,
-    stack: &Stack<Frame>,
-    frames: Vec<Frame>,
-) -> Result<Stack<Frame>, AllocError>
-    ensures { IfOk result (λ new. new ≡ frames.items ++ drop 1 stack.now) }
-{
-    let mut replaced = stack.copied(alloc)?;
-    drop_top(&mut replaced);
-    push_all(&mut replaced, frames)?;
-    Ok(replaced)
-}
-
 /// The statements of a body, each with the environment.
 fn frames_of(
     alloc: Global,
@@ -106,7 +61,7 @@ pub fn unwound(
     let mut rest = stack.copied(alloc)?;
     'marks: while let Some(frame) = rest.pop() {
         if let Some(frames) = handler_of(alloc, &frame, exception)? {
-            push_all(&mut rest, frames.into_vec())?;
+            rest.push_all(frames.into_vec())?;
             return Ok(Some(rest));
         }
     }
