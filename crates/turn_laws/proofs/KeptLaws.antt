@@ -1,0 +1,234 @@
+-- What is so of a configuration is so after each turn, and where a program opens, the search begins, or a space is committed.
+use Rattle.std.proofs.Common.{◌≡◌, inl, inr, ℕ, ◌+◌, Bool, true, false, not, ◌&&◌, if◌then◌else◌, List, [], ◌∷◌, ◌++◌, refl, sym, ap, subst, ◌∙◌, Option, Some, None}
+use Rattle.oz_base.specs.Lists.{holds_of}
+use Rattle.oz_base.specs.declared.names.Ident.{Ident}
+use Rattle.oz_language.specs.declared.kernel.Statement.{Statement}
+use Rattle.oz_language.specs.declared.kernel.Kernel.{Kernel}
+use Rattle.oz_semantics.specs.Names.{is_top, child_name, space_lt}
+use Rattle.oz_semantics.specs.Store.{View, is_consistent}
+use Rattle.oz_semantics.specs.Configurations.{is_of, layer_of, stack_of, view, in_layer, with_frames, without_terminated, counting_child, spawning, ending, failed, raised_by, frames_of, next_child, new_layer}
+use Rattle.oz_semantics.specs.Answers.{Answer, Acts, RaisesKind, RaisesTerm, Rests}
+use Rattle.oz_semantics.specs.Statements.{stack_answer}
+use Rattle.oz_semantics.specs.Spaces.{sight}
+use Rattle.oz_semantics.specs.Edits.{starting, created, committed}
+use Rattle.oz_semantics.specs.Changes.{Change, changed_all, done}
+use Rattle.oz_semantics.specs.Effects.{Effect, Makes, Tells, ShowsText, act_effect}
+use Rattle.oz_semantics.specs.Exceptions.{is_failure, raise_term, with_term, unwound}
+use Rattle.oz_semantics.specs.Texts.{Printed, term_text}
+use Rattle.oz_semantics.specs.Settling.{Turned, may_fail, is_inconsistent, is_among, top_is_inconsistent, top_failed, top_ended, without_inconsistent, runnable, requeued, settled, term_variable, with_raised}
+use Rattle.oz_semantics.specs.Steps.{went_on, ended_by, uncaught, raised_to, raised, raised_kind, told, after_effect, after_answer, without_top, stepped}
+use Rattle.oz_semantics.specs.Schedule.{turn_of}
+use Rattle.oz_semantics.specs.Runs.{opening_environment, top_layer, left_by}
+use Rattle.oz_semantics.specs.declared.value.Tell.{Tell}
+use Rattle.oz_semantics.specs.declared.configuration.Frame.{Frame}
+use Rattle.oz_semantics.specs.declared.configuration.Layer.{Layer}
+use Rattle.oz_semantics.specs.declared.configuration.Configuration.{Configuration}
+use Rattle.oz_semantics.specs.declared.outcome.RaiseKind.{RaiseKind}
+use Rattle.oz_semantics.specs.declared.outcome.RaiseKind.TheVariants.{FailureTell}
+use Rattle.oz_semantics.specs.declared.outcome.Stepped.TheVariants.{Moved, TopEnded, Quiescent}
+use Rattle.oz_laws.proofs.SameLaws.{In, In-from_contains, contains-from_In, and-left, and-right}
+use Rattle.view_laws.specs.Steps.{IsSound, IsNumbered}
+use Rattle.view_laws.specs.Queues.{is_once}
+use Rattle.view_laws.proofs.Members.{decide, not_both, some_of}
+use Rattle.view_laws.proofs.ListLaws.{in_edit, found_in}
+use Rattle.view_laws.proofs.SightLaws.{creation_unseen}
+use Rattle.view_laws.proofs.TreeLaws.{in_put}
+use Rattle.view_laws.proofs.QueueLaws.{queue_exact, queue_once, not_false}
+use Rattle.view_laws.proofs.NumberLaws.{runnable_once}
+use Rattle.settle_laws.specs.Turns.{opening_layers}
+use Rattle.settle_laws.proofs.SoundLaws.{left_sound, sound_top, committed_sound}
+use Rattle.settle_laws.proofs.OpeningLaws.{opening_sound}
+use Rattle.settle_laws.proofs.TreeSteps.{opening_tree}
+use Rattle.turn_laws.specs.Orderly.{AreOrderly}
+use Rattle.turn_laws.specs.Kept.{IsKept, KeptTurn, KeptStep, KeptOpening, KeptRoot, KeptChosen}
+use Rattle.turn_laws.proofs.NumberedLaws.{none_numbered, spawned_numbered}
+use Rattle.turn_laws.proofs.OrderlyLaws.{edit_orderly, end_orderly, left_orderly, frames_edit, term_edit, popped_orderly, changed_orderly, done_all_orderly, ended_orderly, created_orderly, committed_orderly}
+
+-- where the machine moved, it is so
+abbrev MovedKept : List Statement → Turned → Type 0
+MovedKept statements (Moved cost, d) = IsKept statements d
+MovedKept statements (TopEnded x cost, d) = Unit {0}
+MovedKept statements (Quiescent, d) = Unit {0}
+
+-- What follows a step
+
+requeued_kept : (statements : List Statement) (mover : Option Ident) (c : Configuration) (layers : List Layer) → AreOrderly layers → IsSound layers → is_once c.queue ≡ true
+    → holds_of (is_among c.queue) mover ≡ false → IsKept statements (requeued statements mover c layers)
+requeued_kept statements mover c layers good sound once apart = record {
+  tree = good.tree;
+  top = good.top;
+  numbered = good.numbered;
+  sound = sound;
+  exact = λ id. queue_exact (runnable statements layers) mover c.queue id;
+  once = queue_once (runnable statements layers) mover c.queue (runnable_once statements layers good.tree.ordered good.numbered) once apart;
+}
+
+settled_kept : (statements : List Statement) (mover : Option Ident) (cost : ℕ) (c : Configuration) → AreOrderly c.layers → is_once c.queue ≡ true → holds_of (is_among c.queue) mover ≡ false
+    → MovedKept statements (settled statements mover cost c)
+settled_kept statements mover cost c good once apart = by (top_is_inconsistent c.layers)
+  where
+    by : (b : Bool) → MovedKept statements (if b then top_failed cost c else (Moved cost, requeued statements mover c (without_inconsistent c.layers)))
+    by true = tt
+    by false = requeued_kept statements mover c (without_inconsistent c.layers) (left_orderly c.layers good) (left_sound c.layers good.tree) once apart
+
+-- where the top is consistent
+left_kept : (statements : List Statement) (mover : Option Ident) (cost : ℕ) (c : Configuration) → AreOrderly c.layers → is_once c.queue ≡ true → holds_of (is_among c.queue) mover ≡ false
+    → top_is_inconsistent c.layers ≡ false → IsKept statements (left_by (settled statements mover cost c))
+left_kept statements mover cost c good once apart e =
+    subst (λ (b : Bool). IsKept statements (left_by (if b then top_failed cost c else (Moved cost, requeued statements mover c (without_inconsistent c.layers))))) (sym e)
+    (requeued_kept statements mover c (without_inconsistent c.layers) (left_orderly c.layers good) (left_sound c.layers good.tree) once apart)
+
+-- Steps
+
+-- the thread was taken off a queue that has each once
+record IsOff (id : Ident) (queue : List Ident) : Type 0 where
+  once : is_once queue ≡ true
+  apart : is_among queue id ≡ false
+
+module _ (k : Kernel) (id : Ident) where
+  follows : (cost : ℕ) (c : Configuration) → AreOrderly c.layers → IsOff id c.queue → MovedKept k.statements (settled k.statements (Some id) cost c)
+  follows cost c good off = settled_kept k.statements (Some id) cost c good off.once off.apart
+
+  went_kept : (cost : ℕ) (layers : List Layer) (c : Configuration) → AreOrderly layers → IsOff id c.queue → MovedKept k.statements (went_on k.statements id cost layers c)
+  went_kept cost layers c good off = follows cost (record c { layers = in_layer id.space without_terminated layers }) (ended_orderly id.space layers good) off
+
+  end_is : (x : Ident) (b : Bool) (l : Layer) → ((if b then failed l else raised_by x l).space ≡ l.space) × ((if b then failed l else raised_by x l).next ≡ l.next)
+  end_is x true l = (refl, refl)
+  end_is x false l = (refl, refl)
+
+  end_numbered : (x : Ident) (b : Bool) (l : Layer) → IsNumbered (if b then failed l else raised_by x l)
+  end_numbered x true l = none_numbered (failed l) refl
+  end_numbered x false l = none_numbered (raised_by x l) refl
+
+  uncaught_kept : (x : Ident) (layers : List Layer) (c : Configuration) → AreOrderly layers → IsOff id c.queue → MovedKept k.statements (uncaught k.statements id x layers c)
+  uncaught_kept x layers c good off = by (is_top id.space)
+    where
+      by : (b : Bool)
+          → MovedKept k.statements (if b
+          then top_ended 1 x (without_inconsistent (in_layer id.space (λ l. without_terminated (with_frames id.number (λ frames. []) l)) layers)) c
+          else settled k.statements (Some id) 1 (record c { layers = ending id.space (ended_by (view layers id.space) x) layers }))
+      by true = tt
+      by false =
+          follows 1 (record c { layers = ending id.space (ended_by (view layers id.space) x) layers })
+          (end_orderly id.space (ended_by (view layers id.space) x) layers (λ l. end_is x (is_failure (view layers id.space) x) l) (λ l h. end_numbered x (is_failure (view layers id.space) x) l) good) off
+
+  raised_to_kept : (x : Ident) (frames : Option (List Frame)) (layers : List Layer) (c : Configuration) → AreOrderly layers → IsOff id c.queue
+      → MovedKept k.statements (raised_to k.statements id x frames layers c)
+  raised_to_kept x None layers c good off = uncaught_kept x layers c good off
+  raised_to_kept x (Some frames) layers c good off =
+      went_kept 1 (in_layer id.space (with_frames id.number (λ rest. frames)) layers) c
+      (edit_orderly id.space (with_frames id.number (λ rest. frames)) layers (frames_edit id.number (λ rest. frames)) good) off
+
+  raised_kept : (x : Ident) (layers : List Layer) (c : Configuration) → AreOrderly layers → IsOff id c.queue → MovedKept k.statements (raised k.statements id x layers c)
+  raised_kept x layers c good off = raised_to_kept x (unwound x (stack_of layers id)) layers c good off
+
+  kind_kept : (kind : RaiseKind) (layers : List Layer) (c : Configuration) → AreOrderly layers → IsOff id c.queue → MovedKept k.statements (raised_kind k.statements id kind layers c)
+  kind_kept kind layers c good off =
+      raised_kept (term_variable layers id.space) (with_raised kind id.space layers) c (edit_orderly id.space (with_term (raise_term kind)) layers (term_edit (raise_term kind)) good) off
+
+  told_kept : (ts : List Tell) (changes : List Change) (layers : List Layer) (c : Configuration) → AreOrderly layers → IsOff id c.queue → MovedKept k.statements (told k.statements id ts changes layers c)
+  told_kept ts changes layers c good off = by (is_consistent (view layers id.space ++ ts))
+    where
+      by : (b : Bool) → MovedKept k.statements (if b then went_on k.statements id 1 (done id ts changes layers) c else raised_kind k.statements id FailureTell layers c)
+      by true = went_kept 1 (done id ts changes layers) c (done_all_orderly id ts changes layers good) off
+      by false = kind_kept FailureTell layers c good off
+
+  effect_kept : (layers : List Layer) (c : Configuration) (effect : Effect) → AreOrderly layers → IsOff id c.queue → MovedKept k.statements (after_effect k id layers c effect)
+  effect_kept layers c (Makes changes) good off = went_kept 1 (changed_all id changes layers) c (changed_orderly id changes layers good) off
+  effect_kept layers c (Tells ts changes) good off = told_kept ts changes layers c good off
+  effect_kept layers c (ShowsText x) good off =
+      let printed : Printed = term_text k.words (view layers id.space) x in
+      went_kept (1 + printed.nodes) layers (record c { shown = c.shown ++ printed.bytes ∷ [] }) good off
+
+  answer_kept : (layers : List Layer) (c : Configuration) (answer : Answer) → AreOrderly layers → AreOrderly c.layers → IsOff id c.queue → MovedKept k.statements (after_answer k id layers c answer)
+  answer_kept layers c (Acts act) good first off = effect_kept layers c (act_effect (layer_of layers id.space) act) good off
+  answer_kept layers c (RaisesKind kind) good first off = kind_kept kind layers c good off
+  answer_kept layers c (RaisesTerm x) good first off = raised_kept x layers c good off
+  answer_kept layers c (Rests ready) good first off = follows 1 c first off
+
+  step_leaves : (c : Configuration) → AreOrderly c.layers → IsOff id c.queue → MovedKept k.statements (stepped k id c)
+  step_leaves c good off =
+      answer_kept (without_top id c.layers) c (stack_answer (sight k.statements c.layers id.space) (stack_of c.layers id)) (popped_orderly id c.layers good) good off
+
+head_leaves : (k : Kernel) (id : Ident) (queue : List Ident) (c : Configuration) → IsKept k.statements (record c { queue = id ∷ queue })
+    → MovedKept k.statements (stepped k id (record c { queue = queue }))
+head_leaves k id queue c kept =
+    step_leaves k id (record c { queue = queue }) (record { tree = kept.tree; top = kept.top; numbered = kept.numbered })
+    (record { once = and-right _ _ kept.once; apart = not_false _ (and-left _ _ kept.once) })
+
+pub kept_step : KeptStep
+kept_step k id queue c n d kept e = subst (MovedKept k.statements) e (head_leaves k id queue c kept)
+
+turn_leaves : (k : Kernel) (c : Configuration) (queue : List Ident) → IsKept k.statements (record c { queue = queue }) → MovedKept k.statements (turn_of k c queue)
+turn_leaves k c [] kept = tt
+turn_leaves k c (id ∷ queue) kept = head_leaves k id queue c kept
+
+pub kept_turn : KeptTurn
+kept_turn k c n d kept e = subst (MovedKept k.statements) e (turn_leaves k c c.queue kept)
+
+-- Where a program opens
+
+opening_numbered : (fs : List Frame) (l m : Layer) → l.threads ≡ [] → In m (spawning fs l ∷ []) → IsNumbered m
+opening_numbered fs l m e (inl q) = subst IsNumbered q (spawned_numbered fs l (none_numbered l e))
+opening_numbered fs l m e (inr h) = elim h [ ]
+
+opening_orderly : (k : Kernel) → AreOrderly (opening_layers k)
+opening_orderly k = record {
+  tree = opening_tree k;
+  top = refl;
+  numbered = λ l c. opening_numbered (frames_of opening_environment k.body) top_layer l refl (In-from_contains (opening_layers k) l c);
+}
+
+pub kept_opening : KeptOpening
+kept_opening k =
+    left_kept k.statements None 0 (record { layers = opening_layers k; queue = []; shown = [] }) (opening_orderly k) refl refl (sound_top (opening_layers k) (opening_sound k))
+
+-- Where the search begins
+
+module _ (parent : List ℕ) (procedure : Ident) (layers : List Layer) (sound : IsSound layers) where
+  abbrev made : List Layer
+  made = created parent procedure layers
+
+  abbrev new : Layer
+  new = starting procedure (new_layer (next_child (layer_of layers parent)))
+
+  not_top_child : (s : List ℕ) (n : ℕ) → is_top (child_name s n) ≡ false
+  not_top_child [] n = refl
+  not_top_child (a ∷ s) n = refl
+
+  new_not_top : is_top new.space ≡ false
+  new_not_top = not_top_child (layer_of layers parent).space (layer_of layers parent).next.child
+
+  seen : (m : Layer) → is_inconsistent made m ≡ is_inconsistent layers m
+  seen m = ap (λ (v : View). may_fail m.status && not (is_consistent v)) (creation_unseen layers parent m.space procedure)
+
+  grown_sound : (m : Layer) → In m (in_layer parent counting_child layers) → is_inconsistent layers m ≡ false
+  grown_sound m h = elim (in_edit (is_of parent) counting_child layers m h) [
+    | inl k ↦ sound m (contains-from_In layers m k)
+    | inr r ↦ (ap (is_inconsistent layers) r.2 ∙ sound r.0 (contains-from_In layers r.0 (found_in (is_of parent) counting_child layers r.0 r.1).0))
+  ]
+
+  pub created_top : top_is_inconsistent made ≡ false
+  created_top = elim (decide (top_is_inconsistent made)) [
+    | inl e ↦ (let l = some_of (λ (m : Layer). is_top m.space && is_inconsistent made m) made e in
+        let top = and-left (is_top l.0.space) (is_inconsistent made l.0) l.2 in
+        let bad = and-right (is_top l.0.space) (is_inconsistent made l.0) l.2 in
+        elim (in_put (λ (other : Layer). space_lt new.space other.space) new (in_layer parent counting_child layers) l.0 (In-from_contains made l.0 l.1)) [
+          | inl q ↦ absurd (not_both _ top (ap (λ (m : Layer). is_top m.space) q ∙ new_not_top))
+          | inr h ↦ absurd (not_both _ bad (seen l.0 ∙ grown_sound l.0 h))
+        ])
+    | inr e ↦ e
+  ]
+
+pub kept_root : KeptRoot
+kept_root statements procedure c kept =
+    left_kept statements None 1 (record c { layers = created [] procedure c.layers })
+    (created_orderly [] procedure c.layers kept.top (record { tree = kept.tree; top = kept.top; numbered = kept.numbered })) kept.once refl (created_top [] procedure c.layers kept.sound)
+
+-- Where it commits a space
+
+pub kept_chosen : KeptChosen
+kept_chosen statements space i c kept =
+    left_kept statements None 1 (record c { layers = committed statements space i c.layers })
+    (committed_orderly statements space i c.layers (record { tree = kept.tree; top = kept.top; numbered = kept.numbered })) kept.once refl
+    (sound_top (committed statements space i c.layers) (committed_sound statements space i c.layers kept.sound))

@@ -1,0 +1,5 @@
+pub mod NumberedLaws
+pub mod OrderlyLaws
+pub mod HeadLaws
+pub mod KeptLaws
+pub mod TellingLaws

@@ -1,0 +1,120 @@
+-- Edits that leave the threads of a layer in the order of their numbers.
+use Rattle.std.proofs.Common.{◌≡◌, inl, inr, ℕ, ◌<◌, Bool, true, false, not, cond, List, [], ◌∷◌, ◌++◌, refl, sym, ap, subst, arith, Contains, Option, Some, None, filter, map, is_some}
+use Rattle.std.proofs.lemmas.List.{map-append}
+use Rattle.oz_base.specs.Lists.{edit_first, is_empty}
+use Rattle.oz_semantics.specs.Configurations.{is_numbered, with_frames, spawning}
+use Rattle.oz_semantics.specs.Sights.{Sight, Offer, offer_of}
+use Rattle.oz_semantics.specs.Readiness.{thread_ready}
+use Rattle.oz_semantics.specs.Edits.{choosing, committing}
+use Rattle.oz_semantics.specs.declared.configuration.Frame.{Frame}
+use Rattle.oz_semantics.specs.declared.configuration.Thread.{Thread}
+use Rattle.oz_semantics.specs.declared.configuration.Layer.{Layer}
+use Rattle.oz_laws.proofs.SameLaws.{In, In-from_contains, contains-from_In}
+use Rattle.view_laws.specs.Steps.{IsRising, IsNumbered}
+use Rattle.view_laws.proofs.Members.{In-cases}
+use Rattle.view_laws.proofs.ListLaws.{filter_in, map_in, in_map}
+use Rattle.turn_laws.specs.Orderly.{KeepsNumbered, EditsNumbered}
+
+abbrev number_in : Thread → ℕ
+number_in t = t.number
+
+abbrev numbers : List Thread → List ℕ
+numbers ts = map number_in ts
+
+-- Rising numbers
+
+rising_one_more : (ms : List ℕ) (n : ℕ) → IsRising ms → ((m : ℕ) → In m ms → m < n) → IsRising (ms ++ n ∷ [])
+rising_one_more [] n h less = (λ m c. elim (In-from_contains [] m c) [ ], tt)
+rising_one_more (m ∷ ms) n h less = (
+  λ k c. elim (In-cases k ms (n ∷ []) (In-from_contains (ms ++ n ∷ []) k c)) [
+    | inl i ↦ h.0 k (contains-from_In ms k i)
+    | inr i ↦ elim i [ inl e ↦ subst (λ j. m < j) e (less m (inl refl)) | inr j ↦ elim j [ ] ]
+  ],
+  rising_one_more ms n h.1 (λ a i. less a (inr i)),
+)
+
+rising_filter : (p : Thread → Bool) (ts : List Thread) → IsRising (numbers ts) → IsRising (numbers (filter p ts))
+rising_filter p [] h = tt
+rising_filter p (t ∷ ts) h = by (p t) (rising_filter p ts h.1)
+  where
+    less : (n : ℕ) → Contains (numbers (filter p ts)) n → t.number < n
+    less n c =
+        let r = in_map number_in (filter p ts) n (In-from_contains (numbers (filter p ts)) n c) in
+        h.0 n (contains-from_In (numbers ts) n (subst (λ k. In k (numbers ts)) r.2 (map_in number_in ts r.0 (filter_in p ts r.0 r.1).0)))
+
+    by : (b : Bool) → IsRising (numbers (filter p ts)) → IsRising (numbers (cond b (t ∷ filter p ts) (filter p ts)))
+    by true k = (less, k)
+    by false k = k
+
+numbers_edited : (test : Thread → Bool) (change : Thread → Thread) → ((t : Thread) → (change t).number ≡ t.number) → (ts : List Thread) → numbers (edit_first test change ts) ≡ numbers ts
+numbers_edited test change h [] = refl
+numbers_edited test change h (t ∷ ts) = by (test t) (numbers_edited test change h ts)
+  where
+    by : (b : Bool) → numbers (edit_first test change ts) ≡ numbers ts → numbers (cond b (change t ∷ ts) (t ∷ edit_first test change ts)) ≡ t.number ∷ numbers ts
+    by true rest = ap (λ n. n ∷ numbers ts) (h t)
+    by false rest = ap (λ ns. t.number ∷ ns) rest
+
+-- Layers
+
+given_number : (l : Layer) → IsNumbered l → (n : ℕ) → In n (numbers l.threads) → n < l.next.thread
+given_number l h n i =
+    let r = in_map number_in l.threads n i in
+    subst (λ k. k < l.next.thread) r.2 (h.given r.0 (contains-from_In l.threads r.0 r.1))
+
+by_numbers : (l : Layer) → IsRising (numbers l.threads) → ((n : ℕ) → In n (numbers l.threads) → n < l.next.thread) → IsNumbered l
+by_numbers l rising given = record { rising = rising; given = λ t c. given t.number (map_in number_in l.threads t (In-from_contains l.threads t c)) }
+
+-- another list of threads of the same numbers
+same_numbers : (l : Layer) (ts : List Thread) → numbers ts ≡ numbers l.threads → IsNumbered l → IsNumbered (record l { threads = ts })
+same_numbers l ts e h = by_numbers (record l { threads = ts }) (subst IsRising (sym e) h.rising) (λ n i. given_number l h n (subst (In n) e i))
+
+-- no threads
+pub none_numbered : (l : Layer) → l.threads ≡ [] → IsNumbered l
+none_numbered l e = by_numbers l (subst (λ ts. IsRising (numbers ts)) (sym e) tt) (λ n i. elim (subst (λ ts. In n (numbers ts)) e i) [ ])
+
+frames_numbered : (number : ℕ) (change : List Frame → List Frame) → KeepsNumbered (with_frames number change)
+frames_numbered number change l h =
+    same_numbers l (edit_first (is_numbered number) (λ (t : Thread). record t { frames = change t.frames }) l.threads)
+    (numbers_edited (is_numbered number) (λ (t : Thread). record t { frames = change t.frames }) (λ t. refl) l.threads) h
+
+terminated_numbered : (l : Layer) → IsNumbered l → IsNumbered (record l { threads = filter (λ (t : Thread). not (is_empty t.frames)) l.threads })
+terminated_numbered l h = record {
+  rising = rising_filter (λ (t : Thread). not (is_empty t.frames)) l.threads h.rising;
+  given = λ t c.
+      h.given t
+      (contains-from_In l.threads t
+      (filter_in (λ (u : Thread). not (is_empty u.frames)) l.threads t (In-from_contains (filter (λ (u : Thread). not (is_empty u.frames)) l.threads) t c)).0);
+}
+
+pub spawned_numbered : (fs : List Frame) → KeepsNumbered (spawning fs)
+spawned_numbered fs l h =
+    let new : Thread = record { number = l.next.thread; frames = fs } in
+    let all : numbers (l.threads ++ new ∷ []) ≡ numbers l.threads ++ l.next.thread ∷ [] = map-append number_in l.threads (new ∷ []) in
+    by_numbers (spawning fs l) (subst IsRising (sym all) (rising_one_more (numbers l.threads) l.next.thread h.rising (given_number l h)))
+    (λ n i. elim (In-cases n (numbers l.threads) (l.next.thread ∷ []) (subst (In n) all i)) [
+      | inl k ↦ (let less = given_number l h n k in omega (arith, less))
+      | inr k ↦ elim k [ inl e ↦ omega (arith, e) | inr j ↦ elim j [ ] ]
+    ])
+
+chosen_number : (i : ℕ) (t : Thread) (o : Option Offer) → (choosing i t o).number ≡ t.number
+chosen_number i t None = refl
+chosen_number i t (Some offer) = refl
+
+choice_numbered : (s : Sight) (i : ℕ) → KeepsNumbered (committing s i)
+choice_numbered s i l h =
+    same_numbers l (edit_first (λ t. is_some (offer_of (thread_ready s t))) (λ t. choosing i t (offer_of (thread_ready s t))) l.threads)
+    (numbers_edited (λ t. is_some (offer_of (thread_ready s t))) (λ t. choosing i t (offer_of (thread_ready s t))) (λ t. chosen_number i t (offer_of (thread_ready s t))) l.threads) h
+
+pub edits_numbered : EditsNumbered
+edits_numbered = record {
+  frames = frames_numbered;
+  terminated = terminated_numbered;
+  tells = λ ts l h. record { rising = h.rising; given = h.given };
+  variables = λ n l h. record { rising = h.rising; given = h.given };
+  procedure = λ l h. record { rising = h.rising; given = h.given };
+  child = λ l h. record { rising = h.rising; given = h.given };
+  threads = spawned_numbered;
+  choice = choice_numbered;
+  failure = λ l h. none_numbered _ refl;
+  exception = λ x l h. none_numbered _ refl;
+}

@@ -1,0 +1,397 @@
+-- What a step that tells something makes of the queue, where no space is below the one that is told.
+use Rattle.std.proofs.Common.{◌≡◌, inl, inr, ℕ, Bool, true, false, not, ◌&&◌, if◌then◌else◌, cond, List, [], ◌∷◌, ◌++◌, refl, sym, ap, ap₂, subst, ◌∙◌, Contains, Option, Some, None, is_some, filter, map, flat_map}
+use Rattle.std.specs.List.{find}
+use Rattle.std.proofs.lemmas.Bool.{false≢true}
+use Rattle.std.proofs.lemmas.List.{append-nil}
+use Rattle.std.proofs.lemmas.List.Elements.{filter-append}
+use Rattle.oz_base.specs.Lists.{list_eq}
+use Rattle.oz_base.specs.declared.names.Ident.{Ident}
+use Rattle.oz_language.specs.declared.kernel.Statement.{Statement}
+use Rattle.oz_semantics.specs.Names.{is_below, is_properly_below, named}
+use Rattle.oz_semantics.specs.Store.{View, IsConsistent, is_consistent}
+use Rattle.oz_semantics.specs.Configurations.{is_of, layer_at, layer_of, is_open, view, in_layer, with_frames, without_terminated, telling, giving_out, counting_procedure, spawning}
+use Rattle.oz_semantics.specs.Sights.{Readiness, Steps, Waits, Offers, can_step}
+use Rattle.oz_semantics.specs.Readiness.{thread_ready}
+use Rattle.oz_semantics.specs.Spaces.{sight}
+use Rattle.oz_semantics.specs.Changes.{Change, GivesOut, CountsProcedure, Pushes, Spawns, changed_all, done}
+use Rattle.oz_semantics.specs.Settling.{Turned, may_fail, is_inconsistent, inconsistent_spaces, is_among, mover_in, queue_after, runnable_in, runnable, settled}
+use Rattle.oz_semantics.specs.Steps.{without_top}
+use Rattle.oz_semantics.specs.declared.value.Tell.{Tell}
+use Rattle.oz_semantics.specs.declared.configuration.Thread.{Thread}
+use Rattle.oz_semantics.specs.declared.configuration.Status.{Status}
+use Rattle.oz_semantics.specs.declared.configuration.Status.TheVariants as status
+use Rattle.oz_semantics.specs.declared.configuration.Layer.{Layer}
+use Rattle.oz_semantics.specs.declared.configuration.Configuration.{Configuration}
+use Rattle.oz_semantics.specs.declared.outcome.Stepped.TheVariants.{Moved}
+use Rattle.oz_laws.proofs.SameLaws.{In, In-from_contains, contains-from_In, In-flat, In-flat_back, and-right}
+use Rattle.oz_laws.proofs.StoreLaws.{tests_consistent}
+use Rattle.view_laws.specs.Readies.{Keeps, Stays, seeing}
+use Rattle.view_laws.specs.Trees.{is_ascending, names_of}
+use Rattle.view_laws.specs.Steps.{spawned_from, MadeOf, IsSound}
+use Rattle.view_laws.proofs.Members.{decide, not_both, In-left, In-cases}
+use Rattle.view_laws.proofs.ListLaws.{among_in, in_among, in_filter, filter_all, filter_none, map_in, in_edit, edit_in, edited_in, found_in}
+use Rattle.view_laws.proofs.NameLaws.{names_equal, equal_names, properly, properly_by}
+use Rattle.view_laws.proofs.SightLaws.{space_of, change_unseen, tell_seen}
+use Rattle.view_laws.proofs.TreeLaws.{one_of_name}
+use Rattle.view_laws.proofs.StayLaws.{readiness_stays}
+use Rattle.view_laws.proofs.QueueLaws.{mover_able, can_from, from_can, CanStep, queue_exact}
+use Rattle.view_laws.proofs.QuietLaws.{quiet_queue}
+use Rattle.view_laws.proofs.StepLaws.{changes_made}
+use Rattle.view_laws.proofs.NumberLaws.{step_new}
+use Rattle.view_laws.proofs.SettleLaws.{quiet_sound}
+use Rattle.settle_laws.proofs.EditLaws.{edits_join, edits_agree, are_quiet, quiet_view, pop_view}
+use Rattle.settle_laws.proofs.ListEdits.{is_found_edit}
+use Rattle.settle_laws.proofs.SettleLaws.{settled_by}
+use Rattle.settle_laws.proofs.SoundLaws.{sound_settles}
+use Rattle.settle_laws.proofs.TellLaws.{tell_below}
+use Rattle.turn_laws.specs.Orderly.{AreOrderly}
+use Rattle.turn_laws.specs.Kept.{IsKept}
+use Rattle.turn_laws.specs.Telling.{IsAlone, others_of, staying, TellQueue}
+use Rattle.turn_laws.proofs.OrderlyLaws.{changes_orderly, edit_orderly, tells_edit, is_there}
+use Rattle.turn_laws.proofs.HeadLaws.{kept_head, head_numbered}
+
+-- A tell may come after the changes
+
+swap_edits : (space : List ℕ) (f g : Layer → Layer) (layers : List Layer) → ((l : Layer) → (f l).space ≡ l.space) → ((l : Layer) → (g l).space ≡ l.space) → ((l : Layer) → f (g l) ≡ g (f l))
+    → in_layer space f (in_layer space g layers) ≡ in_layer space g (in_layer space f layers)
+swap_edits space f g layers named_f named_g swap =
+    edits_join space f g layers named_g ∙ edits_agree space (λ l. f (g l)) (λ l. g (f l)) layers (λ l e. swap l) ∙ sym (edits_join space g f layers named_f)
+
+changes_first : (id : Ident) (ts : List Tell) (changes : List Change) (layers : List Layer)
+    → changed_all id changes (in_layer id.space (telling ts) layers) ≡ in_layer id.space (telling ts) (changed_all id changes layers)
+changes_first id ts [] layers = refl
+changes_first id ts (GivesOut n ∷ changes) layers =
+    ap (changed_all id changes) (swap_edits id.space (giving_out n) (telling ts) layers (λ l. refl) (λ l. refl) (λ l. refl)) ∙ changes_first id ts changes (in_layer id.space (giving_out n) layers)
+changes_first id ts (CountsProcedure ∷ changes) layers =
+    ap (changed_all id changes) (swap_edits id.space counting_procedure (telling ts) layers (λ l. refl) (λ l. refl) (λ l. refl)) ∙ changes_first id ts changes (in_layer id.space counting_procedure layers)
+changes_first id ts (Pushes frames ∷ changes) layers =
+    ap (changed_all id changes) (swap_edits id.space (with_frames id.number (λ rest. frames ++ rest)) (telling ts) layers (λ l. refl) (λ l. refl) (λ l. refl))
+    ∙ changes_first id ts changes (in_layer id.space (with_frames id.number (λ rest. frames ++ rest)) layers)
+changes_first id ts (Spawns frames ∷ changes) layers =
+    ap (changed_all id changes) (swap_edits id.space (spawning frames) (telling ts) layers (λ l. refl) (λ l. refl) (λ l. refl)) ∙ changes_first id ts changes (in_layer id.space (spawning frames) layers)
+
+told_last : (id : Ident) (ts : List Tell) (changes : List Change) (layers : List Layer)
+    → in_layer id.space without_terminated (done id ts changes layers) ≡ in_layer id.space (telling ts) (in_layer id.space without_terminated (changed_all id changes layers))
+told_last id ts changes layers =
+    ap (in_layer id.space without_terminated) (changes_first id ts changes layers)
+    ∙ swap_edits id.space without_terminated (telling ts) (changed_all id changes layers) (λ l. refl) (λ l. refl) (λ l. refl)
+
+-- the changes are not seen
+changes_view : (id : Ident) (changes : List Change) (layers : List Layer) (other : List ℕ) → view (changed_all id changes layers) other ≡ view layers other
+changes_view id [] layers other = refl
+changes_view id (GivesOut n ∷ changes) layers other =
+    changes_view id changes (in_layer id.space (giving_out n) layers) other ∙ quiet_view (giving_out n) layers id.space other (are_quiet.variables n)
+changes_view id (CountsProcedure ∷ changes) layers other =
+    changes_view id changes (in_layer id.space counting_procedure layers) other ∙ quiet_view counting_procedure layers id.space other are_quiet.procedure
+changes_view id (Pushes frames ∷ changes) layers other =
+    changes_view id changes (in_layer id.space (with_frames id.number (λ rest. frames ++ rest)) layers) other
+    ∙ quiet_view (with_frames id.number (λ rest. frames ++ rest)) layers id.space other (are_quiet.frames id.number (λ rest. frames ++ rest))
+changes_view id (Spawns frames ∷ changes) layers other =
+    changes_view id changes (in_layer id.space (spawning frames) layers) other ∙ quiet_view (spawning frames) layers id.space other (are_quiet.threads frames)
+
+-- A space with none below it is told what is consistent
+
+-- names of spaces that are not the one, and not below it
+apart_below : (space other : List ℕ) → is_properly_below space other ≡ false → (other ≡ space → ⊥) → is_below space other ≡ false
+apart_below space other e n = elim (decide (is_below space other)) [
+  | inl k ↦ absurd (not_both _ (properly_by space other k (λ q. n (sym q))) e)
+  | inr k ↦ k
+]
+
+not_below_itself : (space : List ℕ) → is_properly_below space space ≡ false
+not_below_itself space = elim (decide (is_properly_below space space)) [
+  | inl k ↦ absurd ((properly space space k).1 refl)
+  | inr k ↦ k
+]
+
+open_may_fail : (s : Status) → is_open s ≡ true → may_fail s ≡ true
+open_may_fail status.Open e = refl
+open_may_fail status.Failed e = absurd (false≢true e)
+open_may_fail (status.Raised x) e = refl
+
+not_not : (b : Bool) → not b ≡ false → b ≡ true
+not_not true e = refl
+not_not false e = sym e
+
+-- an open layer of sound layers sees what is consistent
+open_consistent : (layers : List Layer) (l : Layer) → IsSound layers → In l layers → is_open l.status ≡ true → IsConsistent (view layers l.space)
+open_consistent layers l sound h opened =
+    let fits : (true && not (is_consistent (view layers l.space))) ≡ false =
+    ap (λ b. b && not (is_consistent (view layers l.space))) (sym (open_may_fail l.status opened)) ∙ sound l (contains-from_In layers l h) in
+    (tests_consistent (view layers l.space)).0 (not_not _ fits)
+
+-- what can step can step still
+stays_step : (before after : List Tell) (r q : Readiness) → can_step r ≡ true → Stays before after r q → can_step q ≡ true
+stays_step before after Steps q e h = ap can_step h
+stays_step before after (Waits xs) q e h = absurd (false≢true e)
+stays_step before after (Offers offer xs) q e h = absurd (false≢true e)
+
+module _ (space : List ℕ) (ts : List Tell) (old : List Layer) (sound : IsSound old) (at : is_some (layer_at old space) ≡ true) (alone : IsAlone old space)
+    (fits : is_consistent (view old space ++ ts) ≡ true) where
+  abbrev pub new : List Layer
+  new = in_layer space (telling ts) old
+
+  alone_later : (l : Layer) → In l new → is_properly_below space l.space ≡ false
+  alone_later l h = elim (in_edit (is_of space) (telling ts) old l h) [
+    | inl k ↦ alone l (contains-from_In old l k)
+    | inr r ↦ (ap (λ (m : Layer). is_properly_below space m.space) r.2 ∙ alone r.0 (contains-from_In old r.0 (found_in (is_of space) (telling ts) old r.0 r.1).0))
+  ]
+
+  -- no space sees what is inconsistent
+  pub sound_later : IsSound new
+  sound_later l c = elim (decide (is_inconsistent new l)) [
+    | inl e ↦ (let h = In-from_contains new l c in
+        let there : In l.space (inconsistent_spaces new) =
+        map_in (λ (m : Layer). m.space) (filter (is_inconsistent new) new) l (in_filter (is_inconsistent new) new l h e) in
+        absurd (not_both _ (tell_below space ts old (layer_of old space) sound (is_there old space at) fits l.space (contains-from_In (inconsistent_spaces new) l.space there)) (alone_later l h)))
+    | inr e ↦ e
+  ]
+
+  all_seen : (other : List ℕ) → Keeps (view old other) (view new other)
+  all_seen other = elim (decide (is_below space other)) [
+    | inl e ↦ (tell_seen (telling ts) old space other ts (λ l k. refl) (λ l k. refl) at e).kept
+    | inr e ↦ λ t c. subst (λ (v : View). Contains v t) (sym (change_unseen (telling ts) old space other (λ l k. refl) e)) c
+  ]
+
+  -- by a layer of the same space, open too, among the later ones
+  ready_later : (statements : List Statement) (m : Layer) (t : Thread) → In m new → is_open m.status ≡ true → can_step (thread_ready (sight statements old m.space) t) ≡ true
+      → can_step (thread_ready (sight statements new m.space) t) ≡ true
+  ready_later statements m t h opened e =
+      stays_step (view old m.space) (view new m.space) (thread_ready (seeing statements m.space (view old m.space)) t) (thread_ready (seeing statements m.space (view new m.space)) t) e
+      (readiness_stays statements m.space (view old m.space) (view new m.space) t (all_seen m.space) (open_consistent new m sound_later h opened))
+
+  can_later : (statements : List Statement) (l m : Layer) (id : Ident) → In m new → m.space ≡ l.space → m.status ≡ l.status → m.threads ≡ l.threads → CanStep statements old l id → CanStep statements new m id
+  can_later statements l m id h space_is status_is threads_is c =
+      let opened : is_open m.status ≡ true = ap is_open status_is ∙ c.opened in
+      record {
+        opened = opened;
+        thread = c.thread;
+        among = subst (In c.thread) (sym threads_is) c.among;
+        ready = ready_later statements m c.thread h opened (ap (λ s. can_step (thread_ready (sight statements old s) c.thread)) space_is ∙ c.ready);
+        name = ap (λ s. named s c.thread.number) space_is ∙ c.name;
+      }
+
+  -- what could step can step still
+  pub runs_later : (statements : List Statement) (id : Ident) → In id (runnable statements old) → In id (runnable statements new)
+  runs_later statements id h =
+      let l = In-flat_back (runnable_in statements old) id old h in
+      let c = can_from statements old l.0 id l.2 in
+      elim (edit_in (is_of space) (telling ts) old l.0 l.1) [
+        | inl k ↦ In-flat (runnable_in statements new) l.0 id new k (from_can statements new l.0 id (can_later statements l.0 l.0 id k refl refl refl c))
+        | inr e ↦ (let there : In (telling ts l.0) new = edited_in (is_of space) (telling ts) old l.0 e in
+            In-flat (runnable_in statements new) (telling ts l.0) id new there (from_can statements new (telling ts l.0) id (can_later statements l.0 (telling ts l.0) id there refl refl refl c)))
+      ]
+
+  -- and of a layer of another space just that could step
+  pub other_ran : (statements : List Statement) (l : Layer) (id : Ident) → In l new → is_of space l ≡ false → In id (runnable_in statements new l) → In id (runnable statements old)
+  other_ran statements l id h apart i = elim (in_edit (is_of space) (telling ts) old l h) [
+    | inl k ↦ (let n : l.space ≡ space → ⊥ = λ q. not_both _ (subst (λ s. list_eq s space ≡ true) (sym q) (names_equal space)) apart in
+        let unseen : view new l.space ≡ view old l.space = change_unseen (telling ts) old space l.space (λ m e. refl) (apart_below space l.space (alone_later l h) n) in
+        let same : runnable_in statements new l ≡ runnable_in statements old l =
+        ap (λ (v : View). if is_open l.status then map (λ (t : Thread). named l.space t.number) (filter (λ t. can_step (thread_ready (seeing statements l.space v) t)) l.threads) else []) unseen in
+        In-flat (runnable_in statements old) l id old k (subst (In id) same i))
+    | inr r ↦ (let own : is_of space r.0 ≡ true = (found_in (is_of space) (telling ts) old r.0 r.1).1 in
+        absurd (not_both _ (ap (is_of space) r.2 ∙ own) apart))
+  ]
+
+-- Lists of the threads of all layers
+
+-- those of one layer, where there is one
+abbrev own_of : (Layer → List Ident) → Option Layer → List Ident
+own_of able None = []
+own_of able (Some l) = able l
+
+module _ (able : Layer → List Ident) (comes : Ident → Bool) (space : List ℕ) where
+  none_come : (ls : List Layer) → ((l : Layer) → In l ls → filter comes (able l) ≡ []) → filter comes (flat_map able ls) ≡ []
+  none_come [] h = refl
+  none_come (l ∷ ls) h = filter-append comes (able l) (flat_map able ls) ∙ ap₂ (λ (xs ys : List Ident). xs ++ ys) (h l (inl refl)) (none_come ls (λ m i. h m (inr i)))
+
+  -- of which none of another space comes
+  own_come : (ls : List Layer) → is_ascending (names_of ls) ≡ true → ((l : Layer) → In l ls → is_of space l ≡ false → filter comes (able l) ≡ [])
+      → filter comes (flat_map able ls) ≡ filter comes (own_of able (layer_at ls space))
+  own_come [] e h = refl
+  own_come (l ∷ ls) e h = filter-append comes (able l) (flat_map able ls) ∙ by (is_of space l) refl (own_come ls (and-right _ _ e) (λ m i. h m (inr i)))
+    where
+      later : is_of space l ≡ true → (m : Layer) → In m ls → is_of space m ≡ false
+      later k m i = elim (decide (is_of space m)) [
+        | inl q ↦ absurd (one_of_name l ls m e i (equal_names m.space space q ∙ sym (equal_names l.space space k)))
+        | inr q ↦ q
+      ]
+
+      by : (b : Bool) → is_of space l ≡ b → filter comes (flat_map able ls) ≡ filter comes (own_of able (layer_at ls space))
+          → filter comes (able l) ++ filter comes (flat_map able ls) ≡ filter comes (own_of able (cond b (Some l) (layer_at ls space)))
+      by true k rest = ap (λ (ys : List Ident). filter comes (able l) ++ ys) (none_come ls (λ m i. h m (inr i) (later k m i))) ∙ append-nil (filter comes (able l))
+      by false k rest = ap (λ (xs : List Ident). xs ++ filter comes (flat_map able ls)) (h l (inl refl) k) ∙ rest
+
+-- The step
+
+module _ (statements : List Statement) (c : Configuration) (id : Ident) (queue : List Ident) (ts : List Tell) (changes : List Change) (kept : IsKept statements (record c { queue = id ∷ queue }))
+    (alone : IsAlone c.layers id.space) (fits : is_consistent (view c.layers id.space ++ ts) ≡ true) where
+  abbrev before : Layer
+  before = layer_of c.layers id.space
+
+  abbrev news : List Thread
+  news = spawned_from before.next.thread changes
+
+  -- the layers but for what is told
+  abbrev quiet : List Layer
+  quiet = in_layer id.space without_terminated (changed_all id changes (without_top id c.layers))
+
+  abbrev told : List Layer
+  told = in_layer id.space (telling ts) quiet
+
+  at : layer_at c.layers id.space ≡ Some before
+  at = (kept_head statements id queue c kept).layer
+
+  made : MadeOf id c.layers quiet before news
+  made = changes_made id changes c.layers before at (kept_head statements id queue c kept).thread
+
+  quiet_orderly : AreOrderly quiet
+  quiet_orderly = changes_orderly id changes c.layers (record { tree = kept.tree; top = kept.top; numbered = kept.numbered })
+
+  still_sound : IsSound quiet
+  still_sound = subst IsSound (sym made.left) (quiet_sound c.layers id before made.after news at made.steps kept.sound)
+
+  after_name : made.after.space ≡ id.space
+  after_name = made.steps.space ∙ space_of c.layers id.space before at
+
+  still_there : is_some (layer_at quiet id.space) ≡ true
+  still_there = subst (λ (ls : List Layer). is_some (layer_at ls id.space) ≡ true) (sym made.left) (edited_there c.layers at)
+    where
+      -- a layer of the name in the place of another
+      edited_there : (ls : List Layer) → layer_at ls id.space ≡ Some before → is_some (layer_at (in_layer id.space (λ l. made.after) ls) id.space) ≡ true
+      edited_there [] e = cc
+      edited_there (l ∷ ls) e = by (is_of id.space l) refl e (edited_there ls)
+        where
+          by : (b : Bool) → is_of id.space l ≡ b → cond b (Some l) (find (is_of id.space) ls) ≡ Some before
+              → (layer_at ls id.space ≡ Some before → is_some (layer_at (in_layer id.space (λ m. made.after) ls) id.space) ≡ true)
+              → is_some (find (is_of id.space) (cond b (made.after ∷ ls) (l ∷ in_layer id.space (λ m. made.after) ls))) ≡ true
+          by true k f rest = ap (λ (b : Bool). is_some (cond b (Some made.after) (find (is_of id.space) ls))) (ap (λ s. list_eq s id.space) after_name ∙ names_equal id.space)
+          by false k f rest = ap (λ (b : Bool). is_some (cond b (Some l) (find (is_of id.space) (in_layer id.space (λ m. made.after) ls)))) k ∙ rest f
+
+  still_alone : IsAlone quiet id.space
+  still_alone l h = elim (in_edit (is_of id.space) (λ m. made.after) c.layers l (subst (In l) made.left (In-from_contains quiet l h))) [
+    | inl k ↦ alone l (contains-from_In c.layers l k)
+    | inr r ↦ (ap (λ (m : Layer). is_properly_below id.space m.space) r.2 ∙ ap (is_properly_below id.space) after_name ∙ not_below_itself id.space)
+  ]
+
+  still_fits : is_consistent (view quiet id.space ++ ts) ≡ true
+  still_fits =
+      ap (λ (v : View). is_consistent (v ++ ts))
+      (quiet_view without_terminated (changed_all id changes (without_top id c.layers)) id.space id.space are_quiet.terminated
+      ∙ changes_view id changes (without_top id c.layers) id.space ∙ pop_view id c.layers id.space)
+      ∙ fits
+
+  told_sound : IsSound told
+  told_sound = sound_later id.space ts quiet still_sound still_there still_alone still_fits
+
+  told_orderly : AreOrderly told
+  told_orderly = edit_orderly id.space (telling ts) quiet (tells_edit ts) quiet_orderly
+
+  -- What can step where nothing is told
+
+  abbrev went : List Ident
+  went = queue ++ mover_in (Some id) (runnable statements quiet) ++ runnable_in statements quiet (record made.after { threads = news })
+
+  went_exact : (o : Ident) → is_among went o ≡ is_among (runnable statements quiet) o
+  went_exact o =
+      ap (λ (q : List Ident). is_among q o) (sym after_quiet) ∙ queue_exact (runnable statements quiet) (Some id) queue o
+    where
+      after_quiet : queue_after (runnable statements quiet) (Some id) queue ≡ went
+      after_quiet =
+          subst (λ (ls : List Layer). queue_after (runnable statements ls) (Some id) queue
+          ≡ queue ++ mover_in (Some id) (runnable statements ls) ++ runnable_in statements ls (record made.after { threads = news })) (sym made.left)
+          (quiet_queue statements c.layers id queue before made.after news at made.steps kept.exact kept.once
+          (step_new statements changes c.layers id.space (id ∷ queue) before kept.tree.ordered at (head_numbered statements id queue c kept) kept.exact))
+
+  abbrev able_mover : List Ident
+  able_mover = mover_in (Some id) (runnable statements quiet)
+
+  abbrev able_news : List Ident
+  able_news = runnable_in statements quiet (record made.after { threads = news })
+
+  queue_ran : (o : Ident) → In o queue → In o (runnable statements quiet)
+  queue_ran o h =
+      among_in (runnable statements quiet) o
+      (sym (went_exact o) ∙ in_among went o (In-left o (queue ++ able_mover) able_news (In-left o queue able_mover h)))
+
+  not_mover : (o : Ident) → (o.space ≡ id.space → ⊥) → In o able_mover → ⊥
+  not_mover o n h =
+      let same : ◌≡◌ {A = Option Ident} (Some id) (Some o) = (mover_able (Some id) (runnable statements quiet) o h).1 in
+      let is : id ≡ o = cc in
+      n (ap (λ (i : Ident). i.space) (sym is))
+
+  not_new : (o : Ident) → (o.space ≡ id.space → ⊥) → In o able_news → ⊥
+  not_new o n h = let r = can_from statements quiet (record made.after { threads = news }) o h in n (ap (λ (i : Ident). i.space) (sym r.name) ∙ after_name)
+
+  -- what can step of another space stood in the queue
+  others_queued : (o : Ident) → (o.space ≡ id.space → ⊥) → In o (runnable statements quiet) → In o queue
+  others_queued o n h = elim (In-cases o (queue ++ able_mover) able_news (among_in went o (went_exact o ∙ in_among (runnable statements quiet) o h))) [
+    | inl k ↦ elim (In-cases o queue able_mover k) [ inl m ↦ m | inr m ↦ absurd (not_mover o n m) ]
+    | inr k ↦ absurd (not_new o n k)
+  ]
+
+  -- What can step now
+
+  abbrev ids : List Ident
+  ids = runnable statements told
+
+  abbrev stay : List Ident
+  stay = staying statements told id queue
+
+  abbrev comes : Ident → Bool
+  comes o = not (is_among stay o)
+
+  rest_stays : filter (is_among ids) queue ≡ queue
+  rest_stays =
+      filter_all (is_among ids) queue
+      (λ o h. in_among ids o (runs_later id.space ts quiet still_sound still_there still_alone still_fits statements o (queue_ran o h)))
+
+  others_stay : (l : Layer) → In l told → is_of id.space l ≡ false → filter comes (runnable_in statements told l) ≡ []
+  others_stay l h apart =
+      filter_none comes (runnable_in statements told l) (λ o i.
+      let r = can_from statements told l o i in
+      let n : o.space ≡ id.space → ⊥ =
+      λ q. not_both _ (subst (λ s. list_eq s id.space ≡ true) (sym (ap (λ (x : Ident). x.space) r.name ∙ q)) (names_equal id.space)) apart in
+      let held : In o queue =
+      others_queued o n (other_ran id.space ts quiet still_sound still_there still_alone still_fits statements l o h apart i) in
+      ap not (in_among stay o (In-left o queue (mover_in (Some id) ids) held)))
+
+  told_there : layer_at told id.space ≡ Some (layer_of told id.space)
+  told_there = is_there told id.space (quiet_there_told quiet still_there)
+    where
+      quiet_there_told : (ls : List Layer) → is_some (layer_at ls id.space) ≡ true → is_some (layer_at (in_layer id.space (telling ts) ls) id.space) ≡ true
+      quiet_there_told ls e = is_found_edit (is_of id.space) (is_of id.space) (telling ts) (λ l. refl) ls ∙ e
+
+  own_comes : filter comes ids ≡ others_of stay (runnable_in statements told (layer_of told id.space))
+  own_comes =
+      own_come (runnable_in statements told) comes id.space told told_orderly.tree.ordered others_stay
+      ∙ ap (λ (o : Option Layer). filter comes (own_of (runnable_in statements told) o)) told_there
+
+  queued : queue_after ids (Some id) queue ≡ stay ++ others_of stay (runnable_in statements told (layer_of told id.space))
+  queued =
+      ap (λ (q : List Ident). (q ++ mover_in (Some id) ids) ++ filter (λ o. not (is_among (q ++ mover_in (Some id) ids) o)) ids) rest_stays
+      ∙ ap (λ (q : List Ident). stay ++ q) own_comes
+
+  pub tells_all : (cost : ℕ)
+      → ◌≡◌ {A = Turned} (settled statements (Some id) cost (record c { layers = told; queue = queue })) (
+        Moved cost,
+        record c { layers = told; queue = stay ++ others_of stay (runnable_in statements told (layer_of told id.space)) },
+      )
+  tells_all cost =
+      settled_by statements (Some id) cost id.space told told queue c.shown (sound_settles id.space told told_sound)
+      ∙ ap (λ (q : List Ident). (Moved cost, record c { layers = told; queue = q })) queued
+
+pub tell_queue : TellQueue
+tell_queue statements c id queue ts changes cost kept alone fits layers e =
+    let all = tells_all statements c id queue ts changes kept alone fits cost in
+    let same = told_last id ts changes (without_top id c.layers) in
+    ap (λ (ls : List Layer). settled statements (Some id) cost (record c { layers = ls; queue = queue })) same
+    ∙ subst (λ (ls : List Layer). ◌≡◌ {A = Turned}
+    (settled statements (Some id) cost (record c { layers = in_layer id.space (telling ts) (in_layer id.space without_terminated (changed_all id changes (without_top id c.layers))); queue = queue })) (
+      Moved cost,
+      record c {
+        layers = ls;
+        queue = staying statements ls id queue ++ others_of (staying statements ls id queue) (runnable_in statements ls (layer_of ls id.space));
+      },
+    )) (sym (e ∙ same)) all

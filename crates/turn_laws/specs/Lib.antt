@@ -1,0 +1,3 @@
+pub mod Orderly
+pub mod Kept
+pub mod Telling
