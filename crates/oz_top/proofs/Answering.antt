@@ -286,10 +286,54 @@ whole_written (Some xs) (Some ys) before reply o h = let k : xs ≡ before = cc 
 
 -- The top
 
+-- the budget does not suffice for it
+over_top : (k : Kernel) (rest : Configuration → ℕ → Answer) (budget : ℕ) (m : Loaded) → IsRun m [] budget (run k [] (opening k) budget) ran.OutOfFuel
+    → spent (shown_lines m.config) budget ≡ answer_of_top k rest budget (run k [] (opening k) budget)
+over_top k rest budget m r = ap (answer_of_top k rest budget) (sym r)
+
+-- an exception ends it
+raised_top : (k : Kernel) (rest : Configuration → ℕ → Answer) (budget steps : ℕ) (m : Loaded) (x : Ident) → m.kernel ≡ k → IsRun m [] budget (run k [] (opening k) budget) (ran.TopEnded x steps)
+    → answer_of_raise (shown_lines m.config) budget (budget - steps) (term_text m.kernel.words (view m.config.layers []) x) ≡ answer_of_top k rest budget (run k [] (opening k) budget)
+raised_top k rest budget steps m x e r =
+    ap (λ (q : Kernel). answer_of_raise (shown_lines m.config) budget (budget - steps) (term_text q.words (view m.config.layers []) x)) e
+    ∙ ap (answer_of_top k rest budget) (sym r.1)
+
+-- it comes to rest
+ended_top : (k : Kernel) (rest : Configuration → ℕ → Answer) (budget steps : ℕ) (m : Loaded) (s : Option State) → IsRun m [] budget (run k [] (opening k) budget) (ran.Ended s steps)
+    → rest m.config (budget - steps) ≡ answer_of_top k rest budget (run k [] (opening k) budget)
+ended_top k rest budget steps m s r = ap (answer_of_top k rest budget) (sym r.1)
+
+-- what `all` answers then
+pub all_over : (k : Kernel) (budget : ℕ) (m : Loaded) → IsRun m [] budget (run k [] (opening k) budget) ran.OutOfFuel → spent (shown_lines m.config) budget ≡ all_answer k budget
+unfolding all_answer
+all_over k budget m r = over_top k (searched k budget) budget m r
+
+pub all_raised : (k : Kernel) (budget steps : ℕ) (m : Loaded) (x : Ident) → m.kernel ≡ k → IsRun m [] budget (run k [] (opening k) budget) (ran.TopEnded x steps)
+    → answer_of_raise (shown_lines m.config) budget (budget - steps) (term_text m.kernel.words (view m.config.layers []) x) ≡ all_answer k budget
+unfolding all_answer
+all_raised k budget steps m x e r = raised_top k (searched k budget) budget steps m x e r
+
 pub all_ended : (k : Kernel) (budget steps : ℕ) (m : Loaded) (s : Option State) → m.kernel ≡ k → IsRun m [] budget (run k [] (opening k) budget) (ran.Ended s steps)
     → searched m.kernel budget m.config (budget - steps) ≡ all_answer k budget
 unfolding all_answer
-all_ended k budget steps m s e r = ap (λ (x : Kernel). searched x budget m.config (budget - steps)) e ∙ ap (answer_of_top k (searched k budget) budget) (sym r.1)
+all_ended k budget steps m s e r = ap (λ (x : Kernel). searched x budget m.config (budget - steps)) e ∙ ended_top k (searched k budget) budget steps m s r
+
+-- and `run`
+abbrev shown_alone : Configuration → ℕ → Answer
+shown_alone c left = (causes.Done, shown_lines c)
+
+pub run_over : (k : Kernel) (budget : ℕ) (m : Loaded) → IsRun m [] budget (run k [] (opening k) budget) ran.OutOfFuel → spent (shown_lines m.config) budget ≡ run_answer k budget
+unfolding run_answer
+run_over k budget m r = over_top k shown_alone budget m r
+
+pub run_raised : (k : Kernel) (budget steps : ℕ) (m : Loaded) (x : Ident) → m.kernel ≡ k → IsRun m [] budget (run k [] (opening k) budget) (ran.TopEnded x steps)
+    → answer_of_raise (shown_lines m.config) budget (budget - steps) (term_text m.kernel.words (view m.config.layers []) x) ≡ run_answer k budget
+unfolding run_answer
+run_raised k budget steps m x e r = raised_top k shown_alone budget steps m x e r
+
+pub run_ended : (k : Kernel) (budget steps : ℕ) (m : Loaded) (s : Option State) → IsRun m [] budget (run k [] (opening k) budget) (ran.Ended s steps) → ◌≡◌ {A = Answer} (causes.Done, shown_lines m.config) (run_answer k budget)
+unfolding run_answer
+run_ended k budget steps m s r = ended_top k shown_alone budget steps m s r
 
 -- the tree of the script is searched
 pub script_searched : (m : Loaded) (budget left : ℕ) (x : Ident) → IsScript m (Some x)

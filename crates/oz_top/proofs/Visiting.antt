@@ -1,5 +1,5 @@
 -- What a visit of one node finds.
-use Rattle.std.proofs.Common.{◌≡◌, ◌≢◌, ℕ, zero, suc, ◌+◌, ◌-◌, ◌<◌, ◌≤◌, nat_le, Bool, true, false, if◌then◌else◌, List, [], ◌∷◌, ◌++◌, Option, Some, None, map, refl, sym, subst, ap, arith, ◌∙◌}
+use Rattle.std.proofs.Common.{◌≡◌, ◌≢◌, ℕ, zero, suc, ◌+◌, ◌-◌, ◌<◌, ◌≤◌, nat_le, Bool, true, false, if◌then◌else◌, List, ◌++◌, Option, Some, None, refl, sym, subst, ap, arith, ◌∙◌}
 use Rattle.oz_language.specs.declared.kernel.Kernel.{Kernel}
 use Rattle.oz_search.specs.Trees.{Found, in_steps, report}
 use Rattle.oz_search.specs.Nodes.{Reached}
@@ -10,7 +10,7 @@ use Rattle.oz_search.specs.declared.tree.Kind.TheVariants as kinds
 use Rattle.search_law.specs.NodeLaw.{leaves_alone}
 use Rattle.oz_semantics.specs.Spaces.{state}
 use Rattle.oz_semantics.specs.Runs as runs
-use Rattle.oz_semantics.specs.Search.{node_with, node_of_kind, node_in_state, node_of_run, node_at, kind_of, state_text, script_variable, with_root, search_space, script_found}
+use Rattle.oz_semantics.specs.Search.{node_in_state, node_of_run, node_at, kind_of, state_text, script_variable, with_root, search_space, script_found}
 use Rattle.oz_semantics.specs.declared.configuration.Configuration.{Configuration}
 use Rattle.oz_semantics.specs.declared.outcome.State.{State}
 use Rattle.oz_semantics.specs.declared.outcome.State.TheVariants as states

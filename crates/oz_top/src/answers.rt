@@ -49,6 +49,14 @@ fn spent(alloc: Global, mut reply: Vec<u8>, budget: u64) -> Result<Plan, AllocEr
     })
 }
 
+/// The budget did not suffice for the top.
+fn out_of_fuel(alloc: Global, machine: &Machine, budget: u64) -> Result<Plan, AllocError>
+    ensures { IfOk result (λ plan. (plan.cause, plan.reply.items) ≡ spent (shown_lines machine.now.config) budget) }
+{
+    let reply = shown_lines(alloc, machine)?;
+    spent(alloc, reply, budget)
+}
+
 /// Adds the line of an exception of the top.
 fn add_raised(text: &[u8], out: &mut Vec<u8>) -> Result<(), AllocError>
     ensures { OnOk result (out.new.items ≡ out.old.items ++ codes "raised " ++ text.now ++ codes "\n") }
@@ -155,7 +163,6 @@ fn run_top(alloc: Global, kernel: Kernel, budget: u64) -> Result<(Machine, Ran),
 }
 
 /// What `all` answers for a kernel.
-#[tactic(auto, unfolding(oz_replies::specs::Replies::all_answer))]
 fn all_answer<G: Gate>(
     alloc: Global,
     kernel: Kernel,
@@ -166,23 +173,32 @@ fn all_answer<G: Gate>(
 {
     let (machine, ran) = run_top(alloc, kernel, budget)?;
     match ran {
-        Ran::OutOfFuel => spent(alloc, shown_lines(alloc, &machine)?, budget),
-        Ran::TopEnded { exception, steps } =>
-            raised(alloc, &machine, &exception, budget, budget - steps),
+        Ran::OutOfFuel => out_of_fuel(alloc, &machine, budget),
+        Ran::TopEnded { exception, steps } => raised(
+            alloc,
+            &machine,
+            &exception,
+            budget,
+            budget - steps,
+        ),
         Ran::Ended { steps, .. } => searched(alloc, machine, budget, budget - steps, gate),
     }
 }
 
 /// What `run` answers for a kernel.
-#[tactic(auto, unfolding(oz_replies::specs::Replies::run_answer))]
 fn run_answer(alloc: Global, kernel: Kernel, budget: u64) -> Result<Plan, AllocError>
     ensures { IfOk result (λ plan. (plan.cause, plan.reply.items) ≡ run_answer kernel budget) }
 {
     let (machine, ran) = run_top(alloc, kernel, budget)?;
     match ran {
-        Ran::OutOfFuel => spent(alloc, shown_lines(alloc, &machine)?, budget),
-        Ran::TopEnded { exception, steps } =>
-            raised(alloc, &machine, &exception, budget, budget - steps),
+        Ran::OutOfFuel => out_of_fuel(alloc, &machine, budget),
+        Ran::TopEnded { exception, steps } => raised(
+            alloc,
+            &machine,
+            &exception,
+            budget,
+            budget - steps,
+        ),
         Ran::Ended { .. } => done(alloc, &machine),
     }
 }

@@ -162,7 +162,11 @@ fn total_line(alloc: Global, leaves: &[Outcome]) -> Result<Vec<u8>, AllocError>
 
 /// Adds what a search that found these leaves writes.
 #[tactic(auto, unfolding(oz_replies::specs::Replies::leaves_reply))]
-pub fn add_leaves_reply(alloc: Global, leaves: &[Outcome], out: &mut Vec<u8>) -> Result<(), AllocError>
+pub fn add_leaves_reply(
+    alloc: Global,
+    leaves: &[Outcome],
+    out: &mut Vec<u8>,
+) -> Result<(), AllocError>
     ensures { OnOk result (out.new.items ≡ out.old.items ++ leaves_reply leaves.now) }
 {
     add_leaf_lines(alloc, leaves, out)?;

@@ -3,6 +3,7 @@ use oz_language::{Fault, RefusalKind};
 use oz_outside::{Gate, HoldGate, MemSink, MemSource, OpenGate, READ_LIMIT};
 use oz_replies::Cause;
 use std::alloc::{AllocError, Global};
+use std::process::Abort;
 use std::test::Fail;
 
 const TWO: &[u8] = b"proc {Script R} choice R=a [] R=b end end";
@@ -24,7 +25,20 @@ const SHOWN_ONE: &[u8] = b"{Show a} proc {Script R} R=b end";
 
 const SHOWN_LEAF: &str = "a\nsolved 1 b\ntotal solved=1 stuck=0 raised=0 suspended=0\n";
 
-const TRIED: &[u8] = b"try raise a end catch X then {Show X} end";
+/// The second thread lets the first go on.
+const WAITS: &[u8] = b"X in thread {Wait X} {Show a} end thread X=1 {Show b} end {Show c}";
+
+/// A choice in a thread, for which another thread of the space waits.
+const CHOSEN: &[u8] = b"proc {Script R} X in thread choice X=1 [] X=2 end end {Wait X} R=X end";
+
+const CHOSEN_LEAVES: &str = "solved 1 1\nsolved 2 2\ntotal solved=2 stuck=0 raised=0 suspended=0\n";
+
+/// One alternative raises, one fails by what it raises, one waits for ever, one waits for the top, and one catches.
+const RAISES: &[u8] =
+    b"Y in proc {Script R} choice raise a end [] raise failure end [] {Wait R} [] {Wait Y} [] try raise b end catch X then R=X end end end";
+
+const RAISE_LEAVES: &str =
+    "raised 1 a\nstuck 2 _\nsuspended 3\nsolved 4 b\ntotal solved=1 stuck=1 raised=1 suspended=1\n";
 
 const ENDLESS: &[u8] = b"proc {Script R} choice R=a [] {Script R} end end";
 
@@ -42,17 +56,23 @@ fn call<G: Gate>(
     Ok(oz_call(alloc, list.as_slice(), source, sink, gate))
 }
 
-/// What is written for a text, and the status.
-fn answered(alloc: Global, words: &[&str], text: &[u8]) -> Result<(MemSink, u8), AllocError> {
-    let mut source = MemSource::new(alloc, text, 7, &[])?;
-    let mut sink = MemSink::new(alloc, 1000, 5, &[])?;
-    let outcome = call(alloc, words, &mut source, &mut sink, &OpenGate)?;
-    Ok((sink, outcome.status))
+/// Words and a text, what is written for them, and the status.
+type Row<'a> = (&'a [&'a str], &'a [u8], &'a str, u8);
+
+fn check(rt: &impl Abort, alloc: Global, rows: &[Row<'_>]) -> Result<(), Fail> {
+    for (words, text, reply, status) in rows {
+        let mut source = MemSource::new(alloc, text, 7, &[])?;
+        let mut sink = MemSink::new(alloc, 1000, 5, &[])?;
+        let outcome = call(alloc, words, &mut source, &mut sink, &OpenGate)?;
+        assert_eq!(rt; sink.written(), reply.as_bytes());
+        assert_eq!(rt; outcome.status, *status);
+    }
+    Ok(())
 }
 
 #[test]
 fn answers_each_text(rt: HostRuntime) -> Result<(), Fail> {
-    let cases: [(&[&str], &[u8], &str, u8); 9] = [
+    let rows: [Row<'_>; 9] = [
         (&["all"], SLOTS, SLOT_LEAVES, 0),
         (&["all"], ENDS, END_LEAVES, 0),
         (&["all", "--budget", "9"], TWO, TWO_LEAVES, 0),
@@ -63,20 +83,13 @@ fn answers_each_text(rt: HostRuntime) -> Result<(), Fail> {
         (&["all"], b"Script=1.5", "refused byte 8\n", 3),
         (&["all", "--workers", "2"], TWO, "usage\n", 2),
     ];
-    for (words, text, reply, status) in cases {
-        let (sink, ended) = answered(rt.alloc(), words, text)?;
-        assert_eq!(rt; sink.written(), reply.as_bytes());
-        assert_eq!(rt; ended, status);
-    }
-    Ok(())
+    check(&rt, rt.alloc(), &rows)
 }
 
 #[test]
 fn runs_each_text(rt: HostRuntime) -> Result<(), Fail> {
-    let cases: [(&[&str], &[u8], &str, u8); 9] = [
+    let rows: [Row<'_>; 7] = [
         (&["run"], b"{Show 1} {Show f(a)}", "1\nf(a)\n", 0),
-        (&["run"], b"thread {Show a} end", "a\n", 0),
-        (&["run"], TRIED, "a\n", 0),
         (&["run"], b"raise f(a) end", "raised f(a)\n", 1),
         (&["run"], b"", "", 0),
         (&["run", "--budget", "8"], b"{Show a} {Show b}", "a\nb\n", 0),
@@ -89,17 +102,61 @@ fn runs_each_text(rt: HostRuntime) -> Result<(), Fail> {
         (&["run"], b"{Show a} fail", "a\nraised failure(fail)\n", 1),
         (&["run"], b"{Show 1.5}", "refused byte 7\n", 3),
     ];
-    for (words, text, reply, status) in cases {
-        let (sink, ended) = answered(rt.alloc(), words, text)?;
-        assert_eq!(rt; sink.written(), reply.as_bytes());
-        assert_eq!(rt; ended, status);
-    }
-    Ok(())
+    check(&rt, rt.alloc(), &rows)
+}
+
+#[test]
+fn threads_go_on_in_turn(rt: HostRuntime) -> Result<(), Fail> {
+    let rows: [Row<'_>; 5] = [
+        (
+            &["run"],
+            b"thread {Show a} {Show b} end {Show c} {Show d}",
+            "c\na\nd\nb\n",
+            0,
+        ),
+        (&["run", "--budget", "17"], WAITS, "c\nb\na\n", 0),
+        (&["run", "--budget", "16"], WAITS, "c\nb\nspent 16\n", 6),
+        (&["run"], b"X in thread {Wait X} {Show X} end", "", 0),
+        (&["all"], CHOSEN, CHOSEN_LEAVES, 0),
+    ];
+    check(&rt, rt.alloc(), &rows)
+}
+
+#[test]
+fn exceptions_are_caught_or_end_the_top(rt: HostRuntime) -> Result<(), Fail> {
+    let rows: [Row<'_>; 5] = [
+        (
+            &["run"],
+            b"try raise a end catch X then {Show X} end",
+            "a\n",
+            0,
+        ),
+        (
+            &["run"],
+            b"try raise f(1) end catch g(X) then {Show X} end",
+            "raised f(1)\n",
+            1,
+        ),
+        (
+            &["run"],
+            b"thread raise a end end {Show b}",
+            "b\nraised a\n",
+            1,
+        ),
+        (
+            &["run"],
+            b"X in try X=1 X=2 catch E then {Show E#X} end",
+            "failure(tell)#1\n",
+            0,
+        ),
+        (&["all"], RAISES, RAISE_LEAVES, 0),
+    ];
+    check(&rt, rt.alloc(), &rows)
 }
 
 #[test]
 fn writes_kernels_and_what_is_not_served(rt: HostRuntime) -> Result<(), Fail> {
-    let cases: [(&[&str], &[u8], &str, u8); 6] = [
+    let rows: [Row<'_>; 6] = [
         (&["kernel"], b"", "skip\n", 0),
         (&["kernel"], b"thread skip end", "thread skip end\n", 0),
         (&["run"], b"X in {NewCell 1 X}", "refused syntax 6\n", 3),
@@ -112,17 +169,12 @@ fn writes_kernels_and_what_is_not_served(rt: HostRuntime) -> Result<(), Fail> {
             3,
         ),
     ];
-    for (words, text, reply, status) in cases {
-        let (sink, ended) = answered(rt.alloc(), words, text)?;
-        assert_eq!(rt; sink.written(), reply.as_bytes());
-        assert_eq!(rt; ended, status);
-    }
-    Ok(())
+    check(&rt, rt.alloc(), &rows)
 }
 
 #[test]
 fn what_was_shown_stands_in_front(rt: HostRuntime) -> Result<(), Fail> {
-    let cases: [(&[&str], &[u8], &str, u8); 4] = [
+    let rows: [Row<'_>; 4] = [
         (&["all"], b"{Show a}", "a\nno script\n", 9),
         (&["all"], SHOWN_ONE, SHOWN_LEAF, 0),
         (&["all", "--budget", "7"], SHOWN_ONE, "a\nspent 7\n", 6),
@@ -133,12 +185,7 @@ fn what_was_shown_stands_in_front(rt: HostRuntime) -> Result<(), Fail> {
             1,
         ),
     ];
-    for (words, text, reply, status) in cases {
-        let (sink, ended) = answered(rt.alloc(), words, text)?;
-        assert_eq!(rt; sink.written(), reply.as_bytes());
-        assert_eq!(rt; ended, status);
-    }
-    Ok(())
+    check(&rt, rt.alloc(), &rows)
 }
 
 #[test]

@@ -1,10 +1,10 @@
-use Rattle.std.proofs.Common.{◌≡◌, ◌<◌, ◌∙◌, List, [], ◌∷◌, None, sym, subst, ap, ap₂, arith, refl}
+use Rattle.std.proofs.Common.{◌≡◌, ◌∙◌, List, [], ◌∷◌, None, sym, subst, ap, ap₂, refl}
 use Rattle.oz_language.specs.declared.kernel.Kernel.{Kernel}
 use Rattle.oz_search.specs.declared.leaf.Outcome.{Outcome}
 use Rattle.oz_semantics.specs.Search.{node_at}
 use Rattle.oz_semantics.specs.declared.configuration.Configuration.{Configuration}
 use Rattle.machine_search.specs.Visits.{Visits, found_from}
-use Rattle.machine_search.proofs.VisitLaws.{begins_law, visits_law, stops_law, ends_law}
+use Rattle.machine_search.proofs.VisitLaws.{begins_law, visits_law, stops_law}
 use Rattle.oz_top.specs.declared.open.Open.{Open}
 use Rattle.oz_top.specs.Searching.{waiting, AreOf, leaves_of}
 use Rattle.oz_top.proofs.search.depth_first.Goals as goal

@@ -1,4 +1,4 @@
-use Rattle.std.proofs.Common.{◌≡◌, ◌≤◌}
+use Rattle.std.proofs.Common.{◌≡◌}
 use Rattle.machine_search.specs.Visits.{found_below, found_from}
 use Rattle.oz_top.specs.Searching.{waiting, AreOf}
 use Rattle.oz_top.proofs.search.depth_first.Given as goal
