@@ -99,10 +99,11 @@ fn opening_levels(alloc: Global, kernel: &Kernel) -> Result<Levels, AllocError>
 {
     let top = SpaceName::top();
     let mut levels = Levels::new(alloc)?;
+    // What is told of variables that were given out leaves the space traced.
+    levels.give_out(&top, 37)?;
     if !levels.tell(alloc, &top, &built_ins())? {
         return Err(AllocError);
     }
-    levels.give_out(&top, 37)?;
     let environment = opening_environment(alloc)?;
     let frames = frames_of(alloc, &environment, kernel.body.as_slice())?;
     levels.spawn(&top, frames)?;
