@@ -30,8 +30,7 @@ use Rattle.std.specs.declared.alloc.AllocError.{AllocError}
 use Rattle.std.specs.Prelude.{Result, Ok, Err, IfOk}
 use Rattle.space_core.specs.Levels.{IsToldTo}
 use Rattle.settle_laws.specs.Settles.{Settles}
-use Rattle.settle_laws.proofs.EditLaws.{are_quiet, term_settles}
-use Rattle.settle_laws.proofs.SettleLaws.{quiet_settles}
+use Rattle.settle_laws.proofs.EditLaws.{edits_join, edits_agree, term_settles}
 use Rattle.oz_machine.specs.Doings.{IsDone}
 use Rattle.oz_machine.proofs.PlaceLaws.{layer_of_name}
 
@@ -43,19 +42,20 @@ there None e = absurd (cc)
 pub told_settles : (space : List ℕ) (ts : List Tell) (old new : List Layer) → IsToldTo space ts old new true → Settles space (in_layer space (telling ts) old) new
 told_settles space ts old new told = record { below = told.below; left = told.left }
 
--- and it was a term by new variables
-pub term_told : (space : List ℕ) (t : Term) (ts : List Tell) (n : ℕ) (old new after : List Layer) → is_some (layer_at old space) ≡ true → ts ≡ new_term_tells (layer_of old space) t → n ≡ length t → IsToldTo space ts old new true → after ≡ in_layer space (giving_out n) new
-    → Settles space (in_layer space (with_term t) old) after
-term_told space t ts n old new after is e count told made =
+-- and it was a term by new variables, which were given out before
+pub term_told : (space : List ℕ) (t : Term) (ts : List Tell) (n : ℕ) (old given new : List Layer) → is_some (layer_at old space) ≡ true → ts ≡ new_term_tells (layer_of old space) t → n ≡ length t → given ≡ in_layer space (giving_out n) old → IsToldTo space ts given new true
+    → Settles space (in_layer space (with_term t) old) new
+term_told space t ts n old given new is e count made told =
     let l = there (layer_at old space) is in
-    let one : Settles space (in_layer space (telling ts) old) new = told_settles space ts old new told in
-    let two : Settles space (in_layer space (giving_out n) (in_layer space (telling ts) old)) (in_layer space (giving_out n) new) =
-    quiet_settles (giving_out n) space (in_layer space (telling ts) old) new (are_quiet.variables n) one in
-    let same : in_layer space (giving_out n) (in_layer space (telling ts) old) ≡ in_layer space (with_term t) old =
-    ap (λ (m : ℕ). in_layer space (giving_out m) (in_layer space (telling ts) old)) count
+    let same : in_layer space (telling ts) given ≡ in_layer space (with_term t) old =
+    ap (in_layer space (telling ts)) made
+    ∙ edits_join space (telling ts) (giving_out n) old (λ m. refl)
+    ∙ edits_agree space (λ m. telling ts (giving_out n m)) (λ m. giving_out n (telling ts m)) old (λ m at. refl)
+    ∙ sym (edits_join space (giving_out n) (telling ts) old (λ m. refl))
+    ∙ ap (λ (m : ℕ). in_layer space (giving_out m) (in_layer space (telling ts) old)) count
     ∙ ap (λ (us : List Tell). in_layer space (giving_out (length t)) (in_layer space (telling us) old)) e
     ∙ term_settles space t old l.0 l.1 in
-    subst (λ (ls : List Layer). Settles space (in_layer space (with_term t) old) ls) (sym made) (subst (λ (ls : List Layer). Settles space ls (in_layer space (giving_out n) new)) same two)
+    subst (λ (ls : List Layer). Settles space ls new) same (told_settles space ts given new told)
 
 -- what is told of an exception's term
 pub new_told : (layers : List Layer) (space : List ℕ) (next : Next) (u t : Term) (tells : List Tell) → next ≡ (layer_of layers space).next → u ≡ t

@@ -144,9 +144,9 @@ fn tell_term(
     let next = next_of(levels, &id.space);
     let nodes = term(alloc, kind)?;
     let made = new_term(alloc, &id.space, next.variable, &nodes)?;
-    let told = levels.tell(alloc, &id.space, &made.tells)?;
-    if told {
-        levels.give_out(&id.space, nodes.len() as u64)?;
+    // What is told of variables that were given out leaves the space traced.
+    levels.give_out(&id.space, nodes.len() as u64)?;
+    if levels.tell(alloc, &id.space, &made.tells)? {
         Ok(made.variable)
     } else {
         Err(AllocError)
