@@ -8,4 +8,5 @@ pub mod TrailLaws
 pub mod TakingLaws
 pub mod Pairs
 pub mod ToldLaws
+pub mod LogLaws
 pub mod TellingLaws

@@ -2,13 +2,41 @@
 ghost use Rattle.std.specs.Prelude.{◌≡◌, ◌<◌, ◌⊎◌, false, Some, None, OnOk, OnErr, option_copied};
 ghost use Rattle.oz_base.specs.Names.{ident_eq};
 ghost use Rattle.ident_map.specs.Entries.{entry};
-ghost use Rattle.term_store.specs.Classes.{link_in, rank_in, first_in, root_in, IsTop, Likewise, Marks, Unites, UnitesOne, UnitesFree, UnitesAt};
+ghost use Rattle.term_store.specs.Classes.{link_in, rank_of, first_of, rank_in, first_in, root_in, IsTop, Likewise, Marks, Unites, UnitesOne, UnitesFree, UnitesAt};
 
 use crate::cell::Cell;
 use ident_map::IdentMap;
 use oz_base::{Copies, Ident, same_ident};
 use std::alloc::{AllocError, Global};
 use std::marker::Model;
+
+/// The variable that stands for a class, with what is kept of it.
+#[derive(Clone, Copy)]
+pub struct Found<'a> {
+    pub root: &'a Ident,
+    pub rank: u8,
+    /// The place at which the first value of the class was told.
+    pub first: Option<u64>,
+}
+
+fn rank_of(cell: Option<&Cell>) -> u8
+    ensures { result ≡ rank_of (option_copied cell.entry) }
+{
+    match cell {
+        None => 0,
+        Some(Cell::Below { rank, .. }) => *rank,
+        Some(Cell::Root { rank, .. }) => *rank,
+    }
+}
+
+fn first_of(cell: Option<&Cell>) -> Option<u64>
+    ensures { result ≡ first_of (option_copied cell.entry) }
+{
+    match cell {
+        Some(Cell::Root { first, .. }) => *first,
+        _ => None,
+    }
+}
 
 /// Classes of variables. A variable of which nothing is kept is alone in its class.
 ///
@@ -42,33 +70,36 @@ impl Classes {
         }
     }
 
-    /// The variable that another stands below.
-    fn parent(&self, variable: &Ident) -> Option<&Ident>
-        ensures { option_copied result ≡ link_in self.now variable.now }
-    {
-        match self.cells.get(variable) {
-            Some(Cell::Below { parent, .. }) => Some(parent),
-            _ => None,
-        }
-    }
-
     fn rank(&self, variable: &Ident) -> u8
         ensures { result ≡ rank_in self.now variable.now }
     {
-        match self.cells.get(variable) {
-            None => 0,
-            Some(Cell::Below { rank, .. }) => *rank,
-            Some(Cell::Root { rank, .. }) => *rank,
-        }
+        rank_of(self.cells.get(variable))
     }
 
     /// The place at which the first value was told of the class that a variable stands for.
     pub fn first(&self, root: &Ident) -> Option<u64>
         ensures { result ≡ first_in self.now root.now }
     {
-        match self.cells.get(root) {
-            Some(Cell::Root { first, .. }) => *first,
-            _ => None,
+        first_of(self.cells.get(root))
+    }
+
+    /// The variable that stands for the class of another, and what is kept of it. Each variable on the way is looked up once.
+    pub fn find<'a>(&'a self, variable: &'a Ident) -> Found<'a>
+        ensures root { result.root.now ≡ root_in self.now variable.now }
+        ensures top { IsTop self.now result.root.now }
+        ensures rank { result.rank ≡ rank_in self.now result.root.now }
+        ensures first { result.first ≡ first_in self.now result.root.now }
+    {
+        let mut root = variable;
+        let mut cell = self.cells.get(root);
+        'climb: while let Some(Cell::Below { parent, .. }) = cell {
+            root = parent;
+            cell = self.cells.get(root);
+        }
+        Found {
+            root,
+            rank: rank_of(cell),
+            first: first_of(cell),
         }
     }
 
@@ -77,12 +108,7 @@ impl Classes {
         ensures root { result.now ≡ root_in self.now variable.now }
         ensures top { IsTop self.now result.now }
     {
-        let _ = &self.cells;
-        let mut at = variable;
-        'climb: while let Some(parent) = self.parent(at) {
-            at = parent;
-        }
-        at
+        self.find(variable).root
     }
 
     /// Whether two variables are of one class.
@@ -92,13 +118,19 @@ impl Classes {
         same_ident(self.root(left), self.root(right))
     }
 
-    /// The first value of the class that a variable stands for was told at this place. An error is for lack of memory.
-    pub fn mark(&mut self, alloc: Global, root: &Ident, place: u64) -> Result<(), AllocError>
+    /// The first value of the class that a variable of this rank stands for was told at this place. An error is for lack of memory.
+    pub fn mark(
+        &mut self,
+        alloc: Global,
+        root: &Ident,
+        rank: u8,
+        place: u64,
+    ) -> Result<(), AllocError>
         requires top { IsTop self.old root.now }
+        requires rank { rank ≡ rank_in self.old root.now }
         ensures ok { OnOk result (Marks self.old self.new root.now place) }
         ensures err { OnErr result (self.new ≡ self.old) }
     {
-        let rank = self.rank(root);
         let first = Some(place);
         self.cells.insert(alloc, root, Cell::Root { rank, first })?;
         Ok(())
@@ -206,7 +238,8 @@ impl Classes {
         ensures { OnOk result (Unites self.old self.new under.now over.now (Some place)) }
     {
         self.put(alloc, under, over)?;
-        self.mark(alloc, over, place)?;
+        let rank = self.rank(over);
+        self.mark(alloc, over, rank, place)?;
         Ok(())
     }
 

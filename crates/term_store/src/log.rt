@@ -1,35 +1,38 @@
 //! Everything that a store was told, in order.
-ghost use Rattle.std.specs.Prelude.{ℕ, ◌≡◌, ◌++◌, ◌∷◌, ◌<◌, ◌-◌, ◌^◌, [], length, slice_get, Some, None, OnOk, OnErr, IfOk, option_copied};
+ghost use Rattle.std.specs.Prelude.{ℕ, ◌≡◌, ◌++◌, ◌∷◌, ◌<◌, ◌+◌, ◌-◌, ◌*◌, ◌^◌, [], length, slice_get, Some, OnOk, OnErr, IfOk, option_copied, vec_capacity};
 ghost use Rattle.oz_semantics.specs.declared.value.Tell.{Tell};
 ghost use Rattle.term_store.specs.Places.{value_told, value_at};
-ghost use Rattle.term_store.specs.Logs.{told_in};
+ghost use Rattle.term_store.specs.Logs.{told_in, HasRoom};
 
-use oz_base::Copies;
+use oz_base::{Copies, Sequence, Shared};
 use oz_semantics::{Tell, Value};
 use shared_list::SharedList;
 use std::alloc::{AllocError, Global};
 use std::marker::Model;
 
-/// Everything that was told. The last of it may stand beside the list, so that it is added where nothing can fail any more.
+/// How many tells stand in a chunk.
+const CHUNK: u64 = 32;
+
+/// Everything that was told: full chunks, which copies share, and the last tells, which are at most as many as stand in a chunk.
 #[derive(Drop)]
 pub struct Log {
-    listed: SharedList<Tell>,
-    last: Option<Tell>,
+    chunks: SharedList<Shared<Sequence<Tell>>>,
+    rest: Vec<Tell>,
 }
 
 impl Model for Log {
-    ghost use Rattle.std.specs.Prelude.{◌<◌, ◌^◌, length};
+    ghost use Rattle.std.specs.Prelude.{◌<◌, ◌≤◌, ◌^◌, length, vec_capacity};
     ghost use Rattle.std.specs.Coded.{codes};
     ghost use Rattle.environments.specs.contracts.environment.Environment as environment;
-    ghost use Rattle.term_store.specs.Logs.{Written, told_in};
+    ghost use Rattle.term_store.specs.Logs.{Written, told_in, AllFull};
 
     ghost Value = { Written };
 
     ghost coded = { Prim.hlevel (codes, environment.the_row.coded) };
 
-    ghost view = { λ l. record { listed = l.listed; last = l.last } };
+    ghost view = { λ l. record { chunks = l.chunks; rest = l.rest.items; capacity = vec_capacity l.rest } };
 
-    ghost invariant = { λ l. length (told_in record { listed = l.listed; last = l.last }) < 2 ^ 64 };
+    ghost invariant = { λ l. AllFull l.chunks × (length l.rest.items ≤ 32) × (length (told_in record { chunks = l.chunks; rest = l.rest.items; capacity = vec_capacity l.rest }) < 2 ^ 64) };
 }
 
 /// The value that a tell gives its variable.
@@ -42,33 +45,68 @@ fn value_of(tell: &Tell) -> Option<&Value>
     }
 }
 
-fn copy_of(alloc: Global, tell: Option<&Tell>) -> Result<Option<Tell>, AllocError>
-    ensures { IfOk result (λ copy. copy ≡ option_copied tell.entry) }
+/// A copy of each tell, in a vector of just their size.
+fn copies_of(alloc: Global, tells: &[Tell]) -> Result<Vec<Tell>, AllocError>
+    ensures { IfOk result (λ copy. copy.items ≡ tells.now) }
 {
-    match tell {
-        None => Ok(None),
-        Some(tell) => Ok(Some(tell.copied(alloc)?)),
+    let mut copy = Vec::with_capacity(alloc, tells.len())?;
+    for tell in tells {
+        copy.push(tell.copied(alloc)?)?;
+    }
+    Ok(copy)
+}
+
+/// The tell at this place among others.
+fn at(tells: &[Tell], place: usize) -> Option<&Tell>
+    ensures { option_copied result ≡ slice_get tells.now place }
+{
+    tells.get(place)
+}
+
+/// Adds a tell to others that have room for it.
+fn put_behind(tells: &mut Vec<Tell>, tell: Tell)
+    requires { length tells.old.items < vec_capacity tells.old }
+    ensures { tells.new.items ≡ tells.old.items ++ tell ∷ [] }
+{
+    if tells.push(tell).is_err() {
+        unreachable!();
     }
 }
 
 impl Log {
     /// Nothing was told. It takes no memory.
-    pub fn new() -> Log
+    pub fn new(alloc: Global) -> Log
         ensures { told_in result ≡ [] }
     {
         Log {
-            listed: SharedList::new(),
-            last: None,
+            chunks: SharedList::new(),
+            rest: Vec::new(alloc),
         }
+    }
+
+    /// How much stands in chunks.
+    fn listed(&self) -> u64
+        ensures { result ≡ 32 * length self.now.chunks }
+    {
+        CHUNK * self.chunks.len()
     }
 
     /// How much was told.
     pub fn len(&self) -> u64
         ensures { result ≡ length (told_in self.now) }
     {
-        match &self.last {
-            None => self.listed.len(),
-            Some(_) => self.listed.len() + 1,
+        self.listed() + self.rest.len() as u64
+    }
+
+    /// What stands at this place in a chunk.
+    fn in_chunk(&self, chunk: u64, place: usize) -> Option<&Tell>
+        requires chunk { chunk < length self.now.chunks }
+        requires place { place < 32 }
+        ensures { option_copied result ≡ slice_get (told_in self.now) (32 * chunk + place) }
+    {
+        match self.chunks.get(chunk) {
+            None => None,
+            Some(tells) => at(tells.get().as_slice(), place),
         }
     }
 
@@ -76,10 +114,11 @@ impl Log {
     pub fn get(&self, place: u64) -> Option<&Tell>
         ensures { option_copied result ≡ slice_get (told_in self.now) place }
     {
-        if place == self.listed.len() {
-            return self.last.as_ref();
+        let listed = self.listed();
+        if place < listed {
+            return self.in_chunk(place / CHUNK, (place % CHUNK) as usize);
         }
-        self.listed.get(place)
+        at(self.rest.as_slice(), (place - listed) as usize)
     }
 
     /// The value that was told at this place.
@@ -92,30 +131,40 @@ impl Log {
         }
     }
 
+    /// Makes a chunk of the rest, which has as many tells.
+    fn end_chunk(&mut self, alloc: Global) -> Result<(), AllocError>
+        requires full { length self.old.rest ≡ 32 }
+        ensures told { told_in self.new ≡ told_in self.old }
+        ensures rest { OnOk result (self.new.rest ≡ []) }
+    {
+        let tells = Sequence::from_vec(copies_of(alloc, self.rest.as_slice())?);
+        self.chunks.push(alloc, Shared::new(alloc, tells)?)?;
+        self.rest.clear();
+        Ok(())
+    }
+
     /// Makes room for one tell more. An error is for lack of memory, or after 2^64 - 1 tells.
     pub fn make_room(&mut self, alloc: Global) -> Result<(), AllocError>
         ensures told { told_in self.new ≡ told_in self.old }
-        ensures room { OnOk result (self.new.last ≡ None) }
+        ensures room { OnOk result (HasRoom self.new) }
         ensures space { OnOk result (length (told_in self.new) < 2 ^ 64 - 1) }
     {
         if self.len() == u64::MAX {
             return Err(AllocError);
         }
-        if let Some(last) = &self.last {
-            let copy = last.copied(alloc)?;
-            self.listed.push(alloc, copy)?;
-            self.last = None;
+        if self.rest.len() as u64 == CHUNK {
+            self.end_chunk(alloc)?;
         }
-        Ok(())
+        self.rest.reserve(1)
     }
 
     /// Adds a tell, for which there is room.
     pub fn put(&mut self, tell: Tell)
-        requires room { self.old.last ≡ None }
+        requires room { HasRoom self.old }
         requires space { length (told_in self.old) < 2 ^ 64 - 1 }
         ensures { told_in self.new ≡ told_in self.old ++ tell ∷ [] }
     {
-        self.last = Some(tell);
+        put_behind(&mut self.rest, tell);
     }
 
     /// Adds a tell. An error is for lack of memory.
@@ -127,14 +176,14 @@ impl Log {
         self.put(tell);
         Ok(())
     }
-}
 
-impl Copies for Log {
-    /// In constant time.
-    fn copied(&self, alloc: Global) -> Result<Self, AllocError> {
+    /// A copy, in constant time: it shares the chunks.
+    pub fn copy(&self, alloc: Global) -> Result<Log, AllocError>
+        ensures { IfOk result (λ copy. told_in copy ≡ told_in self.now) }
+    {
         Ok(Log {
-            listed: self.listed.copied(alloc)?,
-            last: copy_of(alloc, self.last.as_ref())?,
+            chunks: self.chunks.copied(alloc)?,
+            rest: copies_of(alloc, self.rest.as_slice())?,
         })
     }
 }

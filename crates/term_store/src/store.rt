@@ -15,7 +15,7 @@ use crate::classes::Classes;
 use crate::closing::{Draft, zipped};
 use crate::log::Log;
 use crate::values::{fields_of, is_like};
-use oz_base::{Copies, Ident};
+use oz_base::{Copies, Ident, same_ident};
 use oz_semantics::{Tell, Value};
 use std::alloc::{AllocError, Global};
 use std::marker::Model;
@@ -54,7 +54,7 @@ impl Store {
         ensures { result ≡ [] }
     {
         Store {
-            log: Log::new(),
+            log: Log::new(alloc),
             classes: Classes::new(alloc),
         }
     }
@@ -91,7 +91,7 @@ impl Store {
     pub fn value_place(&self, variable: &Ident) -> Option<u64>
         ensures { result ≡ value_place self.now variable.now }
     {
-        self.classes.first(self.classes.root(variable))
+        self.classes.find(variable).first
     }
 
     /// The value of a variable, if it has one.
@@ -132,7 +132,7 @@ impl Store {
         ensures err { OnErr result (self.new ≡ self.old) }
     {
         let mut draft = Draft {
-            log: self.log.copied(alloc)?,
+            log: self.log.copy(alloc)?,
             classes: self.classes.copied(alloc)?,
             pending,
             touched: Vec::new(alloc),
@@ -157,16 +157,18 @@ impl Store {
         ensures told { IfOk result (IsTold self.old (Equal left.now right.now ∷ []) self.new touched.old.items touched.new.items) }
         ensures err { OnErr result (self.new ≡ self.old) }
     {
-        let a = self.classes.root(left).copied(alloc)?;
-        let b = self.classes.root(right).copied(alloc)?;
-        if a == b {
+        let one = self.classes.find(left);
+        let other = self.classes.find(right);
+        if same_ident(one.root, other.root) {
             self.log.push(alloc, equation(alloc, left, right)?)?;
             return Ok(true);
         }
-        if self.classes.first(&a).is_some() && self.classes.first(&b).is_some() {
+        if one.first.is_some() && other.first.is_some() {
             let pending = one_pair(alloc, left, right)?;
             return self.close(alloc, equation(alloc, left, right)?, pending, touched);
         }
+        let a = one.root.copied(alloc)?;
+        let b = other.root.copied(alloc)?;
         note_two(alloc, touched, left, right)?;
         let tell = equation(alloc, left, right)?;
         add_united(&mut self.log, &mut self.classes, alloc, &a, &b, tell)?;
@@ -211,14 +213,16 @@ impl Store {
         ensures told { IfOk result (IsTold self.old (Is variable.now value.now ∷ []) self.new touched.old.items touched.new.items) }
         ensures err { OnErr result (self.new ≡ self.old) }
     {
-        let root = self.classes.root(variable).copied(alloc)?;
-        if let Some(place) = self.classes.first(&root) {
+        let found = self.classes.find(variable);
+        if let Some(place) = found.first {
             return self.tell_again(alloc, variable, value, place, touched);
         }
+        let root = found.root.copied(alloc)?;
+        let rank = found.rank;
         let tell = binding(alloc, variable, value)?;
         touched.push(variable.copied(alloc)?)?;
         self.log.make_room(alloc)?;
-        self.classes.mark(alloc, &root, self.log.len())?;
+        self.classes.mark(alloc, &root, rank, self.log.len())?;
         self.log.put(tell);
         Ok(true)
     }
@@ -346,11 +350,11 @@ fn one_pair(alloc: Global, left: &Ident, right: &Ident) -> Result<Vec<(Ident, Id
 }
 
 impl Copies for Store {
-    /// It shares what was told. It takes the time and memory of a few words, and of as many for each space below the top of which
-    /// a variable was told something.
+    /// It shares what was told, but for the last tells, of which it copies at most 32. Besides it takes the time and memory of a few
+    /// words for each space below the top of which a variable was told something.
     fn copied(&self, alloc: Global) -> Result<Self, AllocError> {
         Ok(Store {
-            log: self.log.copied(alloc)?,
+            log: self.log.copy(alloc)?,
             classes: self.classes.copied(alloc)?,
         })
     }

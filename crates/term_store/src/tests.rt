@@ -57,6 +57,63 @@ fn told_two(alloc: Global) -> Result<(bool, u64), AllocError> {
     Ok((goes, store.len()))
 }
 
+/// Tells the values `i` of the variables `from` to `to`, without the last.
+fn tell_values(
+    alloc: Global,
+    store: &mut Store,
+    from: u64,
+    to: u64,
+    more: u64,
+) -> Result<(), AllocError> {
+    for x in from..to {
+        tell(alloc, store, integer(x, x as i128 + more as i128))?;
+    }
+    Ok(())
+}
+
+/// A store that was told the values of 0 to 99, and a copy from when it was told those of 0 to 49, with other values of 50 to 120.
+fn parted(alloc: Global) -> Result<(Store, Store), AllocError> {
+    let mut store = Store::new(alloc);
+    tell_values(alloc, &mut store, 0, 50, 0)?;
+    let mut copy = store.copied(alloc)?;
+    tell_values(alloc, &mut store, 50, 100, 0)?;
+    tell_values(alloc, &mut copy, 50, 121, 1000)?;
+    Ok((store, copy))
+}
+
+/// What was told at a place, if it is an integer.
+fn told_integer(store: &Store, place: u64) -> Option<(u64, i128)> {
+    match store.told_at(place) {
+        Some(
+            Tell::Is {
+                variable,
+                value: Value::Constant(Constant::Int(i)),
+            },
+        ) => Some((variable.number, *i)),
+        _ => None,
+    }
+}
+
+#[test]
+fn keeps_each_tell_in_its_place(rt: HostRuntime) -> Result<(), Fail> {
+    let (store, copy) = parted(rt.alloc())?;
+    assert_eq!(rt; store.len(), 100);
+    assert_eq!(rt; copy.len(), 121);
+    for x in 0..100u64 {
+        assert_eq!(rt; told_integer(&store, x), Some((x, x as i128)));
+        assert_eq!(rt; integer_of(&store, x), Some(x as i128));
+    }
+    for x in 0..121u64 {
+        let more = if x < 50 { 0u64 } else { 1000 };
+        assert_eq!(rt; told_integer(&copy, x), Some((x, x as i128 + more as i128)));
+        assert_eq!(rt; integer_of(&copy, x), Some(x as i128 + more as i128));
+    }
+    assert_eq!(rt; told_integer(&store, 100), None);
+    assert_eq!(rt; told_integer(&copy, 121), None);
+    assert_eq!(rt; integer_of(&store, 100), None);
+    Ok(())
+}
+
 #[test]
 fn keeps_a_copy_apart(rt: HostRuntime) -> Result<(), Fail> {
     let (value, of_copy) = values_apart(rt.alloc())?;

@@ -5,4 +5,4 @@ use Rattle.term_store.proofs.TellingLaws.{place_at}
 use Rattle.term_store.proofs.store.Store.value_place.Goals as goal
 
 pub returns : goal.returns
-returns c = c.first.ensures ∙ ap (first_in c.self.inside.classes) c.root.ensures.root ∙ place_at c.args.self.now c.self.inside.classes (subst (λ ts. Going ts c.self.inside.classes []) c.self.view_is c.self.invariant) c.args.variable.now
+returns c = c.find.ensures.first ∙ ap (first_in c.self.inside.classes) c.find.ensures.root ∙ place_at c.args.self.now c.self.inside.classes (subst (λ ts. Going ts c.self.inside.classes []) c.self.view_is c.self.invariant) c.args.variable.now
