@@ -9,19 +9,18 @@ use Rattle.oz_semantics.specs.Configurations.{is_of, layer_at, view, in_layer, p
 use Rattle.oz_semantics.specs.Edits.{starting, created}
 use Rattle.oz_semantics.specs.declared.value.Tell.{Tell}
 use Rattle.oz_semantics.specs.declared.configuration.Layer.{Layer}
-use Rattle.oz_laws.specs.Touched.{Touches}
 use Rattle.oz_laws.proofs.SameLaws.{In, In-from_contains, contains-from_In}
 use Rattle.view_laws.specs.Trees.{IsTree}
 use Rattle.view_laws.proofs.Members.{decide}
 use Rattle.view_laws.proofs.NameLaws.{equal_names, above_parent}
 use Rattle.view_laws.proofs.SightLaws.{creation_unseen, space_of}
-use Rattle.view_laws.proofs.TwiceLaws.{touches_nothing}
 use Rattle.view_laws.proofs.TreeLaws.{put_in, not_top_child, fresh_before, tree_created}
 use Rattle.space_core.specs.Ending.{IsChild, IsAdded}
 use Rattle.space_core.specs.Places.{IsFirst}
-use Rattle.space_core.specs.Shown.{shown, shown_all, seen_above, is_home, Fits, IsSound}
+use Rattle.space_core.specs.Shown.{shown, shown_all, seen_above, is_home, Traces, Fits, IsSound}
 use Rattle.space_core.specs.declared.level.Level.{Level}
 use Rattle.space_core.proofs.MemberLaws.{elsewhere_in, set_member}
+use Rattle.space_core.proofs.TraceLaws.{traces_nothing}
 use Rattle.space_core.proofs.SoundLaws.{Grown, fits_alike, fits_after, above_same, above_is, homes_kept, changed_grown, set_shown, read_shown, place_within, place_member}
 use Rattle.space_core.proofs.TellLaws.{fits_at}
 
@@ -158,8 +157,8 @@ module _ (levels : List Level) (s : IsSound levels) (parent : List ℕ) (place :
     consistent = ap is_consistent child.bare.store ∙ own_fits.consistent;
     home = λ t. ap (λ (ts : List Tell). list_all (is_home after name) (flat_map named_by ts)) no_tells;
     touches = λ t n.
-        subst (λ (ts : List Tell). Touches (seen_above after name) ts m.touched) (sym no_tells)
-        (subst (Touches (seen_above after name) []) (sym child.bare.touched) (touches_nothing (seen_above after name)));
+        subst (λ (ts : List Tell). Traces name (seen_above after name) ts m.touched) (sym no_tells)
+        (subst (Traces name (seen_above after name) []) (sym child.bare.touched) (traces_nothing name (seen_above after name)));
   })
 
   fits_new : (n : Level) → Contains news n → Fits after n

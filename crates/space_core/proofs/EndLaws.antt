@@ -9,21 +9,20 @@ use Rattle.oz_semantics.specs.Store.{named_by, is_consistent}
 use Rattle.oz_semantics.specs.Configurations.{is_of, view, raised_by, failed}
 use Rattle.oz_semantics.specs.declared.value.Tell.{Tell}
 use Rattle.oz_semantics.specs.declared.configuration.Layer.{Layer}
-use Rattle.oz_laws.specs.Touched.{Touches}
 use Rattle.oz_laws.proofs.SameLaws.{In-from_contains, contains-from_In}
 use Rattle.view_laws.specs.Trees.{IsTree}
 use Rattle.view_laws.proofs.Members.{decide, not_both, some_of}
 use Rattle.view_laws.proofs.NameLaws.{below_itself, properly_trans}
 use Rattle.view_laws.proofs.ListLaws.{in_filter}
 use Rattle.view_laws.proofs.SightLaws.{quiet_unseen, raise_unseen, parent_above}
-use Rattle.view_laws.proofs.TwiceLaws.{touches_nothing}
 use Rattle.view_laws.proofs.TreeLaws.{tree_left}
 use Rattle.space_core.specs.Ending.{IsAbove, IsFailure}
 use Rattle.space_core.specs.Places.{IsFirst}
-use Rattle.space_core.specs.Shown.{shown, shown_all, seen_above, is_home, Fits, IsSound}
+use Rattle.space_core.specs.Shown.{shown, shown_all, seen_above, is_home, Traces, Fits, IsSound}
 use Rattle.space_core.specs.Telling.{has_below}
 use Rattle.space_core.specs.declared.level.Level.{Level}
 use Rattle.space_core.proofs.MemberLaws.{filter_member, map_filter}
+use Rattle.space_core.proofs.TraceLaws.{traces_nothing}
 use Rattle.space_core.proofs.SoundLaws.{Edited, fits_after, above_same, homes_kept}
 use Rattle.space_core.proofs.TellLaws.{edit_above}
 
@@ -113,6 +112,6 @@ module _ (levels : List Level) (space : List ℕ) (place : ℕ) (x : Layer) (h :
     consistent = ap is_consistent f.bare.store ∙ consistent;
     home = λ t. ap (λ (ts : List Tell). list_all (is_home (shown_all levels) space) (flat_map named_by ts)) no_tells;
     touches = λ t n.
-        subst (λ (ts : List Tell). Touches (seen_above (shown_all levels) space) ts m.touched) (sym no_tells)
-        (subst (Touches (seen_above (shown_all levels) space) []) (sym f.bare.touched) (touches_nothing (seen_above (shown_all levels) space)));
+        subst (λ (ts : List Tell). Traces space (seen_above (shown_all levels) space) ts m.touched) (sym no_tells)
+        (subst (Traces space (seen_above (shown_all levels) space) []) (sym f.bare.touched) (traces_nothing space (seen_above (shown_all levels) space)));
   })

@@ -1,5 +1,6 @@
 pub mod Firsts
 pub mod MemberLaws
+pub mod TraceLaws
 pub mod SoundLaws
 pub mod AnswerLaws
 pub mod TellLaws

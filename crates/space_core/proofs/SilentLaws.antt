@@ -11,19 +11,20 @@ use Rattle.oz_semantics.specs.Settling.{is_among}
 use Rattle.oz_semantics.specs.Spaces.{values_eq, alike_on, is_held}
 use Rattle.oz_semantics.specs.declared.value.Tell.{Tell}
 use Rattle.oz_semantics.specs.declared.configuration.Layer.{Layer}
-use Rattle.oz_laws.specs.Touched.{Touches}
 use Rattle.oz_laws.proofs.SameLaws.{In, In-from_contains}
+use Rattle.view_laws.specs.Touched.{IsPart}
 use Rattle.view_laws.proofs.Members.{not_both, each}
 use Rattle.view_laws.proofs.NameLaws.{names_equal, equal_names, below_itself}
 use Rattle.view_laws.proofs.ListLaws.{in_map}
 use Rattle.view_laws.proofs.TouchedLaws.{touched_decide}
 use Rattle.view_laws.proofs.FirstLaws.{touched_hold}
 use Rattle.space_core.specs.Places.{IsFirst, IsAbsent}
-use Rattle.space_core.specs.Shown.{shown, shown_all, is_outer, is_named, Fits, IsSound}
+use Rattle.space_core.specs.Shown.{shown, shown_all, is_outer, is_named, Traces, Fits, IsSound}
 use Rattle.space_core.specs.Silence.{equal_alike, variable_alike, holds_variable, told_alike, tell_alike, tell_holds, is_traced}
 use Rattle.space_core.specs.declared.level.Level.{Level}
 use Rattle.space_core.proofs.MemberLaws.{all_flat}
 use Rattle.space_core.proofs.ToldLaws.{all_filter, any_filter, any_flat}
+use Rattle.space_core.proofs.TraceLaws.{outer_noted}
 use Rattle.space_core.proofs.SoundLaws.{above_is, shown_member}
 use Rattle.space_core.proofs.TellLaws.{view_is, layer_found}
 use Rattle.space_core.proofs.ParentLaws.{first_read, named_space, named_member, not_empty, empty_top}
@@ -126,13 +127,19 @@ module _ (levels : List Level) (s : IsSound levels) (l : Level) (c : Contains le
   sees : view layers l.space ≡ above ++ tells
   sees = view_is layers l.space (shown l) s.tree (layer_found levels s l c) ∙ ap (λ (ts : List Tell). ts ++ tells) (above_is layers l.space inner)
 
+  traces : Traced levels l.space → Traces l.space above tells l.touched
+  traces t = subst (λ (ts : List Tell). Traces l.space ts tells l.touched) (above_is layers l.space inner) (fit.touches (t l c (below_itself l.space)) inner)
+
+  noted_part : (t : Traced levels l.space) → IsPart (traces t).all (ancestor_variables layers l.space) (filter (is_outer layers l.space) l.touched)
+  noted_part t =
+      subst (IsPart (traces t).all (ancestor_variables layers l.space)) (sym (outer_noted layers l.space above tells l.touched (traces t))) (outer_part layers l.space (traces t).all)
+
   pub silent_traced : Traced levels l.space → list_all (variable_alike layers l.space (view layers l.space) above l.touched) l.touched ≡ alike_on (ancestor_variables layers l.space) (view layers l.space) above
   silent_traced t =
       sym (alike_filter layers l.space (view layers l.space) above l.touched)
       ∙ sym (subst (λ (ts : List Tell). alike_on (ancestor_variables layers l.space) ts above ≡ alike_on (filter (is_outer layers l.space) l.touched) ts above) (sym sees)
-      (touched_decide above tells l.touched (ancestor_variables layers l.space) (filter (is_outer layers l.space) l.touched)
-      (subst (λ (ts : List Tell). Touches ts tells l.touched) (above_is layers l.space inner) (fit.touches (t l c (below_itself l.space)) inner))
-      (names_within levels s l.space inner t) (outer_part layers l.space l.touched)))
+      (touched_decide above tells (traces t).all (ancestor_variables layers l.space) (filter (is_outer layers l.space) l.touched) (traces t).touches
+      (names_within levels s l.space inner t) (noted_part t)))
 
   pub silent_named : list_all (tell_alike layers l.space (view layers l.space) above) (view layers l.space) ≡ alike_on (ancestor_variables layers l.space) (view layers l.space) above
   silent_named =
@@ -146,9 +153,8 @@ module _ (levels : List Level) (s : IsSound levels) (l : Level) (c : Contains le
   held_traced t x =
       subst (λ (ts : List Tell). is_held ts (ancestor_variables layers l.space) x
       ≡ (not (is_determined ts x) && (is_among (ancestor_variables layers l.space) x || list_any (same ts x) (filter (is_outer layers l.space) l.touched)))) (sym sees)
-      (touched_hold above tells l.touched (ancestor_variables layers l.space) (filter (is_outer layers l.space) l.touched)
-      (subst (λ (ts : List Tell). Touches ts tells l.touched) (above_is layers l.space inner) (fit.touches (t l c (below_itself l.space)) inner))
-      (names_within levels s l.space inner t) (outer_part layers l.space l.touched) x)
+      (touched_hold above tells (traces t).all (ancestor_variables layers l.space) (filter (is_outer layers l.space) l.touched) (traces t).touches
+      (names_within levels s l.space inner t) (noted_part t) x)
       ∙ ap₂ (λ (a b : Bool). not (is_determined (view layers l.space) x) && (a || b)) (among_outer layers l.space x)
       (any_filter (is_outer layers l.space) (same (view layers l.space) x) l.touched)
 

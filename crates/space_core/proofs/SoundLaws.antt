@@ -12,7 +12,6 @@ use Rattle.oz_semantics.specs.Configurations.{is_of, layer_at, view, in_layer}
 use Rattle.oz_semantics.specs.Settling.{may_fail, is_inconsistent, inconsistent_spaces, top_is_inconsistent}
 use Rattle.oz_semantics.specs.declared.value.Tell.{Tell}
 use Rattle.oz_semantics.specs.declared.configuration.Layer.{Layer}
-use Rattle.oz_laws.specs.Touched.{Touches}
 use Rattle.oz_laws.proofs.SameLaws.{In-from_contains, contains-from_In, and-left, and-right}
 use Rattle.view_laws.specs.Sights.{KeepsSpace, KeepsTells}
 use Rattle.view_laws.specs.Trees.{IsTree}
@@ -21,7 +20,7 @@ use Rattle.view_laws.proofs.ListLaws.{map_in, in_map, filter_none, edit_in, edit
 use Rattle.view_laws.proofs.SightLaws.{quiet_unseen}
 use Rattle.view_laws.proofs.TreeLaws.{change_tree}
 use Rattle.space_core.specs.Places.{IsFirst}
-use Rattle.space_core.specs.Shown.{shown, shown_all, seen_above, gave_out, is_home, Fits, IsSound, IsQuiet}
+use Rattle.space_core.specs.Shown.{shown, shown_all, seen_above, gave_out, is_home, Traces, Fits, IsSound, IsQuiet}
 use Rattle.space_core.specs.declared.level.Level.{Level}
 use Rattle.space_core.proofs.MemberLaws.{elsewhere_in, set_member}
 
@@ -89,7 +88,7 @@ fits_after before after l v a h f = record {
   from = f.from ∙ ap length (sym a);
   consistent = f.consistent;
   home = λ t. all_home before after l.space (flat_map named_by (shown l).tells) h (f.home t);
-  touches = λ t n. subst (λ (ts : List Tell). Touches ts (shown l).tells l.touched) (sym a) (f.touches t n);
+  touches = λ t n. subst (λ (ts : List Tell). Traces l.space ts (shown l).tells l.touched) (sym a) (f.touches t n);
 }
 
 pub above_same : (before after : List Layer) (space : List ℕ) → (is_top space ≡ false → view after (parent_of space) ≡ view before (parent_of space)) → seen_above after space ≡ seen_above before space

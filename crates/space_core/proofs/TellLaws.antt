@@ -13,21 +13,20 @@ use Rattle.oz_semantics.specs.Configurations.{is_of, layer_at, view, in_layer, t
 use Rattle.oz_semantics.specs.declared.value.Tell.{Tell}
 use Rattle.oz_semantics.specs.declared.configuration.Layer.{Layer}
 use Rattle.oz_semantics.specs.declared.configuration.Next.{Next}
-use Rattle.oz_laws.specs.Touched.{Touches}
 use Rattle.oz_laws.proofs.SameLaws.{In, In-from_contains, and-left, and-right}
 use Rattle.view_laws.specs.Sights.{KeepsSpace, is_led}
 use Rattle.view_laws.specs.Trees.{IsTree, is_ascending, names_of}
 use Rattle.view_laws.proofs.Members.{decide, not_both, and_both, by_some}
 use Rattle.view_laws.proofs.NameLaws.{equal_names, names_equal, not_above_parent, properly_by}
 use Rattle.view_laws.proofs.SightLaws.{of_space, space_of, change_unseen, later_silent, view_splits, parent_above}
-use Rattle.view_laws.proofs.TwiceLaws.{touches_twice}
 use Rattle.view_laws.proofs.TreeLaws.{one_of_name, trees_lead, change_tree}
 use Rattle.space_core.specs.Places.{IsFirst}
-use Rattle.space_core.specs.Shown.{shown, shown_all, seen_above, is_home, Fits, IsSound}
+use Rattle.space_core.specs.Shown.{shown, shown_all, seen_above, is_home, Traces, Fits, IsSound}
 use Rattle.space_core.specs.Telling.{IsToldMore, has_below}
 use Rattle.space_core.specs.declared.level.Level.{Level}
 use Rattle.space_core.proofs.Firsts.{found_edited}
 use Rattle.space_core.proofs.MemberLaws.{IsElsewhere, elsewhere_in, set_member, all_flat}
+use Rattle.space_core.proofs.TraceLaws.{traces_twice}
 use Rattle.space_core.proofs.SoundLaws.{Edited, KeepsHomes, shown_member, place_within, place_member, read_shown, all_home, set_shown, fits_after, above_same, homes_kept, changed_grown}
 
 none_of : {A : Type 0} (p : A → Bool) (xs : List A) → list_any p xs ≡ false → (x : A) → Contains xs x → p x ≡ false
@@ -181,7 +180,7 @@ pub record FitsAt (layers : List Layer) (space : List ℕ) (l : Level) : Type 0 
   pub from : l.told_from ≡ length (seen_above layers space)
   pub consistent : is_consistent l.store ≡ true
   pub home : l.traced ≡ true → list_all (is_home layers space) (flat_map named_by (shown l).tells) ≡ true
-  pub touches : l.traced ≡ true → is_top space ≡ false → Touches (seen_above layers space) (shown l).tells l.touched
+  pub touches : l.traced ≡ true → is_top space ≡ false → Traces space (seen_above layers space) (shown l).tells l.touched
 
 pub fits_at : (layers : List Layer) (space : List ℕ) (l : Level) → space ≡ l.space → FitsAt layers space l → Fits layers l
 fits_at layers space l e f = record {
@@ -189,7 +188,7 @@ fits_at layers space l e f = record {
   from = subst (λ (s : List ℕ). l.told_from ≡ length (seen_above layers s)) e f.from;
   consistent = f.consistent;
   home = subst (λ (s : List ℕ). l.traced ≡ true → list_all (is_home layers s) (flat_map named_by (shown l).tells) ≡ true) e f.home;
-  touches = subst (λ (s : List ℕ). l.traced ≡ true → is_top s ≡ false → Touches (seen_above layers s) (shown l).tells l.touched) e f.touches;
+  touches = subst (λ (s : List ℕ). l.traced ≡ true → is_top s ≡ false → Traces s (seen_above layers s) (shown l).tells l.touched) e f.touches;
 }
 
 pub at_fits : (layers : List Layer) (space : List ℕ) (l : Level) → l.space ≡ space → Fits layers l → FitsAt layers space l
@@ -198,7 +197,7 @@ at_fits layers space l e f = record {
   from = subst (λ (s : List ℕ). l.told_from ≡ length (seen_above layers s)) e f.from;
   consistent = f.consistent;
   home = subst (λ (s : List ℕ). l.traced ≡ true → list_all (is_home layers s) (flat_map named_by (shown l).tells) ≡ true) e f.home;
-  touches = subst (λ (s : List ℕ). l.traced ≡ true → is_top s ≡ false → Touches (seen_above layers s) (shown l).tells l.touched) e f.touches;
+  touches = subst (λ (s : List ℕ). l.traced ≡ true → is_top s ≡ false → Traces s (seen_above layers s) (shown l).tells l.touched) e f.touches;
 }
 
 -- What fits what its parent sees, where its layer is one of the tree's
@@ -207,7 +206,7 @@ pub record FitsAbove (layers : List Layer) (space : List ℕ) (m : Level) : Type
   pub from : m.told_from ≡ length (seen_above layers space)
   pub consistent : is_consistent m.store ≡ true
   pub home : m.traced ≡ true → list_all (is_home layers space) (flat_map named_by (shown m).tells) ≡ true
-  pub touches : m.traced ≡ true → is_top space ≡ false → Touches (seen_above layers space) (shown m).tells m.touched
+  pub touches : m.traced ≡ true → is_top space ≡ false → Traces space (seen_above layers space) (shown m).tells m.touched
 
 module _ (levels : List Level) (space : List ℕ) (place : ℕ) (x : Layer) (h : IsFirst (is_of space) (shown_all levels) place x) (l m : Level) (e : l ≡ slice_index_or levels place l)
     (change : Layer → Layer) (becomes : shown m ≡ change (shown l)) (names : m.space ≡ l.space) (numbers : m.next ≡ l.next) (s : IsSound levels) (none : has_below (shown_all levels) space ≡ false) where
@@ -220,7 +219,7 @@ module _ (levels : List Level) (space : List ℕ) (place : ℕ) (x : Layer) (h :
         consistent = f.consistent;
         home = λ t. all_home (shown_all levels) (in_layer space change (shown_all levels)) space (flat_map named_by (shown m).tells)
             (after_homes levels space place x h l m e change becomes names numbers s none space) (f.home t);
-        touches = λ t n. subst (λ (ts : List Tell). Touches ts (shown m).tells m.touched) (sym (own_above levels space place x h l m e change becomes names numbers s none)) (f.touches t n);
+        touches = λ t n. subst (λ (ts : List Tell). Traces space ts (shown m).tells m.touched) (sym (own_above levels space place x h l m e change becomes names numbers s none)) (f.touches t n);
       }))
 
 -- Telling
@@ -261,8 +260,8 @@ module _ (levels : List Level) (space : List ℕ) (place : ℕ) (x : Layer) (h :
     home = λ t. let k = told.traced t in all_named_home k.0 k.1;
     touches = λ t n.
         let k = told.notes t (subst (λ (q : List ℕ). is_top q ≡ false) (sym own_name) n) in
-        subst (λ (us : List Tell). Touches (seen_above (shown_all levels) space) us m.touched) (sym more_tells)
-        (subst (λ (xs : List Ident). Touches (seen_above (shown_all levels) space) ((shown l).tells ++ ts) xs) (sym k.noted)
-        (touches_twice (seen_above (shown_all levels) space) (shown l).tells ts l.touched k.more (fitted.touches (told.traced t).0 n)
-        (subst (λ (us : List Tell). Touches us ts k.more) parts k.touches)));
+        subst (λ (us : List Tell). Traces space (seen_above (shown_all levels) space) us m.touched) (sym more_tells)
+        (subst (λ (xs : List Ident). Traces space (seen_above (shown_all levels) space) ((shown l).tells ++ ts) xs) (sym k.noted)
+        (traces_twice space (seen_above (shown_all levels) space) (shown l).tells ts l.touched k.more (fitted.touches (told.traced t).0 n)
+        (subst (λ (s : List ℕ). Traces s (seen_above (shown_all levels) space ++ (shown l).tells) ts k.more) own_name (subst (λ (us : List Tell). Traces l.space us ts k.more) parts k.traces))));
   })

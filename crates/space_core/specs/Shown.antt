@@ -1,5 +1,5 @@
 -- What is kept of each space, as the layers of a configuration, and what holds of it.
-use Rattle.std.specs.Prelude.{ℕ, ◌≡◌, ◌≤◌, Bool, true, false, ◌&&◌, nat_lt, List, [], ◌∷◌, map, drop, length, Contains}
+use Rattle.std.specs.Prelude.{ℕ, ◌≡◌, ◌≤◌, Bool, true, false, not, ◌&&◌, nat_lt, List, [], ◌∷◌, map, filter, drop, length, Contains}
 use Rattle.std.specs.List.{list_any, list_all, flat_map}
 use Rattle.oz_base.specs.Lists.{list_eq}
 use Rattle.oz_base.specs.declared.names.Ident.{Ident}
@@ -39,6 +39,16 @@ is_home layers space x = list_any (λ (l : Layer). gave_out x l && is_below l.sp
 abbrev pub is_outer : List Layer → List ℕ → Ident → Bool
 is_outer layers space x = list_any (λ (l : Layer). gave_out x l && is_properly_below l.space space) layers
 
+-- whether a variable is not the space's own
+abbrev pub is_other : List ℕ → Ident → Bool
+is_other space x = not (list_eq x.space space)
+
+-- all that is touched and is not the space's own was noted, and nothing else
+pub record Traces (space : List ℕ) (before more : List Tell) (noted : List Ident) : Type 0 where
+  pub all : List Ident
+  pub touches : Touches before more all
+  pub others : noted ≡ filter (is_other space) all
+
 -- What is kept of a space fits the layers
 pub record Fits (layers : List Layer) (l : Level) : Type 0 where
   -- the store is what the space sees, after what its parent sees
@@ -47,8 +57,8 @@ pub record Fits (layers : List Layer) (l : Level) : Type 0 where
   pub consistent : is_consistent l.store ≡ true
   -- where it is traced, all that it was told names variables of the space or of those above it
   pub home : l.traced ≡ true → list_all (is_home layers l.space) (flat_map named_by (shown l).tells) ≡ true
-  -- and touches what was noted
-  pub touches : l.traced ≡ true → is_top l.space ≡ false → Touches (seen_above layers l.space) (shown l).tells l.touched
+  -- and of what it touches, the variables of other spaces were noted
+  pub touches : l.traced ≡ true → is_top l.space ≡ false → Traces l.space (seen_above layers l.space) (shown l).tells l.touched
 
 -- The layers are those of a tree, and what is kept of each space fits them
 pub record IsSound (levels : List Level) : Type 0 where

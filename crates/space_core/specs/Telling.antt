@@ -6,18 +6,18 @@ use Rattle.oz_semantics.specs.Names.{is_properly_below, is_top}
 use Rattle.oz_semantics.specs.Store.{is_consistent}
 use Rattle.oz_semantics.specs.declared.value.Tell.{Tell}
 use Rattle.oz_semantics.specs.declared.configuration.Layer.{Layer}
-use Rattle.oz_laws.specs.Touched.{Touches}
+use Rattle.space_core.specs.Shown.{Traces}
 use Rattle.space_core.specs.declared.level.Level.{Level}
 
 -- whether there are spaces below this one
 abbrev pub has_below : List Layer → List ℕ → Bool
 has_below layers space = list_any (λ (l : Layer). is_properly_below space l.space) layers
 
--- these variables were noted besides, which what was told touches
+-- these variables were noted besides, which are those of other spaces that what was told touches
 pub record IsNoted (ts : List Tell) (old new : Level) : Type 0 where
   pub more : List Ident
   pub noted : new.touched ≡ old.touched ++ more
-  pub touches : Touches old.store ts more
+  pub traces : Traces old.space old.store ts more
 
 -- the store was told this; home says whether the variables are those of the space or of spaces above it
 pub record IsToldMore (home : Bool) (ts : List Tell) (old new : Level) : Type 0 where

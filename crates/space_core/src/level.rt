@@ -15,11 +15,13 @@ pub struct Level {
     pub store: Store,
     /// The place in the store from which on the space was told itself what stands there. What stands before is what its parent sees.
     pub told_from: u64,
-    /// Variables of the classes of its parent's view that are touched by what the space was told. The top's are not noted.
+    /// Variables of the classes of its parent's view that are touched by what the space was told, but for the space's own. The
+    /// top's are not noted.
     pub touched: Sequence<Ident>,
     pub threads: Sequence<Thread>,
     pub next: Next,
-    /// Whether all variables that were told of are those of the space and of spaces above it, and all that is touched was noted.
+    /// Whether all variables that were told of are those of the space and of spaces above it, and all of other spaces that is touched
+    /// was noted.
     /// So it is in the runs of programs.
     pub traced: bool,
 }

@@ -7,6 +7,7 @@ ghost use Rattle.oz_semantics.specs.Spaces.{alike_on, is_held};
 ghost use Rattle.oz_semantics.specs.Edits.{created};
 ghost use Rattle.oz_semantics.specs.Settling.{inconsistent_spaces};
 ghost use Rattle.space_core.specs.Levels.{OfLayer, IsToldTo, IsUnwound, replacing};
+ghost use Rattle.space_core.specs.Telling.{has_below};
 
 use crate::homes::{all_home, has_below};
 use crate::level::{Level, top_level};
@@ -133,6 +134,13 @@ impl Levels {
             space,
             variable,
         )
+    }
+
+    /// Whether there are spaces below this one.
+    pub fn has_below(&self, space: &SpaceName) -> bool
+        ensures { result ≡ has_below self.now space.now }
+    {
+        has_below(self.levels.as_slice(), space)
     }
 
     /// Takes the statement off the top of a thread's stack.

@@ -1,10 +1,26 @@
 //! Tells of one space.
-ghost use Rattle.std.specs.Prelude.{◌≡◌, IfOk, OnErr};
+ghost use Rattle.std.specs.Prelude.{◌≡◌, filter, IfOk, OnErr};
+ghost use Rattle.space_core.specs.Shown.{is_other};
 ghost use Rattle.space_core.specs.Telling.{IsLevelTold};
 
 use crate::level::Level;
+use oz_base::{Ident, SpaceName, same_space};
 use oz_semantics::Tell;
 use std::alloc::{AllocError, Global};
+
+/// Whether a variable is not the space's own.
+fn is_other(space: &SpaceName, variable: &Ident) -> bool
+    ensures { result ≡ is_other space.now variable.now }
+{
+    !same_space(&variable.space, space)
+}
+
+/// Drops the space's own variables.
+fn drop_own(space: &SpaceName, variables: &mut Vec<Ident>)
+    ensures { variables.new.items ≡ filter (is_other space.now) variables.old.items }
+{
+    variables.retain(|variable| is_other(space, variable));
+}
 
 /// Tells a space more, of which it is known whether all variables are those of the space and of spaces above it. False exactly where
 /// it is inconsistent with what the space sees: then nothing changes.
@@ -23,6 +39,7 @@ pub fn tell(
     if !level.store.tell(alloc, tells, &mut noted)? {
         return Ok(false);
     }
+    drop_own(&level.space, &mut noted);
     let kept = level.space.is_top() || level.touched.append(noted).is_ok();
     level.traced = level.traced && home && kept;
     Ok(true)
