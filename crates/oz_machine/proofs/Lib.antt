@@ -7,3 +7,4 @@ pub mod TurnLaws
 pub mod SearchLaws
 pub mod QuietLaws
 pub mod RunLaws
+pub mod ToldLaws

@@ -61,7 +61,7 @@ able_alone statements layers id good opened =
     ∙ ap (λ (b : Bool). b && holds_of (λ (t : Thread). can_step (thread_ready (sight statements layers id.space) t)) (thread_at (layer_of layers id.space).threads id.number)) opened
     ∙ holds_frames (sight statements layers id.space) (thread_at (layer_of layers id.space).threads id.number)
 
-mover_joins : (statements : List Statement) (layers : List Layer) (id : Ident) → AreOrderly layers → is_open (layer_of layers id.space).status ≡ true
+pub mover_joins : (statements : List Statement) (layers : List Layer) (id : Ident) → AreOrderly layers → is_open (layer_of layers id.space).status ≡ true
     → mover_in (Some id) (runnable statements layers) ≡ able_in statements layers id
 mover_joins statements layers id good opened = ap (λ (b : Bool). if b then id ∷ [] else []) (able_alone statements layers id good opened)
 

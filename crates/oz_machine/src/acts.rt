@@ -1,7 +1,7 @@
 //! What a statement's act does to the layers.
-ghost use Rattle.std.specs.Prelude.{◌≡◌, ◌+◌, ◌∷◌, [], true, is_some, length, map, option_to_list, IfOk};
+ghost use Rattle.std.specs.Prelude.{◌≡◌, ◌+◌, ◌∷◌, [], true, is_some, length, map, option_to_list, IfOk, OnOk};
 ghost use Rattle.std.specs.List.{range_with_len};
-ghost use Rattle.environments.specs.Environments.{Environment};
+ghost use Rattle.environments.specs.Environments.{Environment, binding_all};
 ghost use Rattle.oz_semantics.specs.Names.{named};
 ghost use Rattle.oz_semantics.specs.Terms.{list_term, term_tells};
 ghost use Rattle.oz_semantics.specs.Configurations.{layer_of, layer_at};
@@ -47,24 +47,25 @@ fn number_after(from: u64, count: usize) -> Result<u64, AllocError>
     }
 }
 
-/// So many variables of the space, from this number on.
-fn variables_from(
+/// The identifiers stand for as many variables of the space, from this number on. It writes in place what no other environment
+/// shares.
+fn bind_from(
     alloc: Global,
+    environment: &mut Environment,
+    names: &[Identifier],
     space: &SpaceName,
     from: u64,
-    count: usize,
-) -> Result<Vec<Ident>, AllocError>
-    ensures { IfOk result (λ variables. variables.items ≡ map (named space.now) (range_with_len from count)) }
+) -> Result<(), AllocError>
+    ensures { OnOk result (environment.new ≡ binding_all names.now (map (named space.now) (range_with_len from (length names.now))) environment.old) }
 {
-    let mut variables = Vec::new(alloc);
-    for i in 0..count {
-        let number = number_after(from, i)?;
-        variables.push(Ident {
-            space: space.copied(alloc)?,
-            number,
-        })?;
+    let mut left = names.len();
+    'names: while left > 0 {
+        left -= 1;
+        let number = number_after(from, left)?;
+        let space = space.copied(alloc)?;
+        environment.bind(alloc, names[left], Ident { space, number })?;
     }
-    Ok(variables)
+    Ok(())
 }
 
 /// A body goes on, in which the identifiers stand for new variables.
@@ -72,16 +73,15 @@ fn declare(
     alloc: Global,
     levels: &mut Levels,
     id: &Ident,
-    environment: &Environment,
+    mut environment: Environment,
     names: &[Identifier],
     body: &[u32],
 ) -> Result<(), AllocError>
-    ensures { IfOk result (λ done. IsDone id.now (act_effect (layer_of levels.old id.now.space) (answers.Declares environment.now names.now body.now)) levels.old levels.new true) }
+    ensures { IfOk result (λ done. IsDone id.now (act_effect (layer_of levels.old id.now.space) (answers.Declares environment names.now body.now)) levels.old levels.new true) }
 {
     let next = next_of(levels, &id.space);
-    let variables = variables_from(alloc, &id.space, next.variable, names.len())?;
-    let inner = environment.extended(alloc, names, &variables)?;
-    let frames = frames_of(alloc, &inner, body)?;
+    bind_from(alloc, &mut environment, names, &id.space, next.variable)?;
+    let frames = frames_of(alloc, &environment, body)?;
     levels.consistent();
     levels.push(id, frames)?;
     levels.give_out(&id.space, names.len() as u64)?;
@@ -236,7 +236,7 @@ pub fn act(alloc: Global, levels: &mut Levels, id: &Ident, act: Act) -> Result<b
                 alloc,
                 levels,
                 id,
-                &environment,
+                environment,
                 names.as_slice(),
                 body.as_slice(),
             )?;

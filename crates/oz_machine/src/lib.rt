@@ -13,6 +13,7 @@ mod scripts;
 mod searching;
 mod settling;
 mod texts;
+mod told;
 mod turn;
 
 pub use machine::Machine;

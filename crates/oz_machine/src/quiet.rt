@@ -53,7 +53,7 @@ fn steps(
 }
 
 /// A thread joins the end of the queue, if it can step.
-fn join_able(
+pub fn join_able(
     alloc: Global,
     statements: &[Statement],
     id: &Ident,

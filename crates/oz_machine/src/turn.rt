@@ -1,5 +1,5 @@
 //! One turn of the machine: the head of the queue makes one step.
-ghost use Rattle.std.specs.Prelude.{◌≡◌, ◌≤◌, ◌<◌, ◌+◌, ◌&&◌, ◌∷◌, [], List, true, is_some, length, position, IfOk, IfSome, OnOk, Some, None};
+ghost use Rattle.std.specs.Prelude.{◌≡◌, ◌≤◌, ◌<◌, ◌+◌, ◌&&◌, not, ◌∷◌, [], List, true, is_some, length, position, IfOk, IfSome, OnOk, Some, None};
 ghost use Rattle.oz_semantics.specs.Configurations.{is_of, layer_at, stack_of};
 ghost use Rattle.oz_semantics.specs.Statements.{stack_answer};
 ghost use Rattle.oz_semantics.specs.Spaces.{sight};
@@ -7,6 +7,7 @@ ghost use Rattle.oz_semantics.specs.Answers as answers;
 ghost use Rattle.oz_semantics.specs.Steps.{without_top, after_answer, shown_by, stepped};
 ghost use Rattle.oz_semantics.specs.Schedule.{turn};
 ghost use Rattle.builtins.specs.Answers.{act_of, IsAnswer};
+ghost use Rattle.space_core.specs.Telling.{has_below};
 ghost use Rattle.oz_machine.specs.Courses.{config_of, Keeps};
 ghost use Rattle.oz_machine.specs.Doings.{is_quiet};
 ghost use Rattle.oz_machine.specs.Quiet.{IsHead, IsPopped};
@@ -18,6 +19,7 @@ use crate::course::Course;
 use crate::quiet::go_on_quietly;
 use crate::raising::{raise, raise_kind};
 use crate::settling::{follow, go_on};
+use crate::told::go_on_told;
 use builtins::{Act, Answer};
 use oz_base::{Ident, Sequence};
 use oz_language::{Kernel, Statement};
@@ -53,6 +55,13 @@ fn is_known_quiet(what: &Act, kept: bool) -> bool
     kept && is_quiet(what)
 }
 
+/// Whether no space is below the thread's, where this spares a look at the threads of other spaces.
+fn is_known_lowest(levels: &Levels, id: &Ident, kept: bool) -> bool
+    ensures { result ≡ (kept && not (has_below levels.now id.now.space)) }
+{
+    kept && !levels.has_below(&id.space)
+}
+
 /// The thread does what an act says that shows nothing. Its statement is off its stack already.
 fn make_act(
     alloc: Global,
@@ -69,15 +78,25 @@ fn make_act(
 {
     let statements = kernel.statements.as_slice();
     let quiet = is_known_quiet(&what, kept);
+    let lowest = is_known_lowest(&course.levels, id, kept);
     let started = started(alloc, &course.levels, id, &what)?;
     if !act(alloc, &mut course.levels, id, what)? {
         return raise_kind(alloc, statements, id, RaiseKind::FailureTell, course);
     }
     if quiet {
         go_on_quietly(alloc, statements, id, started, 1, course)
+    } else if lowest {
+        go_on_told(alloc, statements, id, 1, course)
     } else {
         go_on(alloc, statements, id, 1, course)
     }
+}
+
+/// Takes the statement off the top of a thread's stack, and lets go of it.
+fn take_off(levels: &mut Levels, id: &Ident)
+    ensures { levels.new ≡ without_top id.now levels.old }
+{
+    let _frame = levels.pop(id);
 }
 
 /// The thread steps as its statement answered, which shows nothing.
@@ -101,15 +120,15 @@ fn make_step(
             follow(alloc, statements, id, 1, course)
         }
         Answer::Acts(what) => {
-            let _frame = course.levels.pop(id);
+            take_off(&mut course.levels, id);
             make_act(alloc, kernel, id, what, kept, course)
         }
         Answer::RaisesKind(kind) => {
-            let _frame = course.levels.pop(id);
+            take_off(&mut course.levels, id);
             raise_kind(alloc, statements, id, kind, course)
         }
         Answer::RaisesTerm(exception) => {
-            let _frame = course.levels.pop(id);
+            take_off(&mut course.levels, id);
             course.levels.consistent();
             raise(alloc, statements, id, exception, kept, course)
         }
@@ -142,7 +161,7 @@ fn show_text(
     let Text { bytes, nodes } = text;
     let cost = text_cost(nodes)?;
     let statements = kernel.statements.as_slice();
-    let _frame = course.levels.pop(id);
+    take_off(&mut course.levels, id);
     course.levels.consistent();
     course.shown.push(alloc, bytes)?;
     if kept {

@@ -1,15 +1,9 @@
-use Rattle.std.proofs.Common.{◌++◌, length, sym, ap, ◌∙◌}
-use Rattle.std.proofs.lemmas.List.FromFn.{length-map-range_with_len}
-use Rattle.oz_semantics.specs.Names.{named}
+use Rattle.std.proofs.Common.{◌++◌, length, ap, ◌∙◌}
 use Rattle.oz_semantics.specs.Configurations.{layer_of, in_layer, with_frames, giving_out}
 use Rattle.oz_semantics.specs.Effects.{declared_changes}
 use Rattle.oz_machine.proofs.SettleNeeds.{makes}
 use Rattle.oz_machine.proofs.ActLaws.{declared_frames}
 use Rattle.oz_machine.proofs.acts.declare.Goals as goal
-
-pub extended-requires : goal.extended-requires
-extended-requires c =
-    sym (ap length (c.deref.ensures.value ∙ c.in_ok-variables.ensures) ∙ length-map-range_with_len (named c.args.id.now.space) c.next_of-next.result.variable (length c.args.names.now))
 
 pub returns : goal.returns
 returns c =
@@ -17,7 +11,7 @@ returns c =
     let old = c.args.levels.now in
     let names = c.args.names.now in
     let frames = c.in_ok-frames.frames.items in
-    let same = declared_frames old id.space c.next_of-next.result names c.args.body.now c.args.environment.now c.in_ok-inner.inner c.deref.result.now frames
-    c.next_of-next.ensures (c.deref.ensures.value ∙ c.in_ok-variables.ensures) c.in_ok-inner.ensures c.in_ok-frames.ensures in
-    makes id (declared_changes (layer_of old id.space) c.args.environment.now names c.args.body.now) old c.give_out.new.self c.consistent.ensures
+    let same = declared_frames old id.space c.next_of-next.result names c.args.body.now c.args.environment c.bind_from.new.environment frames
+    c.next_of-next.ensures c.in_ok-bind_from.ensures c.in_ok-frames.ensures in
+    makes id (declared_changes (layer_of old id.space) c.args.environment names c.args.body.now) old c.give_out.new.self c.consistent.ensures
     (c.in_ok-give_out.ensures.ok ∙ ap (in_layer id.space (giving_out (length names))) (c.in_ok-push.ensures.ok ∙ ap (λ fs. in_layer id.space (with_frames id.number (λ stack. fs ++ stack)) old) same))

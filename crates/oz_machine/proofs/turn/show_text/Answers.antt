@@ -8,13 +8,13 @@ use Rattle.oz_machine.specs.Quiet.{IsHead}
 use Rattle.oz_machine.proofs.DoingLaws.{ok_turn}
 use Rattle.oz_machine.proofs.turn.show_text.Goals as goal
 
-pub returns-clause-turn : goal.returns-clause-turn
-returns-clause-turn c =
+pub returns-else-kept-clause-turn : goal.returns-else-kept-clause-turn
+returns-else-kept-clause-turn c =
     let k = c.args.kernel.now in
     let id = c.args.id.now in
     let now = config_of c.args.course.now in
     let text = c.args.text in
-    let popped = c.pop-frame.new.self in
+    let popped = c.take_off.new.levels in
     let st = c.as_slice-statements.result.now in
     let cost : c.in_ok-cost.cost ≡ 1 + text.nodes = c.in_ok-cost.ensures in
     ok_turn c.go_on.result (shown_by k.statements id (record { bytes = text.bytes; nodes = text.nodes }) (without_top id now.layers) now)
@@ -22,7 +22,7 @@ returns-clause-turn c =
     (
     ap (λ ss. went_on ss id (1 + text.nodes) (without_top id now.layers) (record now { shown = now.shown ++ text.bytes ∷ [] })) (sym c.as_slice-statements.ensures)
     ∙ ap (λ (n : ℕ). went_on st id n (without_top id now.layers) (record now { shown = now.shown ++ text.bytes ∷ [] })) (sym cost)
-    ∙ ap (λ (ls : List Layer). went_on st id c.in_ok-cost.cost ls (record now { layers = popped; shown = now.shown ++ text.bytes ∷ [] })) (sym c.pop-frame.ensures.popped)
+    ∙ ap (λ (ls : List Layer). went_on st id c.in_ok-cost.cost ls (record now { layers = popped; shown = now.shown ++ text.bytes ∷ [] })) (sym c.take_off.ensures)
     ∙ ap (λ (h : List (List ℕ)). went_on st id c.in_ok-cost.cost popped (record now { layers = popped; shown = h })) (sym c.in_ok-push.ensures.ok)
     )
     (c.go_on.ensures.turn popped (nothing_fails id.space popped c.consistent.ensures))
@@ -33,7 +33,7 @@ returns-then-kept-clause-turn c =
     let id = c.args.id.now in
     let now = config_of c.args.course.now in
     let text = c.args.text in
-    let popped = c.pop-frame.new.self in
+    let popped = c.take_off.new.levels in
     let shown = c.push.new.self in
     let st = c.as_slice-statements.result.now in
     let cost : c.in_ok-cost.cost ≡ 1 + text.nodes = c.in_ok-cost.ensures in
@@ -43,7 +43,7 @@ returns-then-kept-clause-turn c =
     (
     ap (λ ss. went_on ss id (1 + text.nodes) (without_top id now.layers) (record now { shown = now.shown ++ text.bytes ∷ [] })) (sym c.as_slice-statements.ensures)
     ∙ ap (λ (n : ℕ). went_on st id n (without_top id now.layers) (record now { shown = now.shown ++ text.bytes ∷ [] })) (sym cost)
-    ∙ ap (λ (ls : List Layer). went_on st id c.in_ok-cost.cost ls (record now { layers = popped; shown = now.shown ++ text.bytes ∷ [] })) (sym c.pop-frame.ensures.popped)
+    ∙ ap (λ (ls : List Layer). went_on st id c.in_ok-cost.cost ls (record now { layers = popped; shown = now.shown ++ text.bytes ∷ [] })) (sym c.take_off.ensures)
     ∙ ap (λ (h : List (List ℕ)). went_on st id c.in_ok-cost.cost popped (record now { layers = popped; shown = h })) (sym c.in_ok-push.ensures.ok)
     )
-    (c.go_on_quietly.ensures.turn now.layers [] head c.pop-frame.ensures.popped refl)
+    (c.go_on_quietly.ensures.turn now.layers [] head c.take_off.ensures refl)

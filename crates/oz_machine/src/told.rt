@@ -1,0 +1,61 @@
+//! What follows a step that told its space something, where no space is below: threads of its own space alone can step by that.
+ghost use Rattle.std.specs.Prelude.{◌≡◌, ◌<◌, ◌++◌, List, Some, true, length, position, IfOk};
+ghost use Rattle.std.specs.List.{list_all};
+ghost use Rattle.oz_semantics.specs.Store.{is_consistent};
+ghost use Rattle.oz_semantics.specs.Configurations.{is_numbered, layer_of, view};
+ghost use Rattle.oz_semantics.specs.Changes.{Change, done};
+ghost use Rattle.oz_semantics.specs.Steps.{went_on, without_top};
+ghost use Rattle.oz_semantics.specs.declared.value.Tell.{Tell};
+ghost use Rattle.oz_semantics.specs.declared.configuration.Layer.{Layer};
+ghost use Rattle.oz_semantics.specs.declared.outcome.Stepped.TheVariants.{Moved};
+ghost use Rattle.turn_laws.specs.Telling.{IsAlone};
+ghost use Rattle.oz_machine.specs.Courses.{config_of};
+ghost use Rattle.oz_machine.specs.Quiet.{IsHead};
+
+use crate::course::Course;
+use crate::quiet::join_able;
+use crate::settling::follow;
+use oz_base::Ident;
+use oz_language::Statement;
+use oz_semantics::{Stepped, Thread};
+use space_core::Levels;
+use std::alloc::{AllocError, Global};
+
+fn are_numbered(threads: &[Thread], number: u64) -> bool
+    ensures { result ≡ list_all (is_numbered number) threads.now }
+{
+    threads.iter().all(|thread| thread.number == number)
+}
+
+/// Whether no thread but this one is in its space.
+fn is_single(levels: &Levels, id: &Ident) -> bool
+    ensures { result ≡ true → list_all (is_numbered id.now.number) (layer_of levels.now id.now.space).threads ≡ true }
+{
+    match levels.place(&id.space) {
+        None => true,
+        Some(place) => are_numbered(levels.threads_at(place), id.number),
+    }
+}
+
+/// A thread goes on after a step that told its space, below which there is none, what is consistent with what it sees.
+pub fn go_on_told(
+    alloc: Global,
+    statements: &[Statement],
+    mover: &Ident,
+    cost: u64,
+    course: &mut Course,
+) -> Result<Stepped, AllocError>
+    ensures turn { (layers : List Layer) (ts : List Tell) (changes : List Change) → IsHead statements.now mover.now layers course.old.queue course.old.shown
+        → IsAlone layers mover.now.space → is_consistent (view layers mover.now.space ++ ts) ≡ true
+        → course.old.levels ≡ done mover.now ts changes (without_top mover.now layers)
+        → IfOk result (λ stepped. went_on statements.now mover.now cost course.old.levels (config_of course.old) ≡ (stepped, config_of course.new)) }
+    ensures cost { IfOk result (λ stepped. stepped ≡ Moved cost) }
+{
+    course.levels.drop_terminated(&mover.space);
+    course.levels.consistent();
+    if !is_single(&course.levels, mover) {
+        return follow(alloc, statements, mover, cost, course);
+    }
+    join_able(alloc, statements, mover, course)?;
+    Ok(Stepped::Moved { cost })
+}
