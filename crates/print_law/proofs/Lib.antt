@@ -1,0 +1,4 @@
+pub mod Classes
+pub mod Openings
+pub mod Printing
+pub mod TheLaws
