@@ -1,0 +1,4 @@
+mod EndLaws
+mod LeafLaws
+mod CrewLaws
+mod PartLaws

@@ -1,0 +1,53 @@
+-- Types that may cross threads, since their parts may.
+use denote.Param.SendFields.{declared_send, declared_sync}
+use denote.Param.Send.{IsSend, IsSync, sendable, view_send, view_sync}
+use Rattle.std.proofs.Crossing.{Vec-send, Vec-sync}
+use Rattle.oz_base.specs.contracts.names.SpaceName as name
+use Rattle.oz_base.specs.contracts.names.Ident as ident
+use Rattle.oz_base.specs.contracts.sequence.Sequence as sequence
+use Rattle.oz_base.specs.contracts.shared.Shared as shared
+use Rattle.oz_language.specs.contracts.kernel.Kernel as kernel
+use Rattle.oz_semantics.specs.contracts.value.Tell as told
+use Rattle.oz_semantics.specs.contracts.configuration.Status as status
+use Rattle.oz_semantics.specs.contracts.configuration.Thread as thread
+use Rattle.oz_semantics.specs.contracts.configuration.Next as next
+use Rattle.shared_list.specs.contracts.list.SharedList as list
+use Rattle.term_store.specs.contracts.log.Log as log
+use Rattle.term_store.specs.contracts.classes.Classes as classes
+use Rattle.term_store.specs.contracts.store.Store as store
+use Rattle.space_core.specs.contracts.level.Level as level
+use Rattle.space_core.specs.contracts.levels.Levels as levels
+use Rattle.oz_threads.specs.contracts.queue.Queue as queue
+use Rattle.oz_machine.specs.contracts.course.Course as course
+use Rattle.oz_machine.specs.contracts.machine.Machine as machine
+use denote.Builtin.{u8}
+
+log_send : IsSend (list.the_row (shared.the_row (sequence.the_row told.the_row))) → IsSend told.the_row → IsSend log.the_row
+log_send l t = view_send _ _ _ _ _ (declared_send log.TheInside.the_type (l, (Vec-send told.the_row t, tt)))
+
+log_sync : IsSync (list.the_row (shared.the_row (sequence.the_row told.the_row))) → IsSync told.the_row → IsSync log.the_row
+log_sync l t = view_sync _ _ _ _ _ (declared_sync log.TheInside.the_type (l, (Vec-sync told.the_row t, tt)))
+
+pub store_send : IsSend (list.the_row (shared.the_row (sequence.the_row told.the_row))) → IsSend told.the_row → IsSend classes.the_row → IsSend store.the_row
+store_send l t c = view_send _ _ _ _ _ (declared_send store.TheInside.the_type (log_send l t, (c, tt)))
+
+pub store_sync : IsSync (list.the_row (shared.the_row (sequence.the_row told.the_row))) → IsSync told.the_row → IsSync classes.the_row → IsSync store.the_row
+store_sync l t c = view_sync _ _ _ _ _ (declared_sync store.TheInside.the_type (log_sync l t, (c, tt)))
+
+level_send : IsSend name.the_row → IsSend status.the_row → IsSend store.the_row → IsSend (sequence.the_row ident.the_row) → IsSend (sequence.the_row thread.the_row) → IsSend next.the_row → IsSend level.the_row
+level_send s t u i h n = declared_send level.the_type (s, (t, (u, (search sendable, (i, (h, (n, (search sendable, tt))))))))
+
+level_sync : IsSync name.the_row → IsSync status.the_row → IsSync store.the_row → IsSync (sequence.the_row ident.the_row) → IsSync (sequence.the_row thread.the_row) → IsSync next.the_row → IsSync level.the_row
+level_sync s t u i h n = declared_sync level.the_type (s, (t, (u, (search sendable, (i, (h, (n, (search sendable, tt))))))))
+
+pub levels_send : IsSend name.the_row → IsSend status.the_row → IsSend store.the_row → IsSend (sequence.the_row ident.the_row) → IsSend (sequence.the_row thread.the_row) → IsSend next.the_row → IsSend levels.the_row
+levels_send s t u i h n = view_send _ _ _ _ _ (declared_send levels.TheInside.the_type (Vec-send level.the_row (level_send s t u i h n), tt))
+
+pub levels_sync : IsSync name.the_row → IsSync status.the_row → IsSync store.the_row → IsSync (sequence.the_row ident.the_row) → IsSync (sequence.the_row thread.the_row) → IsSync next.the_row → IsSync levels.the_row
+levels_sync s t u i h n = view_sync _ _ _ _ _ (declared_sync levels.TheInside.the_type (Vec-sync level.the_row (level_sync s t u i h n), tt))
+
+pub machine_send : IsSend (shared.the_row kernel.the_row) → IsSend levels.the_row → IsSend queue.the_row → IsSend (list.the_row (sequence.the_row u8)) → IsSend machine.the_row
+machine_send k l q s = view_send _ _ _ _ _ (declared_send machine.TheInside.the_type (k, (declared_send course.the_type (l, (q, (s, tt))), (search sendable, tt))))
+
+pub machine_sync : IsSync (shared.the_row kernel.the_row) → IsSync levels.the_row → IsSync queue.the_row → IsSync (list.the_row (sequence.the_row u8)) → IsSync machine.the_row
+machine_sync k l q s = view_sync _ _ _ _ _ (declared_sync machine.TheInside.the_type (k, (declared_sync course.the_type (l, (q, (s, tt))), (search sendable, tt))))

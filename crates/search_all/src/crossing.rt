@@ -1,0 +1,174 @@
+//! What may cross threads, from its parts up.
+ghost use denote.Builtin.{u8};
+ghost use Rattle.std.specs.Thread.{IsSend, IsSync};
+ghost use Rattle.oz_base.specs.contracts.names.SpaceName as name;
+ghost use Rattle.oz_base.specs.contracts.names.Ident as ident;
+ghost use Rattle.oz_base.specs.contracts.sequence.Sequence as sequence;
+ghost use Rattle.oz_base.specs.contracts.shared.Shared as shared;
+ghost use Rattle.oz_language.specs.contracts.kernel.Kernel as kernel;
+ghost use Rattle.oz_semantics.specs.contracts.value.Tell as told;
+ghost use Rattle.oz_semantics.specs.contracts.configuration.Status as status;
+ghost use Rattle.oz_semantics.specs.contracts.configuration.Thread as thread;
+ghost use Rattle.oz_semantics.specs.contracts.configuration.Next as next;
+ghost use Rattle.shared_list.specs.contracts.list.SharedList as list;
+ghost use Rattle.term_store.specs.contracts.classes.Classes as classes;
+ghost use Rattle.term_store.specs.contracts.store.Store as store;
+ghost use Rattle.space_core.specs.contracts.levels.Levels as levels;
+ghost use Rattle.oz_threads.specs.contracts.queue.Queue as queue;
+ghost use Rattle.oz_machine.specs.contracts.machine.Machine as machine;
+ghost use Rattle.recompute.specs.contracts.frozen.Frozen as frozen;
+
+use oz_base::{Ident, Sequence, Shared, SpaceName};
+use oz_language::Kernel;
+use oz_semantics::{Next, Status, Tell, Thread};
+use oz_threads::Queue;
+use recompute::Frozen;
+use shared_list::SharedList;
+use term_store::Classes;
+
+/// Nothing, as all functions here: its clause says that a type may be sent to another thread.
+fn sends<T: Send>()
+    ensures { IsSend T.row }
+{}
+
+/// Other threads may see values of the type.
+fn shares<T: Sync>()
+    ensures { IsSync T.row }
+{}
+
+fn list_crosses<T: Send + Sync>()
+    ensures send { IsSend (list.the_row T.row) }
+    ensures sync { IsSync (list.the_row T.row) }
+{
+    sends::<SharedList<T>>();
+    shares::<SharedList<T>>();
+}
+
+fn chunks_cross()
+    ensures send { IsSend (list.the_row (shared.the_row (sequence.the_row told.the_row))) }
+    ensures sync { IsSync (list.the_row (shared.the_row (sequence.the_row told.the_row))) }
+{
+    list_crosses::<Shared<Sequence<Tell>>>();
+}
+
+fn tells_cross()
+    ensures send { IsSend told.the_row }
+    ensures sync { IsSync told.the_row }
+{
+    sends::<Tell>();
+    shares::<Tell>();
+}
+
+fn classes_cross()
+    ensures send { IsSend (classes.the_row) }
+    ensures sync { IsSync (classes.the_row) }
+{
+    sends::<Classes>();
+    shares::<Classes>();
+}
+
+fn names_cross()
+    ensures send { IsSend (name.the_row) }
+    ensures sync { IsSync (name.the_row) }
+{
+    sends::<SpaceName>();
+    shares::<SpaceName>();
+}
+
+fn status_crosses()
+    ensures send { IsSend (status.the_row) }
+    ensures sync { IsSync (status.the_row) }
+{
+    sends::<Status>();
+    shares::<Status>();
+}
+
+fn idents_cross()
+    ensures send { IsSend (sequence.the_row ident.the_row) }
+    ensures sync { IsSync (sequence.the_row ident.the_row) }
+{
+    sends::<Sequence<Ident>>();
+    shares::<Sequence<Ident>>();
+}
+
+fn threads_cross()
+    ensures send { IsSend (sequence.the_row thread.the_row) }
+    ensures sync { IsSync (sequence.the_row thread.the_row) }
+{
+    sends::<Sequence<Thread>>();
+    shares::<Sequence<Thread>>();
+}
+
+fn next_crosses()
+    ensures send { IsSend (next.the_row) }
+    ensures sync { IsSync (next.the_row) }
+{
+    sends::<Next>();
+    shares::<Next>();
+}
+
+fn kernel_crosses()
+    ensures send { IsSend (shared.the_row kernel.the_row) }
+    ensures sync { IsSync (shared.the_row kernel.the_row) }
+{
+    sends::<Shared<Kernel>>();
+    shares::<Shared<Kernel>>();
+}
+
+fn queue_crosses()
+    ensures send { IsSend (queue.the_row) }
+    ensures sync { IsSync (queue.the_row) }
+{
+    sends::<Queue>();
+    shares::<Queue>();
+}
+
+fn shown_crosses()
+    ensures send { IsSend (list.the_row (sequence.the_row u8)) }
+    ensures sync { IsSync (list.the_row (sequence.the_row u8)) }
+{
+    sends::<SharedList<Sequence<u8>>>();
+    shares::<SharedList<Sequence<u8>>>();
+}
+
+fn store_crosses()
+    ensures send { IsSend store.the_row }
+    ensures sync { IsSync store.the_row }
+{
+    chunks_cross();
+    tells_cross();
+    classes_cross();
+}
+
+fn levels_cross()
+    ensures send { IsSend levels.the_row }
+    ensures sync { IsSync levels.the_row }
+{
+    store_crosses();
+    names_cross();
+    status_crosses();
+    idents_cross();
+    threads_cross();
+    next_crosses();
+}
+
+fn machine_crosses()
+    ensures send { IsSend machine.the_row }
+    ensures sync { IsSync machine.the_row }
+{
+    levels_cross();
+    kernel_crosses();
+    queue_crosses();
+    shown_crosses();
+}
+
+/// Nothing: its clauses say that where a search starts may be sent to other threads, and be seen by them. The same of its
+/// parts stands above.
+pub fn frozen_crosses()
+    ensures send { IsSend frozen.the_row }
+    ensures sync { IsSync frozen.the_row }
+{
+    machine_crosses();
+    sends::<Frozen>();
+    shares::<Frozen>();
+}

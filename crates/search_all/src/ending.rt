@@ -1,0 +1,116 @@
+//! What the history of a search says at its end.
+ghost use Rattle.std.specs.Prelude.{◌≡◌, ◌∷◌, ℕ, List, Some, IfOk, map};
+ghost use Rattle.std.specs.Option.{option_or};
+ghost use Rattle.oz_search.specs.declared.history.Entry.{Entry};
+ghost use Rattle.oz_search.specs.Histories.{stop_of};
+ghost use Rattle.oz_search.specs.Leaves.{Names, leaf_of, leaf_at_place};
+ghost use Rattle.oz_search.specs.Plain.{outcomes};
+ghost use Rattle.oz_search.specs.declared.leaf.Outcome.{Outcome as Leaf};
+ghost use Rattle.recompute.specs.Origins.{Origin};
+ghost use Rattle.search_all.specs.Answers.{leaves_in, answer_of, Closes};
+
+use node_pool::Ended;
+use oz_base::{Copies, Path, Sequence};
+use oz_search::{Entry, Halt, Outcome, StopCause};
+use std::alloc::{AllocError, Global};
+use std::collections::BTreeMap;
+
+fn stop_in(entry: &Entry<Path, Outcome>) -> Option<Halt>
+    ensures { (after : List (Entry (List ℕ) Leaf)) → option_or result (stop_of after) ≡ stop_of (entry.now ∷ after) }
+{
+    match entry {
+        Entry::Claim { .. } => None,
+        Entry::Split { .. } => None,
+        Entry::Leaf { .. } => None,
+        Entry::Stop(halt) => Some(*halt),
+    }
+}
+
+/// The first stop of a history.
+fn first_stop(entries: &[Entry<Path, Outcome>]) -> Option<Halt>
+    ensures { result ≡ stop_of entries.now }
+{
+    let mut rest = entries;
+    'entries: while let Some((entry, further)) = rest.split_first() {
+        if let Some(halt) = stop_in(entry) {
+            return Some(halt);
+        }
+        rest = further;
+    }
+    None
+}
+
+fn copy_of(alloc: Global, outcome: &Outcome) -> Result<Outcome, AllocError>
+    ensures { IfOk result (λ copy. copy ≡ outcome.now) }
+{
+    match outcome {
+        Outcome::Failed => Ok(Outcome::Failed),
+        Outcome::Solved(text) => Ok(Outcome::Solved(text.copied(alloc)?)),
+        Outcome::Stuck(text) => Ok(Outcome::Stuck(text.copied(alloc)?)),
+        Outcome::Raised(text) => Ok(Outcome::Raised(text.copied(alloc)?)),
+        Outcome::Suspended => Ok(Outcome::Suspended),
+    }
+}
+
+/// The leaf that an entry is.
+fn leaf_in(alloc: Global, entry: &Entry<Path, Outcome>) -> Result<Outcome, AllocError>
+    requires { (x : List ℕ × Leaf) × (leaf_of outcomes entry.now ≡ Some x) }
+    ensures { (x : List ℕ × Leaf) → leaf_of outcomes entry.now ≡ Some x → IfOk result (λ leaf. leaf ≡ x.1) }
+{
+    match entry {
+        Entry::Leaf { leaf, .. } => copy_of(alloc, leaf),
+        Entry::Claim { .. } => unreachable!(),
+        Entry::Split { .. } => unreachable!(),
+        Entry::Stop(_) => unreachable!(),
+    }
+}
+
+/// The leaf that stands at a place of a history.
+fn leaf_at(
+    alloc: Global,
+    entries: &[Entry<Path, Outcome>],
+    place: usize,
+) -> Result<Outcome, AllocError>
+    requires { (x : List ℕ × Leaf) × (leaf_at_place outcomes entries.now place ≡ Some x) }
+    ensures { (x : List ℕ × Leaf) → leaf_at_place outcomes entries.now place ≡ Some x → IfOk result (λ leaf. leaf ≡ x.1) }
+{
+    let Some(entry) = entries.get(place) else {
+        unreachable!()
+    };
+    leaf_in(alloc, entry)
+}
+
+/// The leaves that stand at these places of a history, in the order of their paths.
+fn leaves_at(
+    alloc: Global,
+    entries: &[Entry<Path, Outcome>],
+    places: &mut BTreeMap<Path, usize>,
+) -> Result<Sequence<Outcome>, AllocError>
+    requires { (ls : List (List ℕ × Leaf)) × Names outcomes entries.now places.old.entries ls }
+    ensures { (ls : List (List ℕ × Leaf)) → Names outcomes entries.now places.old.entries ls → IfOk result (λ leaves. leaves ≡ map (λ (x : List ℕ × Leaf). x.1) ls) }
+{
+    let mut leaves = Sequence::new(alloc);
+    'places: while let Some((_path, place)) = places.pop_first() {
+        leaves.push(leaf_at(alloc, entries, place)?)?;
+    }
+    Ok(leaves)
+}
+
+/// The leaves that a search found, or `None` where there were too few steps for it.
+pub fn found(alloc: Global, ended: Ended) -> Result<Option<Sequence<Outcome>>, AllocError>
+    requires { Names outcomes ended.entries.items ended.leaves.entries (leaves_in ended.entries.items) }
+    ensures { (o : Origin) → Closes o ended.entries.items → IfOk result (λ found. found ≡ answer_of o) }
+{
+    let Ended {
+        entries,
+        mut leaves,
+    } = ended;
+    match first_stop(entries.as_slice()) {
+        None => Ok(Some(leaves_at(alloc, entries.as_slice(), &mut leaves)?)),
+        Some(halt) => match halt.cause {
+            StopCause::Memory => Err(AllocError),
+            StopCause::Fuel => Ok(None),
+            StopCause::Total(_) => Ok(None),
+        },
+    }
+}

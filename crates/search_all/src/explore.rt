@@ -1,0 +1,196 @@
+//! What one worker does.
+ghost use Rattle.std.specs.Prelude.{◌≡◌, ◌≤◌, ◌^◌, Some, None, IfOk};
+ghost use Rattle.oz_search.specs.Nodes.{IsNodeAt};
+ghost use Rattle.recompute.specs.Origins.{met_at, tree_of};
+ghost use Rattle.recompute.specs.Ways.{answer_of};
+ghost use Rattle.node_pool.specs.Workers.{IsOf, claim};
+ghost use Rattle.search_all.specs.Crews.{IsFor, IsReady, IsSame, HasExplored, IsTold, GoesOn};
+
+use crossbeam_utils::Backoff;
+use node_pool::{Claimed, Settled, SharedPool, Worker};
+use oz_base::Path;
+use oz_outside::Gate;
+use oz_search::{Kind, Outcome, Report, StopCause};
+use recompute::{Explorer, Frozen, Solved};
+use std::alloc::{AllocError, Global};
+use std::sync::Wait;
+
+/// A worker that was told something of the pool.
+#[derive(Drop)]
+pub enum After {
+    /// It may take another node.
+    Free(Worker<Frozen>),
+    /// The search is over.
+    Over(Worker<Frozen>),
+}
+
+/// A worker is refused memory, and stops the search.
+fn give_up<R: Wait>(rt: &R, pool: &SharedPool<Frozen>, worker: Worker<Frozen>) -> Worker<Frozen>
+    requires { IsOf worker pool.now }
+    ensures { HasExplored pool.now worker result }
+{
+    pool.stop(rt, worker, StopCause::Memory)
+}
+
+/// The node that the worker has out needs more steps than there are for the search.
+fn run_out<R: Wait>(
+    rt: &R,
+    pool: &SharedPool<Frozen>,
+    worker: Worker<Frozen>,
+    path: &Path,
+) -> Worker<Frozen>
+    requires pool { IsOf worker pool.now }
+    requires out { claim worker ≡ Some path.now }
+    requires none { tree_of pool.now.tag pool.now.budget path.now ≡ None }
+    ensures { HasExplored pool.now worker result }
+{
+    let _path = path;
+    pool.stop(rt, worker, StopCause::Fuel)
+}
+
+/// Says what the node is that the worker has out. No text has a choice without alternatives, and the pool has no entry for one.
+fn tell<R: Wait>(
+    rt: &R,
+    pool: &SharedPool<Frozen>,
+    worker: Worker<Frozen>,
+    path: Path,
+    report: Report<Outcome>,
+) -> (Worker<Frozen>, Result<Settled, AllocError>)
+    requires pool { IsOf worker pool.now }
+    requires out { claim worker ≡ Some path }
+    requires steps { (1 ≤ report.steps) × (report.steps ≤ 2 ^ 48) }
+    requires node { IsNodeAt (tree_of pool.now.tag) path report }
+    ensures pool { IsOf result.0 pool.now }
+    ensures same { IsSame worker result.0 }
+    ensures told { IsTold result.0 result.1 }
+{
+    let Report { kind, steps } = report;
+    match kind {
+        Kind::End(outcome) => pool.leaf(rt, worker, path, outcome, steps),
+        Kind::Alternatives(count) => {
+            if count == 0 {
+                return (worker, Err(AllocError));
+            }
+            pool.split(rt, worker, path, count, steps)
+        }
+    }
+}
+
+/// Settles a node that the worker has out.
+fn settle<R: Wait>(
+    rt: &R,
+    pool: &SharedPool<Frozen>,
+    worker: Worker<Frozen>,
+    path: Path,
+    report: Report<Outcome>,
+) -> After
+    requires pool { IsOf worker pool.now }
+    requires out { claim worker ≡ Some path }
+    requires steps { (1 ≤ report.steps) × (report.steps ≤ 2 ^ 48) }
+    requires node { IsNodeAt (tree_of pool.now.tag) path report }
+    ensures { GoesOn pool.now worker result }
+{
+    let (told, answer) = tell(rt, pool, worker, path, report);
+    match answer {
+        Ok(Settled::Done) => After::Free(told),
+        Ok(Settled::Spent(_)) => After::Over(told),
+        Ok(Settled::Stopped(_)) => After::Over(told),
+        Err(_) => After::Over(give_up(rt, pool, told)),
+    }
+}
+
+/// Settles the node that the worker has out by what there is at its path.
+fn close_claim<R: Wait>(
+    rt: &R,
+    pool: &SharedPool<Frozen>,
+    worker: Worker<Frozen>,
+    path: Path,
+    solved: Result<Solved, AllocError>,
+) -> After
+    requires small { pool.now.budget ≤ 2 ^ 48 }
+    requires pool { IsOf worker pool.now }
+    requires out { claim worker ≡ Some path }
+    requires solved { IfOk solved (λ s. s ≡ answer_of (met_at pool.now.tag pool.now.budget path)) }
+    ensures { GoesOn pool.now worker result }
+{
+    match solved {
+        Ok(Solved::Node(report)) => settle(rt, pool, worker, path, report),
+        Ok(Solved::OutOfFuel { .. }) => After::Over(run_out(rt, pool, worker, &path)),
+        Ok(Solved::NotANode { .. }) => After::Over(run_out(rt, pool, worker, &path)),
+        Err(_) => After::Over(give_up(rt, pool, worker)),
+    }
+}
+
+/// Takes nodes and settles them, until the search is over. The gate is called round the solving of each.
+fn take_nodes<R: Wait, G: Gate>(
+    rt: &R,
+    alloc: Global,
+    pool: &SharedPool<Frozen>,
+    first: Worker<Frozen>,
+    explorer: &mut Explorer,
+    budget: u64,
+    number: u32,
+    gate: &G,
+) -> Worker<Frozen>
+    requires small { budget ≤ 2 ^ 48 }
+    requires tree { IsFor explorer.old pool.now × (budget ≡ pool.now.budget) }
+    requires ready { IsReady pool.now first }
+    ensures { HasExplored pool.now first result }
+{
+    let backoff = Backoff::new();
+    let mut worker = first;
+    let mut nth: u64 = 0;
+    'nodes: for _ in rt.forever() {
+        let (taken, answer) = pool.claim(rt, worker);
+        match answer {
+            Ok(Claimed::Node(path)) => {
+                backoff.reset();
+                nth = nth.saturating_add(1);
+                gate.before(number, nth);
+                let solved = explorer.solve(alloc, &path, budget);
+                gate.after(number, nth);
+                match close_claim(rt, pool, taken, path, solved) {
+                    After::Free(free) => worker = free,
+                    After::Over(over) => return over,
+                }
+            }
+            Ok(Claimed::Idle) => {
+                backoff.snooze();
+                worker = taken;
+            }
+            Ok(Claimed::Finished) => return taken,
+            Ok(Claimed::Stopped(_)) => return taken,
+            Err(_) => return give_up(rt, pool, taken),
+        }
+    }
+    unreachable!()
+}
+
+/// Explores the tree, until the search is over.
+pub fn explore<R: Wait, G: Gate>(
+    rt: &R,
+    alloc: Global,
+    pool: &SharedPool<Frozen>,
+    worker: Worker<Frozen>,
+    frozen: &Frozen,
+    number: u32,
+    gate: &G,
+) -> Worker<Frozen>
+    requires tree { IsFor frozen.now pool.now }
+    requires ready { IsReady pool.now worker }
+    ensures { HasExplored pool.now worker result }
+{
+    match Explorer::new(alloc, frozen) {
+        Err(_) => give_up(rt, pool, worker),
+        Ok(mut explorer) => take_nodes(
+            rt,
+            alloc,
+            pool,
+            worker,
+            &mut explorer,
+            frozen.budget(),
+            number,
+            gate,
+        ),
+    }
+}
