@@ -1,32 +1,45 @@
-//! An environment, as a map from the numbers of identifiers to variables.
+//! An environment, as recent bindings in front of a map from the numbers of identifiers to variables.
 ghost use Rattle.std.specs.Prelude.{◌≡◌, length, IfOk, OnOk, OnErr, option_copied};
 ghost use Rattle.environments.specs.Environments.{code, unbound, bound_in, binding, binding_all};
 
+use crate::recent::Recent;
 use oz_base::{Copies, Ident};
 use oz_language::Identifier;
 use shared_map::SharedMap;
 use std::alloc::{AllocError, Global};
 use std::marker::Model;
 
+/// How many bindings stand before the map at most.
+const MOST_RECENT: u64 = 16;
+
 /// Which variable each identifier stands for. Contracts see the finite map.
 ///
-/// A copy takes constant time and no memory. A later binding copies what lies on its way alone, and writes in place what no copy
-/// shares; it and a look-up take a time that grows with the number of digits of the identifier's number alone.
+/// A copy takes constant time and no memory, and what is bound later in one is not seen in the other. The newest bindings stand in
+/// front of a map that holds the older ones: a binding makes one cell and copies nothing, but for one binding in sixteen, which
+/// first puts those in front into the map. A look-up passes them, and then takes a time that grows with the number of digits of
+/// the identifier's number alone.
 #[derive(Drop)]
 pub struct Environment {
-    variables: SharedMap<Ident>,
+    recent: Recent,
+    count: u64,
+    older: SharedMap<Ident>,
 }
 
 impl Model for Environment {
+    ghost use Rattle.std.specs.Prelude.{◌≡◌, ◌≤◌, length};
     ghost use Rattle.std.specs.FinMap as maps;
     ghost use Rattle.std.specs.Coded.{codes};
     ghost use Rattle.environments.specs.Environments.{Environment};
+    ghost use Rattle.environments.specs.Recents.{bindings, put_over};
+    ghost use Rattle.environments.specs.declared.environment.TheConstants.{MOST_RECENT};
 
     ghost Value = { Environment };
 
     ghost coded = { Prim.hlevel (codes, maps.code) };
 
-    ghost view = { λ e. e.variables };
+    ghost view = { λ e. put_over (bindings e.recent) e.older };
+
+    ghost invariant = { λ e. (e.count ≡ length (bindings e.recent)) × (e.count ≤ MOST_RECENT) };
 }
 
 /// The number of an identifier.
@@ -45,7 +58,9 @@ impl Environment {
         ensures { result ≡ unbound }
     {
         Environment {
-            variables: SharedMap::new(),
+            recent: Recent::Nothing,
+            count: 0,
+            older: SharedMap::new(),
         }
     }
 
@@ -53,7 +68,11 @@ impl Environment {
     pub fn bound(&self, name: Identifier) -> Option<&Ident>
         ensures { option_copied result ≡ bound_in self.now name }
     {
-        self.variables.get(code(name))
+        let code = code(name);
+        match self.recent.get(code) {
+            Some(variable) => Some(variable),
+            None => self.older.get(code),
+        }
     }
 
     /// The identifier stands for the variable from now on. An error is for lack of memory, and leaves the environment.
@@ -66,9 +85,17 @@ impl Environment {
         ensures ok { OnOk result (self.new ≡ binding name variable self.old) }
         ensures err { OnErr result (self.new ≡ self.old) }
     {
-        let Ok(_was) = self.variables.insert(alloc, code(name), variable) else {
-            return Err(AllocError);
-        };
+        let code = code(name);
+        if self.count < MOST_RECENT {
+            self.recent.push(alloc, code, variable)?;
+            self.count += 1;
+            return Ok(());
+        }
+        let mut recent = Recent::Nothing;
+        recent.push(alloc, code, variable)?;
+        self.older = self.recent.put_into(alloc, self.older.copied(alloc)?)?;
+        self.recent = recent;
+        self.count = 1;
         Ok(())
     }
 
@@ -83,15 +110,13 @@ impl Environment {
         requires { length names.now ≡ length variables.now }
         ensures { IfOk result (λ extended. extended ≡ binding_all names.now variables.now self.now) }
     {
-        let mut extended = self.variables.copied(alloc)?;
+        let mut extended = self.copied(alloc)?;
         let mut left = names.len();
         'names: while left > 0 {
             left -= 1;
-            let _was = extended.insert(alloc, code(names[left]), variables[left].copied(alloc)?)?;
+            extended.bind(alloc, names[left], variables[left].copied(alloc)?)?;
         }
-        Ok(Environment {
-            variables: extended,
-        })
+        Ok(extended)
     }
 }
 
@@ -99,7 +124,9 @@ impl Copies for Environment {
     /// In constant time.
     fn copied(&self, alloc: Global) -> Result<Self, AllocError> {
         Ok(Environment {
-            variables: self.variables.copied(alloc)?,
+            recent: self.recent.shared()?,
+            count: self.count,
+            older: self.older.copied(alloc)?,
         })
     }
 }

@@ -1,0 +1,16 @@
+-- An environment as recent bindings over a map with the older ones.
+use Rattle.std.specs.Prelude.{ℕ, List, [], ◌∷◌}
+use Rattle.std.specs.FinMap as maps
+use Rattle.oz_base.specs.declared.names.Ident.{Ident}
+use Rattle.environments.specs.Environments.{Environment}
+use Rattle.environments.specs.declared.recent.Recent.{Recent, Nothing, Newest'}
+
+-- the bindings that the cells hold, the newest first: of each the identifier's number, and the variable
+abbrev pub bindings : Recent → List (ℕ × Ident)
+bindings Nothing = []
+bindings (Newest' p code variable older) = (code, variable) ∷ bindings older
+
+-- the map after these were put into it, from the last to the first
+abbrev pub put_over : List (ℕ × Ident) → Environment → Environment
+put_over [] map = map
+put_over (b ∷ bs) map = maps.insert (put_over bs map) b.0 b.1
