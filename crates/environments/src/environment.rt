@@ -99,6 +99,21 @@ impl Environment {
         Ok(())
     }
 
+    /// Puts the newest bindings into the map where they are many: then one that is copied often has room for others in front. What
+    /// identifiers stand for stays.
+    pub fn gather(&mut self, alloc: Global) -> Result<(), AllocError>
+        ensures { self.new ≡ self.old }
+    {
+        if self.count <= MOST_RECENT / 2 {
+            return Ok(());
+        }
+        let older = self.older.copied(alloc)?;
+        self.older = self.recent.put_into(alloc, older)?;
+        self.recent = Recent::Nothing;
+        self.count = 0;
+        Ok(())
+    }
+
     /// An environment in which each of these stands for the variable at its place, and all others for what they do here. Of one
     /// that stands twice the first place counts.
     pub fn extended(

@@ -74,6 +74,7 @@ mod tests {
         bind_words(&mut environment, alloc, 10, 20)?;
         let at_twenty = environment.copied(alloc)?;
         bind_words(&mut environment, alloc, 20, 40)?;
+        environment.gather(alloc)?;
         for number in 0..30u32 {
             let word = Identifier::Word(number);
             let first = u64::from(number);
