@@ -1,0 +1,156 @@
+//! The values of a leaf.
+ghost use Rattle.std.specs.Prelude.{◌≡◌, ◌<◌, ◌/◌, ◌%◌, cond, IfOk, OnOk, option_copied};
+ghost use Rattle.shared_map.specs.Lookup.{four_at, row_at, nothing, updated};
+
+use oz_base::Copies;
+use std::alloc::{AllocError, Global};
+use std::mem;
+
+/// Four values, at the numbers 0 to 3.
+#[derive(Drop)]
+pub struct Four<V> {
+    a: Option<V>,
+    b: Option<V>,
+    c: Option<V>,
+    d: Option<V>,
+}
+
+/// Four times four values, at the numbers 0 to 15.
+#[derive(Drop)]
+pub struct Row<V> {
+    a: Four<V>,
+    b: Four<V>,
+    c: Four<V>,
+    d: Four<V>,
+}
+
+/// One of two, by a test.
+#[inline(always)]
+pub fn either<'a, T>(first: bool, a: &'a T, b: &'a T) -> &'a T
+    ensures { result.now ≡ cond first a.now b.now }
+{
+    if first { a } else { b }
+}
+
+impl<V> Four<V> {
+    #[inline(always)]
+    fn get(&self, key: u64) -> Option<&V>
+        ensures { option_copied result ≡ four_at self.now key }
+    {
+        match key {
+            0 => self.a.as_ref(),
+            1 => self.b.as_ref(),
+            2 => self.c.as_ref(),
+            3 => self.d.as_ref(),
+            _ => None,
+        }
+    }
+
+    fn empty() -> Self
+        ensures { four_at result ≡ nothing }
+    {
+        Four {
+            a: None,
+            b: None,
+            c: None,
+            d: None,
+        }
+    }
+
+    #[inline(always)]
+    fn swap(&mut self, key: u64, entry: &mut Option<V>)
+        requires { key < 4 }
+        ensures was { entry.new ≡ four_at self.old key }
+        ensures after { four_at self.new ≡ updated key entry.old (four_at self.old) }
+    {
+        match key {
+            0 => mem::swap(&mut self.a, entry),
+            1 => mem::swap(&mut self.b, entry),
+            2 => mem::swap(&mut self.c, entry),
+            _ => mem::swap(&mut self.d, entry),
+        }
+    }
+}
+
+/// The four of a number below 16, and its number there.
+#[inline(always)]
+fn place(key: u64) -> (u64, u64)
+    ensures index { result.0 ≡ key / 4 }
+    ensures rest { result.1 ≡ key % 4 }
+{
+    (key >> 2, key & 3)
+}
+
+impl<V> Row<V> {
+    #[inline(always)]
+    pub fn get(&self, key: u64) -> Option<&V>
+        ensures { option_copied result ≡ row_at self.now key }
+    {
+        let (index, rest) = place(key);
+        match index {
+            0 => self.a.get(rest),
+            1 => self.b.get(rest),
+            2 => self.c.get(rest),
+            3 => self.d.get(rest),
+            _ => None,
+        }
+    }
+
+    pub fn new() -> Self
+        ensures { row_at result ≡ nothing }
+    {
+        Row {
+            a: Four::empty(),
+            b: Four::empty(),
+            c: Four::empty(),
+            d: Four::empty(),
+        }
+    }
+
+    /// Swaps what stands at the number with the entry.
+    pub fn swap(&mut self, key: u64, entry: &mut Option<V>)
+        requires { key < 16 }
+        ensures was { entry.new ≡ row_at self.old key }
+        ensures after { row_at self.new ≡ updated key entry.old (row_at self.old) }
+    {
+        let (index, rest) = place(key);
+        match index {
+            0 => self.a.swap(rest, entry),
+            1 => self.b.swap(rest, entry),
+            2 => self.c.swap(rest, entry),
+            _ => self.d.swap(rest, entry),
+        }
+    }
+}
+
+fn copy_value<V: Copies>(alloc: Global, value: &Option<V>) -> Result<Option<V>, AllocError>
+    ensures { IfOk result (λ copy. copy ≡ value.now) }
+{
+    match value {
+        None => Ok(None),
+        Some(value) => Ok(Some(value.copied(alloc)?)),
+    }
+}
+
+impl<V: Copies> Four<V> {
+    fn copy_to(&self, alloc: Global, to: &mut Self) -> Result<(), AllocError>
+        ensures { OnOk result (to.new ≡ self.now) }
+    {
+        to.a = copy_value(alloc, &self.a)?;
+        to.b = copy_value(alloc, &self.b)?;
+        to.c = copy_value(alloc, &self.c)?;
+        to.d = copy_value(alloc, &self.d)?;
+        Ok(())
+    }
+}
+
+impl<V: Copies> Row<V> {
+    pub fn copy_to(&self, alloc: Global, to: &mut Self) -> Result<(), AllocError>
+        ensures { OnOk result (to.new ≡ self.now) }
+    {
+        self.a.copy_to(alloc, &mut to.a)?;
+        self.b.copy_to(alloc, &mut to.b)?;
+        self.c.copy_to(alloc, &mut to.c)?;
+        self.d.copy_to(alloc, &mut to.d)
+    }
+}
