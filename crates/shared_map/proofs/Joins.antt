@@ -1,5 +1,5 @@
 -- Four functions side by side, of which one is changed.
-use Rattle.std.proofs.Common.{◌≡◌, ℕ, Bool, true, false, cond, ◌+◌, ◌*◌, ◌/◌, ◌%◌, ◌<◌, ◌≤◌, Option, None, Result, Ok, Err, refl, sym, ap, ◌∙◌, arith}
+use Rattle.std.proofs.Common.{◌≡◌, ℕ, Bool, true, false, cond, ◌+◌, ◌*◌, ◌/◌, ◌%◌, ◌≤◌, Option, None, Result, Ok, Err, refl, sym, ap, ◌∙◌, arith}
 use Rattle.std.specs.Prelude.{eqb}
 use Rattle.std.proofs.Math.Path.{fun_ext}
 use Rattle.std.proofs.lemmas.Nat.{div-add-mod'}
@@ -14,10 +14,6 @@ choice_others i a e h = grind arith
 
 choice_same : {X : Type 0} (i : ℕ) (e : X) → choice i e e e e e ≡ e
 choice_same i e = grind arith
-
--- what is chosen below 4, seen through a function
-pub chosen : {X Y : Type 0} (f : X → Y) (i : ℕ) (a b c d : X) (e : Y) → i ≤ 3 → f (choice i a b c d d) ≡ choice i (f a) (f b) (f c) (f d) e
-chosen f i a b c d e h = grind arith
 
 -- two numbers are one where their places are
 same_place : (p j k : ℕ) → j / p ≡ k / p → j % p ≡ k % p → j ≡ k

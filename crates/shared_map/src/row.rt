@@ -1,6 +1,6 @@
 //! The values of a leaf.
 ghost use Rattle.std.specs.Prelude.{◌≡◌, ◌<◌, ◌/◌, ◌%◌, cond, IfOk, OnOk, option_copied};
-ghost use Rattle.shared_map.specs.Lookup.{four_at, row_at, nothing, updated};
+ghost use Rattle.shared_map.specs.Lookup.{choice, four_at, row_at, nothing, updated};
 
 use oz_base::Copies;
 use std::alloc::{AllocError, Global};
@@ -34,16 +34,24 @@ pub fn either<'a, T>(first: bool, a: &'a T, b: &'a T) -> &'a T
 
 impl<V> Four<V> {
     #[inline(always)]
+    fn at(&self, index: u64) -> &Option<V>
+        ensures { result.now ≡ choice index self.now.a self.now.b self.now.c self.now.d self.now.d }
+    {
+        either(
+            index < 2,
+            either(index == 0, &self.a, &self.b),
+            either(index == 2, &self.c, &self.d),
+        )
+    }
+
+    #[inline(always)]
     fn get(&self, key: u64) -> Option<&V>
         ensures { option_copied result ≡ four_at self.now key }
     {
-        match key {
-            0 => self.a.as_ref(),
-            1 => self.b.as_ref(),
-            2 => self.c.as_ref(),
-            3 => self.d.as_ref(),
-            _ => None,
+        if key > 3 {
+            return None;
         }
+        self.at(key).as_ref()
     }
 
     fn empty() -> Self
@@ -83,17 +91,25 @@ fn place(key: u64) -> (u64, u64)
 
 impl<V> Row<V> {
     #[inline(always)]
+    fn at(&self, index: u64) -> &Four<V>
+        ensures { result.now ≡ choice index self.now.a self.now.b self.now.c self.now.d self.now.d }
+    {
+        either(
+            index < 2,
+            either(index == 0, &self.a, &self.b),
+            either(index == 2, &self.c, &self.d),
+        )
+    }
+
+    #[inline(always)]
     pub fn get(&self, key: u64) -> Option<&V>
         ensures { option_copied result ≡ row_at self.now key }
     {
         let (index, rest) = place(key);
-        match index {
-            0 => self.a.get(rest),
-            1 => self.b.get(rest),
-            2 => self.c.get(rest),
-            3 => self.d.get(rest),
-            _ => None,
+        if index > 3 {
+            return None;
         }
+        self.at(index).get(rest)
     }
 
     pub fn new() -> Self
