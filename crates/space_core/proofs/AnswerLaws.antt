@@ -1,13 +1,15 @@
 -- Edits of one space at the place that was looked up.
-use Rattle.std.proofs.Common.{◌≡◌, ℕ, Bool, true, false, List, slice_set, slice_index_or, sym, ap, subst, ◌∙◌, Result, Ok, Err, Option, unwrap_or}
+use Rattle.std.proofs.Common.{◌≡◌, ℕ, Bool, true, false, List, slice_set, slice_index_or, drop, sym, ap, subst, ◌∙◌, Result, Ok, Err, Option, unwrap_or}
 use Rattle.std.specs.Prelude.{OnOk, OnErr, IfOk}
 use Rattle.std.proofs.lemmas.List.{set-get_or}
 use Rattle.oz_base.specs.declared.names.Ident.{Ident}
 use Rattle.oz_semantics.specs.Configurations.{is_of, in_layer, stack_of, frames_in, thread_at, new_layer, with_frames}
 use Rattle.oz_semantics.specs.Exceptions.{unwound}
+use Rattle.oz_semantics.specs.declared.configuration.Frame.{Frame}
 use Rattle.oz_semantics.specs.declared.configuration.Layer.{Layer}
 use Rattle.space_core.specs.Levels.{IsUnwound}
-use Rattle.space_core.specs.Unwinding.{IsLevelUnwound}
+use Rattle.space_core.specs.Advances.{IsCaught}
+use Rattle.space_core.specs.Unwinding.{IsLevelUnwound, IsLevelCaught}
 use Rattle.space_core.specs.Places.{IsFirst}
 use Rattle.space_core.specs.Shown.{shown_all, IsSound, IsQuiet}
 use Rattle.space_core.specs.declared.level.Level.{Level}
@@ -42,6 +44,11 @@ module _ (levels now : List Level) (value : List Layer) (seen : now ≡ levels) 
   result_shows (Ok a) q = quiet_shows q
   result_shows (Err b) q = q
 
+  -- where this edit comes to the same as these changes
+  pub result_becomes : {A E : Type 0} (target : List Layer) → in_layer space change value ≡ target → (r : Result A E) → OnOk r (IsQuiet change l m) → OnOk r (shown_all (slice_set levels place m) ≡ target)
+  result_becomes target is (Ok a) q = quiet_shows q ∙ is
+  result_becomes target is (Err b) q = q
+
 -- the stack of a thread of the space at the place
 module _ (levels now : List Level) (value : List Layer) (seen : now ≡ levels) (viewed : shown_all levels ≡ value) (s : IsSound levels) (id : Ident) (place : ℕ) (h : PlaceIn now id.space place)
     (l m : Level) (e : l ≡ slice_index_or levels place l) (exception : Ident) where
@@ -64,3 +71,14 @@ module _ (levels now : List Level) (value : List Layer) (seen : now ≡ levels) 
       (q.0, ap (unwound exception) stack_here ∙ q.1, quiet_shows levels now value seen viewed s id.space place h l m e (with_frames id.number (λ rest. q.0)) q.2)
   unwind_shows (Ok false) q = (ap (unwound exception) stack_here ∙ q.0, ap shown_all (unchanged levels place l m e q.1) ∙ viewed)
   unwind_shows (Err b) q = q
+
+  pub caught_sound : {E : Type 0} (r : Result Bool E) → IfOk r (IsLevelCaught exception id.number l m) → OnErr r (m ≡ l) → IsSound (slice_set levels place m)
+  caught_sound (Ok true) q f = quiet_sound levels now value seen viewed s id.space place h l m e (with_frames id.number (λ rest. q.0)) q.2
+  caught_sound (Ok false) q f = subst IsSound (sym (unchanged levels place l m e q.1)) s
+  caught_sound (Err b) q f = subst IsSound (sym (unchanged levels place l m e f)) s
+
+  pub caught_shows : {E : Type 0} (r : Result Bool E) → IfOk r (IsLevelCaught exception id.number l m) → IfOk r (IsCaught exception id value (shown_all (slice_set levels place m)))
+  caught_shows (Ok true) q =
+      (q.0, ap (λ (fs : List Frame). unwound exception (drop 1 fs)) stack_here ∙ q.1, quiet_shows levels now value seen viewed s id.space place h l m e (with_frames id.number (λ rest. q.0)) q.2)
+  caught_shows (Ok false) q = (ap (λ (fs : List Frame). unwound exception (drop 1 fs)) stack_here ∙ q.0, ap shown_all (unchanged levels place l m e q.1) ∙ viewed)
+  caught_shows (Err b) q = q

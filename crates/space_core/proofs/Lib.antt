@@ -13,3 +13,7 @@ pub mod EndLaws
 pub mod CreateLaws
 pub mod SilentLaws
 pub mod TreeAnswers
+pub mod StackLaws
+pub mod LayerLaws
+pub mod AdvanceLaws
+pub mod CatchLaws

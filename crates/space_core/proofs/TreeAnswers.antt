@@ -90,6 +90,10 @@ none_by seen space e = subst (λ (ls : List Level). has_below (shown_all ls) spa
 pub above_by : {now levels : List Level} → now ≡ levels → (space : List ℕ) (tells : List Tell) → IsAbove now space tells → IsAbove levels space tells
 above_by seen space tells a = subst (λ (ls : List Level). IsAbove ls space tells) seen a
 
+-- and so what the space above sees
+pub above_is : {now levels : List Level} → now ≡ levels → IsSound levels → (space : List ℕ) (tells : List Tell) → IsAbove now space tells → (tells ≡ seen_above (shown_all levels) space) × (is_consistent tells ≡ true)
+above_is {levels = levels} seen s space tells a = above_sees levels s space tells (above_by seen space tells a)
+
 -- Ends
 
 module _ (levels news now : List Level) (value : List Layer) (space : List ℕ) (gone : news ≡ filter (λ (l : Level). not (is_properly_below space l.space)) levels) (seen : now ≡ news)
@@ -112,22 +116,21 @@ module _ (levels news now : List Level) (value : List Layer) (space : List ℕ) 
     pub raise_shows : (x : Ident) → IsQuiet (raised_by x) l m → shown_all (slice_set news place m) ≡ ending space (raised_by x) value
     raise_shows x q = quiet_shows news now (shown_all news) seen refl gone_sound space place h l m e (raised_by x) q ∙ ap (in_layer space (raised_by x)) news_shown
 
-    failure : (tells : List Tell) → IsAbove levels space tells → IsFailure tells l m → Edited news (slice_set news place m) space failed
-    failure tells a f =
+    failure : (tells : List Tell) → tells ≡ seen_above (shown_all levels) space → is_consistent tells ≡ true → IsFailure tells l m → Edited news (slice_set news place m) space failed
+    failure tells sees consistent f =
         let found = subst (λ (ls : List Level). PlaceIn ls space place) seen h in
-        let sees = above_sees levels s space tells a in
         fail_edit news space place found.0 found.1 l m e gone_sound (ap (λ (ls : List Level). has_below (shown_all ls) space) gone ∙ none_left levels space s) tells f
-        (sees.0 ∙ sym (left_above levels space s space (not_own space)) ∙ ap (λ (ls : List Layer). seen_above ls space) (sym (ap shown_all gone ∙ left_shown levels space s)))
-        sees.1
+        (sees ∙ sym (left_above levels space s space (not_own space)) ∙ ap (λ (ls : List Layer). seen_above ls space) (sym (ap shown_all gone ∙ left_shown levels space s)))
+        consistent
       where
         not_own : (t : List ℕ) → is_properly_below t t ≡ false
         not_own t = ap₂ (λ (a b : Bool). a && not b) (below_itself t) (names_equal t)
 
-    pub fail_sound : (tells : List Tell) → IsAbove levels space tells → IsFailure tells l m → IsSound (slice_set news place m)
-    fail_sound tells a f = (failure tells a f).sound
+    pub fail_sound : (tells : List Tell) → tells ≡ seen_above (shown_all levels) space → is_consistent tells ≡ true → IsFailure tells l m → IsSound (slice_set news place m)
+    fail_sound tells sees consistent f = (failure tells sees consistent f).sound
 
-    pub fail_shows : (tells : List Tell) → IsAbove levels space tells → IsFailure tells l m → shown_all (slice_set news place m) ≡ ending space failed value
-    fail_shows tells a f = (failure tells a f).shows ∙ ap (in_layer space failed) news_shown
+    pub fail_shows : (tells : List Tell) → tells ≡ seen_above (shown_all levels) space → is_consistent tells ≡ true → IsFailure tells l m → shown_all (slice_set news place m) ≡ ending space failed value
+    fail_shows tells sees consistent f = (failure tells sees consistent f).shows ∙ ap (in_layer space failed) news_shown
 
 -- A new space among the others
 

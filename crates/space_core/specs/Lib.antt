@@ -4,6 +4,8 @@ pub mod Shown
 pub mod Stacks
 pub mod Unwinding
 pub mod Beginnings
+pub mod Giving
 pub mod Telling
 pub mod Silence
 pub mod Ending
+pub mod Advances

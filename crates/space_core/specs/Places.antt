@@ -1,5 +1,5 @@
 -- Where the first item that passes a test stands.
-use Rattle.std.specs.Prelude.{ℕ, ◌≡◌, ◌<◌, Bool, List, [], ◌∷◌, ◌++◌, Some, None, length, insert, slice_index_or, slice_set}
+use Rattle.std.specs.Prelude.{ℕ, ◌≡◌, ◌<◌, Bool, List, [], ◌∷◌, ◌++◌, Some, None, length, insert, position, slice_index_or, slice_set}
 use Rattle.std.specs.List.{find}
 use Rattle.oz_base.specs.Lists.{edit_first, put_before}
 
@@ -11,6 +11,7 @@ pub record IsAbsent {A : Type 0} (test : A → Bool) (xs : List A) : Type 0 wher
 
 -- the first item that passes is x, at this place
 pub record IsFirst {A : Type 0} (test : A → Bool) (xs : List A) (place : ℕ) (x : A) : Type 0 where
+  pub at : position test xs ≡ Some place
   pub within : place < length xs
   pub item : slice_index_or xs place x ≡ x
   pub found : find test xs ≡ Some x

@@ -1,10 +1,20 @@
 -- What an exception does at a statement.
-use Rattle.std.specs.Prelude.{◌≡◌, ◌++◌, List, Option, Some, None}
+use Rattle.std.specs.Prelude.{ℕ, ◌≡◌, ◌+◌, ◌≤◌, ◌++◌, List, Option, Some, None, length, take, drop}
 use Rattle.oz_base.specs.declared.names.Ident.{Ident}
-use Rattle.oz_semantics.specs.Exceptions.{unwound_at}
+use Rattle.oz_semantics.specs.Exceptions.{unwound, unwound_at}
 use Rattle.oz_semantics.specs.declared.configuration.Frame.{Frame}
+use Rattle.space_core.specs.declared.stacks.Landing.{Landing}
 
 -- it leaves the handler's statements and what stands below; or what it leaves of what stands below
 abbrev pub HandlerOf : Ident → Frame → Option (List Frame) → Type 0
 HandlerOf x frame (Some frames) = (rest : List Frame) (below : Option (List Frame)) → unwound_at x frame.environment frame.code rest below ≡ Some (frames ++ rest)
 HandlerOf x frame None = (rest : List Frame) (below : Option (List Frame)) → unwound_at x frame.environment frame.code rest below ≡ below
+
+-- an exception of the statement on top of a stack goes to this mark; or there is none below it
+abbrev pub IsLanding : Ident → List Frame → Option Landing → Type 0
+IsLanding x stack (Some l) = (unwound x (drop 1 stack) ≡ Some (l.frames ++ drop l.count stack)) × (l.count ≤ length stack)
+IsLanding x stack None = unwound x (drop 1 stack) ≡ None
+
+-- a stack without so many that stand below the uppermost ones
+abbrev pub cut_out : ℕ → ℕ → List Frame → List Frame
+cut_out uppermost count stack = take uppermost stack ++ drop (uppermost + count) stack

@@ -1,12 +1,14 @@
 -- What is kept of a space that is told more.
-use Rattle.std.specs.Prelude.{ℕ, ◌≡◌, Bool, true, false, List, ◌++◌}
-use Rattle.std.specs.List.{list_any}
+use Rattle.std.specs.Prelude.{ℕ, ◌≡◌, Bool, true, false, List, ◌++◌, slice_index_or, slice_set}
+use Rattle.std.specs.List.{list_any, list_all}
 use Rattle.oz_base.specs.declared.names.Ident.{Ident}
 use Rattle.oz_semantics.specs.Names.{is_properly_below, is_top}
-use Rattle.oz_semantics.specs.Store.{is_consistent}
+use Rattle.oz_semantics.specs.Store.{is_consistent, named_by}
 use Rattle.oz_semantics.specs.declared.value.Tell.{Tell}
 use Rattle.oz_semantics.specs.declared.configuration.Layer.{Layer}
-use Rattle.space_core.specs.Shown.{Traces}
+use Rattle.space_core.specs.Giving.{after_giving}
+use Rattle.space_core.specs.Shown.{shown_all, is_home, Traces}
+use Rattle.space_core.specs.declared.given.Given.{Given}
 use Rattle.space_core.specs.declared.level.Level.{Level}
 
 -- whether there are spaces below this one
@@ -35,3 +37,28 @@ pub record IsToldMore (home : Bool) (ts : List Tell) (old new : Level) : Type 0 
 abbrev pub IsLevelTold : Bool → List Tell → Level → Level → Bool → Type 0
 IsLevelTold home ts old new true = IsToldMore home ts old new
 IsLevelTold home ts old new false = (new ≡ old) × (is_consistent (old.store ++ ts) ≡ false)
+
+-- what is kept of the space at a place, which gave this out
+abbrev pub after_giving_at : ℕ → Given → Level → List Level → List Level
+after_giving_at place given l levels = slice_set levels place (after_giving given l)
+
+-- the space at a place gave this out and was told these
+pub record ToldAt (place : ℕ) (ts : List Tell) (given : Given) (old new : List Level) : Type 0 where
+  pub before : Level
+  pub told : Level
+  pub home : Bool
+  pub read : before ≡ slice_index_or old place before
+  pub homes : home ≡ list_all (λ t. list_all (is_home (shown_all (after_giving_at place given before old)) before.space) (named_by t)) ts
+  pub tells : IsToldMore home ts (after_giving given before) told
+  pub left : new ≡ slice_set (after_giving_at place given before old) place told
+
+-- these are inconsistent with what the space at a place sees, and nothing was done
+pub record ClashesAt (place : ℕ) (ts : List Tell) (old new : List Level) : Type 0 where
+  pub before : Level
+  pub read : before ≡ slice_index_or old place before
+  pub clash : is_consistent (before.store ++ ts) ≡ false
+  pub left : new ≡ old
+
+abbrev pub IsToldAt : ℕ → List Tell → Given → List Level → List Level → Bool → Type 0
+IsToldAt place ts given old new true = ToldAt place ts given old new
+IsToldAt place ts given old new false = ClashesAt place ts old new

@@ -1,5 +1,5 @@
 -- An exception goes to the nearest mark of a stack.
-use Rattle.std.specs.Prelude.{ℕ, ◌≡◌, Bool, true, false, List, Some, None}
+use Rattle.std.specs.Prelude.{ℕ, ◌≡◌, Bool, true, false, List, Some, None, drop}
 use Rattle.oz_base.specs.declared.names.Ident.{Ident}
 use Rattle.oz_semantics.specs.Configurations.{thread_at, frames_in, in_thread, with_frames}
 use Rattle.oz_semantics.specs.Exceptions.{unwound}
@@ -17,3 +17,9 @@ abbrev pub IsLevelUnwound : Ident → ℕ → Level → Level → Bool → Type 
 IsLevelUnwound x number old new true =
     (frames : List Frame) × (unwound x (frames_in (thread_at old.threads number)) ≡ Some frames) × IsQuiet (with_frames number (λ rest. frames)) old new
 IsLevelUnwound x number old new false = (unwound x (frames_in (thread_at old.threads number)) ≡ None) × (new ≡ old)
+
+-- so of the statement that is on top of the stack
+abbrev pub IsLevelCaught : Ident → ℕ → Level → Level → Bool → Type 0
+IsLevelCaught x number old new true =
+    (frames : List Frame) × (unwound x (drop 1 (frames_in (thread_at old.threads number))) ≡ Some frames) × IsQuiet (with_frames number (λ rest. frames)) old new
+IsLevelCaught x number old new false = (unwound x (drop 1 (frames_in (thread_at old.threads number))) ≡ None) × (new ≡ old)

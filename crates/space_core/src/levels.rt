@@ -6,12 +6,20 @@ ghost use Rattle.oz_semantics.specs.Configurations.{is_of, layer_at, layer_of, v
 ghost use Rattle.oz_semantics.specs.Spaces.{alike_on, is_held};
 ghost use Rattle.oz_semantics.specs.Edits.{created};
 ghost use Rattle.oz_semantics.specs.Settling.{inconsistent_spaces};
+ghost use Rattle.oz_semantics.specs.Changes.{Pushes, Spawns, GivesOut, changed_all};
+ghost use Rattle.oz_semantics.specs.Steps.{without_top};
 ghost use Rattle.space_core.specs.Levels.{OfLayer, IsToldTo, IsUnwound, replacing};
 ghost use Rattle.space_core.specs.Telling.{has_below};
+ghost use Rattle.space_core.specs.Advances.{given_out, IsAdvanced, IsCaught, IsRaised};
+ghost use Rattle.space_core.specs.Shown.{seen_above};
 
+use crate::advances::tell_at;
+use crate::edits::landing_of;
+use crate::given::Given;
 use crate::homes::{all_home, has_below};
 use crate::level::{Level, top_level};
 use crate::looking::{level_place, level_position, top_frame};
+use crate::stacks::Landing;
 use crate::tree::{self, add_level, child_count, child_of, drop_below, store_above};
 use crate::{edits, silence, telling};
 use oz_base::{Copies, Ident, SpaceName, copies_of};
@@ -318,6 +326,152 @@ impl Levels {
         };
         self.levels[place].next.child = count;
         Ok(child)
+    }
+
+    /// The statement on top of a thread's stack is taken off, and these go on in its place, the first of them uppermost.
+    pub fn go_on(&mut self, id: &Ident, frames: Vec<Frame>) -> Result<(), AllocError>
+        ensures ok { OnOk result (self.new ≡ changed_all id.now (Pushes frames.items ∷ []) (without_top id.now self.old)) }
+        ensures err { OnErr result (self.new ≡ self.old) }
+    {
+        let Some(place) = level_place(self.levels.as_slice(), &id.space) else {
+            return Ok(());
+        };
+        edits::replace_top(&mut self.levels[place], id.number, frames)
+    }
+
+    /// The statement on top of a thread's stack is taken off, these go on in its place, and the thread's space gives out so many
+    /// variables. It refuses for want of memory, or where the space gave out 2^64 - 1.
+    pub fn declare(&mut self, id: &Ident, frames: Vec<Frame>, count: u64) -> Result<(), AllocError>
+        ensures ok { OnOk result (self.new ≡ changed_all id.now (Pushes frames.items ∷ GivesOut count ∷ []) (without_top id.now self.old)) }
+        ensures err { OnErr result (self.new ≡ self.old) }
+    {
+        let Some(place) = level_place(self.levels.as_slice(), &id.space) else {
+            return Ok(());
+        };
+        edits::declare(&mut self.levels[place], id.number, frames, count)
+    }
+
+    /// The statement on top of a thread's stack is taken off, and a new thread of its space begins with these. It refuses for want of
+    /// memory, or where the space gave out 2^64 - 1 threads.
+    pub fn start(&mut self, id: &Ident, frames: Vec<Frame>) -> Result<(), AllocError>
+        ensures ok { OnOk result (self.new ≡ changed_all id.now (Spawns frames.items ∷ []) (without_top id.now self.old)) }
+        ensures err { OnErr result (self.new ≡ self.old) }
+    {
+        let alloc = *self.levels.allocator();
+        let Some(place) = level_place(self.levels.as_slice(), &id.space) else {
+            return Ok(());
+        };
+        edits::start(alloc, &mut self.levels[place], id.number, frames)
+    }
+
+    /// The statement on top of a thread's stack is taken off, its space is told this and gives out what comes with it, and each space
+    /// below fails that then sees what is inconsistent. False exactly where it is inconsistent with what the space sees: then nothing
+    /// changes. It refuses for want of memory, where the space gave out 2^64 - 1 of a kind, and where other spaces are below the
+    /// space: what these see is not made anew yet.
+    pub fn tell_by(
+        &mut self,
+        alloc: Global,
+        id: &Ident,
+        tells: &[Tell],
+        given: Given,
+    ) -> Result<bool, AllocError>
+        requires { is_some (layer_at self.old id.now.space) ≡ true }
+        ensures told { IfOk result (IsAdvanced id.now tells.now (given_out given) self.old self.new) }
+        ensures err { OnErr result (self.new ≡ self.old) }
+    {
+        let Some(place) = level_place(self.levels.as_slice(), &id.space) else {
+            return Err(AllocError);
+        };
+        if has_below(self.levels.as_slice(), &id.space) {
+            return Err(AllocError);
+        }
+        if !tell_at(alloc, &mut self.levels, place, tells, &given)? {
+            return Ok(false);
+        }
+        edits::drop_top(&mut self.levels[place], id.number);
+        Ok(true)
+    }
+
+    /// The statement on top of a thread's stack is taken off, and an exception goes to the nearest mark of what is left of it. False
+    /// exactly where there is none: then nothing changes.
+    pub fn unwind_from(
+        &mut self,
+        alloc: Global,
+        id: &Ident,
+        exception: &Ident,
+    ) -> Result<bool, AllocError>
+        ensures caught { IfOk result (IsCaught exception.now id.now self.old self.new) }
+        ensures err { OnErr result (self.new ≡ self.old) }
+    {
+        let Some(place) = level_place(self.levels.as_slice(), &id.space) else {
+            return Ok(false);
+        };
+        edits::unwind_from(alloc, &mut self.levels[place], id.number, exception)
+    }
+
+    /// The same, where the thread's space is told the exception's term besides, by so many variables that it gives out. What is told
+    /// of new variables never clashes.
+    pub fn raise(
+        &mut self,
+        alloc: Global,
+        id: &Ident,
+        tells: &[Tell],
+        count: u64,
+        exception: &Ident,
+    ) -> Result<bool, AllocError>
+        requires { is_some (layer_at self.old id.now.space) ≡ true }
+        ensures raised { IfOk result (IsRaised exception.now id.now tells.now count self.old self.new) }
+        ensures err { OnErr result (self.new ≡ self.old) }
+    {
+        let Some(place) = level_place(self.levels.as_slice(), &id.space) else {
+            return Err(AllocError);
+        };
+        if has_below(self.levels.as_slice(), &id.space) {
+            return Err(AllocError);
+        }
+        let threads = &self.levels[place].threads;
+        let Some(landing) = landing_of(alloc, threads, id.number, exception)? else {
+            return Ok(false);
+        };
+        let given = Given::Variables(count);
+        let Landing { count, frames } = landing;
+        let handler = frames.len();
+        edits::push(&mut self.levels[place], id.number, frames.into_vec())?;
+        match tell_at(alloc, &mut self.levels, place, tells, &given) {
+            Ok(true) => {
+                edits::cut(&mut self.levels[place], id.number, handler, count);
+                Ok(true)
+            }
+            Ok(false) => {
+                edits::cut(&mut self.levels[place], id.number, 0, handler);
+                Err(AllocError)
+            }
+            Err(refused) => {
+                edits::cut(&mut self.levels[place], id.number, 0, handler);
+                Err(refused)
+            }
+        }
+    }
+
+    /// A store of what the parent of a space sees. The top has none. It refuses for want of memory, or where there is no parent.
+    pub fn store_above(&self, alloc: Global, space: &SpaceName) -> Result<Store, AllocError>
+        ensures { IfOk result (λ store. store ≡ seen_above self.now space.now) }
+    {
+        store_above(alloc, self.levels.as_slice(), space)
+    }
+
+    /// A space fails, and all below it is gone. It needs a store of what the space's parent sees, and takes no memory.
+    pub fn fail_over(&mut self, space: &SpaceName, above: Store)
+        requires { above ≡ seen_above self.old space.now }
+        ensures { self.new ≡ ending space.now failed self.old }
+    {
+        above.consistent();
+        let alloc = *self.levels.allocator();
+        drop_below(&mut self.levels, space);
+        let Some(place) = level_place(self.levels.as_slice(), space) else {
+            return;
+        };
+        tree::fail(alloc, &mut self.levels[place], above);
     }
 
     /// What each space that may fail sees is consistent. Nothing: it holds a law.

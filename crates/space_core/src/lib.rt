@@ -2,7 +2,9 @@
 //! machine's steps are made.
 #![tactic(auto)]
 
+mod advances;
 mod edits;
+mod given;
 mod homes;
 mod level;
 mod levels;
@@ -12,4 +14,5 @@ mod stacks;
 mod telling;
 mod tree;
 
+pub use given::Given;
 pub use levels::Levels;

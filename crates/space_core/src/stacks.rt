@@ -3,7 +3,7 @@ ghost use Rattle.std.specs.Prelude.{◌≡◌, ◌++◌, List, None, Some, drop,
 ghost use Rattle.oz_semantics.specs.Configurations.{frames_of};
 ghost use Rattle.oz_semantics.specs.Exceptions.{unwound};
 ghost use Rattle.oz_semantics.specs.declared.configuration.Frame.{Frame};
-ghost use Rattle.space_core.specs.Stacks.{HandlerOf};
+ghost use Rattle.space_core.specs.Stacks.{HandlerOf, IsLanding};
 
 use environments::Environment;
 use oz_base::{Copies, Ident, Sequence, Stack};
@@ -48,6 +48,35 @@ fn handler_of(
         }
         Code::Statement(_) | Code::Call { .. } => Ok(None),
     }
+}
+
+/// Where an exception goes in a stack: so many of the uppermost statements are taken off, the mark with them, and the handler's go on.
+#[derive(Drop)]
+pub struct Landing {
+    pub count: usize,
+    pub frames: Sequence<Frame>,
+}
+
+/// Where an exception of the statement on top of a stack goes, if there is a mark below it.
+pub fn nearest_mark(
+    alloc: Global,
+    stack: &Stack<Frame>,
+    exception: &Ident,
+) -> Result<Option<Landing>, AllocError>
+    ensures { IfOk result (IsLanding exception.now stack.now) }
+{
+    let frames = stack.from_bottom();
+    let mut place = frames.len().saturating_sub(1);
+    'marks: while place > 0 {
+        place -= 1;
+        if let Some(handler) = handler_of(alloc, &frames[place], exception)? {
+            return Ok(Some(Landing {
+                count: frames.len() - place,
+                frames: handler,
+            }));
+        }
+    }
+    Ok(None)
 }
 
 /// The stack that an exception leaves of a stack, where that has a mark.

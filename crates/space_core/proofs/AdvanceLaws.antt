@@ -1,0 +1,282 @@
+-- One edit of a space after another, at the place that was looked up.
+use Rattle.std.proofs.Common.{◌≡◌, ℕ, ◌+◌, ◌<◌, ◌≤◌, arith, length, true, false, List, [], ◌∷◌, ◌++◌, slice_set, slice_index_or, refl, sym, ap, subst, ◌∙◌, drop, Option, Some, unwrap_or}
+use Rattle.std.specs.List.{list_all}
+use Rattle.std.proofs.lemmas.List.{get_or-set_same, get_or_default, get_or_append_left, set-set, set-get_or, set-append_left, length-set}
+use Rattle.oz_base.specs.Lists.{list_eq}
+use Rattle.oz_base.specs.declared.names.Ident.{Ident}
+use Rattle.oz_semantics.specs.Names.{is_properly_below}
+use Rattle.oz_semantics.specs.Store.{named_by, is_consistent}
+use Rattle.oz_semantics.specs.Configurations.{is_of, is_numbered, in_layer, in_thread, view, telling, with_frames, thread_at, frames_in, stack_of, new_layer}
+use Rattle.oz_semantics.specs.Changes.{GivesOut, done}
+use Rattle.oz_semantics.specs.Exceptions.{unwound}
+use Rattle.oz_semantics.specs.Steps.{without_top}
+use Rattle.oz_semantics.specs.declared.value.Tell.{Tell}
+use Rattle.oz_semantics.specs.declared.configuration.Frame.{Frame}
+use Rattle.oz_semantics.specs.declared.configuration.Thread.{Thread}
+use Rattle.oz_semantics.specs.declared.configuration.Layer.{Layer}
+use Rattle.settle_laws.specs.Settles.{Settles}
+use Rattle.settle_laws.proofs.SettleLaws.{nothing_fails}
+use Rattle.settle_laws.proofs.EditLaws.{edits_join, edits_agree}
+use Rattle.view_laws.proofs.SightLaws.{space_of}
+use Rattle.space_core.specs.Advances.{given_out, IsAdvanced, IsRaised, taken_on}
+use Rattle.space_core.specs.Giving.{giving, after_giving}
+use Rattle.space_core.specs.Places.{IsFirst}
+use Rattle.space_core.specs.Shown.{shown_all, is_home, IsSound, IsQuiet}
+use Rattle.space_core.specs.Stacks.{cut_out}
+use Rattle.space_core.specs.Telling.{has_below, after_giving_at, ToldAt, ClashesAt}
+use Rattle.space_core.specs.declared.given.Given.{Given}
+use Rattle.space_core.specs.declared.given.Given.TheVariants.{Nothing, Variables, Procedure}
+use Rattle.space_core.specs.declared.level.Level.{Level}
+use Rattle.space_core.proofs.AnswerLaws.{PlaceIn}
+use Rattle.space_core.proofs.CatchLaws.{room_to_cut, room_to_undo}
+use Rattle.space_core.proofs.Firsts.{first_edited, edit_same, any_edited}
+use Rattle.space_core.proofs.LayerLaws.{frames_twice, uncut_handler, told_by, told_by_is, raised_is}
+use Rattle.space_core.proofs.SoundLaws.{Edited, quiet_edit, read_shown, place_within, place_member, none_inconsistent}
+use Rattle.space_core.proofs.TellLaws.{tell_edit}
+
+-- A change that keeps the name of the space
+abbrev pub KeepsName : (Layer → Layer) → Type 0
+KeepsName change = (k : Layer) → (change k).space ≡ k.space
+
+-- The space at the place was changed, and still stands there
+pub record Reached (levels news : List Level) (space : List ℕ) (place : ℕ) (change : Layer → Layer) : Type 0 where
+  pub edited : Edited levels news space change
+  pub here : PlaceIn news space place
+  pub below : has_below (shown_all news) space ≡ has_below (shown_all levels) space
+
+reached : (levels news : List Level) (space : List ℕ) (place : ℕ) (change : Layer → Layer) → KeepsName change → PlaceIn levels space place → Edited levels news space change → Reached levels news space place change
+reached levels news space place change keeps h e = record {
+  edited = e;
+  here = subst (λ (ls : List Layer). (x : Layer) × IsFirst (is_of space) ls place x) (sym e.shows) (first_edited (is_of space) change (λ k. ap (λ s. list_eq s space) (keeps k)) (shown_all levels) place h.0 h.1);
+  below = ap (λ ls. has_below ls space) e.shows ∙ any_edited (λ (k : Layer). is_properly_below space k.space) (is_of space) change (λ k. ap (is_properly_below space) (keeps k)) (shown_all levels);
+}
+
+pub quiet_step : (levels : List Level) (space : List ℕ) (place : ℕ) → IsSound levels → PlaceIn levels space place → (l m : Level) → l ≡ slice_index_or levels place l → (change : Layer → Layer)
+    → KeepsName change → IsQuiet change l m → Reached levels (slice_set levels place m) space place change
+quiet_step levels space place s h l m e change keeps q =
+    reached levels (slice_set levels place m) space place change keeps h (quiet_edit levels space place h.0 h.1 l m e change q s)
+
+-- What was written at the place is read there
+pub read_set : (levels : List Level) (place : ℕ) (m l : Level) → place < length levels → l ≡ slice_index_or (slice_set levels place m) place l → l ≡ m
+read_set levels place m l within e = e ∙ get_or-set_same levels place m l within
+
+pub gives_quietly : (given : Given) (l : Level) → IsQuiet (giving given) l (after_giving given l)
+gives_quietly Nothing l = record { becomes = refl; space = refl; store = refl; told_from = refl; touched = refl; traced = refl; variables = omega arith; children = omega arith }
+gives_quietly (Variables n) l = record { becomes = refl; space = refl; store = refl; told_from = refl; touched = refl; traced = refl; variables = omega arith; children = omega arith }
+gives_quietly Procedure l = record { becomes = refl; space = refl; store = refl; told_from = refl; touched = refl; traced = refl; variables = omega arith; children = omega arith }
+
+-- A space of which none is below gives something out and is told more
+module _ (levels : List Level) (id : Ident) (place : ℕ) (s : IsSound levels) (h : PlaceIn levels id.space place) (none : has_below (shown_all levels) id.space ≡ false)
+    (ts : List Tell) (given : Given) (news : List Level) (t : ToldAt place ts given levels news) where
+  abbrev gave : List Level
+  gave = after_giving_at place given t.before levels
+
+  within : place < length levels
+  within = place_within levels id.space place h.0 h.1
+
+  name : t.before.space ≡ id.space
+  name = ap (λ (k : Layer). k.space) (read_shown levels id.space place h.0 h.1 t.before t.read) ∙ space_of (shown_all levels) id.space h.0 h.1.found
+
+  giving_step : Reached levels gave id.space place (giving given)
+  giving_step = quiet_step levels id.space place s h t.before (after_giving given t.before) t.read (giving given) (λ k. refl) (gives_quietly given t.before)
+
+  read_gave : after_giving given t.before ≡ slice_index_or gave place (after_giving given t.before)
+  read_gave = sym (get_or-set_same levels place (after_giving given t.before) (after_giving given t.before) within)
+
+  homes : t.home ≡ true → list_all (λ t. list_all (is_home (shown_all gave) id.space) (named_by t)) ts ≡ true
+  homes k = subst (λ (p : List ℕ). list_all (λ t. list_all (is_home (shown_all gave) p) (named_by t)) ts ≡ true) name (sym t.homes ∙ k)
+
+  telling_step : Reached gave news id.space place (telling ts)
+  telling_step = subst (λ (ls : List Level). Reached gave ls id.space place (telling ts)) (sym t.left) (
+      reached gave (slice_set gave place t.told) id.space place (telling ts) (λ k. refl) giving_step.here
+      (tell_edit gave id.space place giving_step.here.0 giving_step.here.1 (after_giving given t.before) t.told read_gave ts t.home t.tells homes giving_step.edited.sound (giving_step.below ∙ none)))
+
+  pub told_here : PlaceIn news id.space place
+  told_here = telling_step.here
+
+  pub told_sound_at : IsSound news
+  told_sound_at = telling_step.edited.sound
+
+  pub told_shows_at : shown_all news ≡ in_layer id.space (telling ts) (in_layer id.space (giving given) (shown_all levels))
+  told_shows_at = telling_step.edited.shows ∙ ap (in_layer id.space (telling ts)) giving_step.edited.shows
+
+  -- the space's level as it was before
+  pub told_before : (l : Level) → l ≡ slice_index_or levels place l → t.before ≡ l
+  told_before l e = t.read ∙ get_or_default levels place t.before l within ∙ sym e
+
+  pub told_level : (l : Level) → l ≡ slice_index_or news place l → l ≡ t.told
+  told_level l e = read_set gave place t.told l (place_within gave id.space place giving_step.here.0 giving_step.here.1) (subst (λ (ls : List Level). l ≡ slice_index_or ls place l) t.left e)
+
+  pub sees_more : is_consistent (view (shown_all levels) id.space ++ ts) ≡ true
+  sees_more =
+      ap (λ (us : List Tell). is_consistent (us ++ ts)) (sym ((s.fits t.before (place_member levels id.space place h.0 h.1 t.before t.read)).seen ∙ ap (view (shown_all levels)) name))
+      ∙ t.tells.consistent
+
+-- Layers of which nothing is inconsistent are what is left of them
+pub settles_itself : (levels : List Level) (space : List ℕ) (layers : List Layer) → IsSound levels → shown_all levels ≡ layers → Settles space layers (shown_all levels)
+settles_itself levels space layers s e = subst (λ (ls : List Layer). Settles space ls (shown_all levels)) e (nothing_fails space (shown_all levels) (none_inconsistent levels s))
+
+-- and then its statement is taken off
+module _ (levels : List Level) (value : List Layer) (viewed : shown_all levels ≡ value) (id : Ident) (place : ℕ) (s : IsSound levels) (h : PlaceIn levels id.space place)
+    (none : has_below (shown_all levels) id.space ≡ false) (ts : List Tell) (given : Given) (news : List Level) (t : ToldAt place ts given levels news)
+    (l m : Level) (e : l ≡ slice_index_or news place l) (q : IsQuiet (with_frames id.number (λ stack. drop 1 stack)) l m) where
+  popping_step : Reached news (slice_set news place m) id.space place (with_frames id.number (λ stack. drop 1 stack))
+  popping_step =
+      quiet_step news id.space place (told_sound_at levels id place s h none ts given news t) (told_here levels id place s h none ts given news t) l m e (with_frames id.number (λ stack. drop 1 stack)) (λ k. refl) q
+
+  pub advanced_sound : IsSound (slice_set news place m)
+  advanced_sound = popping_step.edited.sound
+
+  pub advanced : IsAdvanced id ts (given_out given) value (shown_all (slice_set news place m)) true
+  advanced = (
+    ap (λ (ls : List Layer). is_consistent (view ls id.space ++ ts)) (sym viewed) ∙ sees_more levels id place s h none ts given news t,
+    settles_itself (slice_set news place m) id.space (done id ts (given_out given) (without_top id value)) advanced_sound
+        (popping_step.edited.shows ∙ ap (in_layer id.space (with_frames id.number (λ stack. drop 1 stack))) (told_shows_at levels id place s h none ts given news t)
+        ∙ ap (λ (ls : List Layer). told_by id ls ts given) viewed ∙ told_by_is id value ts given),
+  )
+
+-- An exception's term is told while the handler stands on the stack
+module _ (levels : List Level) (value : List Layer) (viewed : shown_all levels ≡ value) (id : Ident) (place : ℕ) (s : IsSound levels) (h : PlaceIn levels id.space place)
+    (none : has_below (shown_all levels) id.space ≡ false) (handler : List Frame) (height : ℕ) (high : height ≡ length handler)
+    (l l1 : Level) (e : l ≡ slice_index_or levels place l) (q : IsQuiet (with_frames id.number (λ stack. handler ++ stack)) l l1) where
+  abbrev pushed : List Level
+  pushed = slice_set levels place l1
+
+  pushing_step : Reached levels pushed id.space place (with_frames id.number (λ stack. handler ++ stack))
+  pushing_step = quiet_step levels id.space place s h l l1 e (with_frames id.number (λ stack. handler ++ stack)) (λ k. refl) q
+
+  -- it is refused or clashes, and the handler is cut off
+  module _ (news : List Level) (none_told : news ≡ pushed) (l2 m : Level) (e2 : l2 ≡ slice_index_or news place l2) (q2 : IsQuiet (with_frames id.number (cut_out 0 height)) l2 m) where
+    undoing_step : Reached pushed (slice_set news place m) id.space place (with_frames id.number (cut_out 0 height))
+    undoing_step =
+        subst (λ (ls : List Level). Reached pushed (slice_set ls place m) id.space place (with_frames id.number (cut_out 0 height))) (sym none_told)
+        (quiet_step pushed id.space place pushing_step.edited.sound pushing_step.here l2 m (subst (λ (ls : List Level). l2 ≡ slice_index_or ls place l2) none_told e2)
+        (with_frames id.number (cut_out 0 height)) (λ k. refl) q2)
+
+    pub undone_sound : IsSound (slice_set news place m)
+    undone_sound = undoing_step.edited.sound
+
+    same_layer : (k : Layer) → with_frames id.number (cut_out 0 height) (with_frames id.number (λ stack. handler ++ stack) k) ≡ k
+    same_layer k =
+        frames_twice id.number (cut_out 0 height) (λ stack. handler ++ stack) k
+        ∙ ap (λ (f : List Frame → List Frame). with_frames id.number f k) (λ i s. uncut_handler handler s height high i)
+        ∙ ap (λ (us : List Thread). record k { threads = us }) (edit_same (is_numbered id.number) k.threads)
+
+    pub undone_shows : shown_all (slice_set news place m) ≡ value
+    undone_shows =
+        undoing_step.edited.shows ∙ ap (in_layer id.space (with_frames id.number (cut_out 0 height))) pushing_step.edited.shows
+        ∙ edits_join id.space (with_frames id.number (cut_out 0 height)) (with_frames id.number (λ stack. handler ++ stack)) (shown_all levels) (λ k. refl)
+        ∙ edits_agree id.space (λ k. with_frames id.number (cut_out 0 height) (with_frames id.number (λ stack. handler ++ stack) k)) (λ k. k) (shown_all levels) (λ k at. same_layer k)
+        ∙ edit_same (is_of id.space) (shown_all levels)
+        ∙ viewed
+
+  -- it is told, and what stands below the handler is cut out
+  module _ (ts : List Tell) (count : ℕ) (news : List Level) (t : ToldAt place ts (Variables count) pushed news) (below : ℕ)
+      (l2 m : Level) (e2 : l2 ≡ slice_index_or news place l2) (q2 : IsQuiet (with_frames id.number (cut_out height below)) l2 m) where
+    nothing_below : has_below (shown_all pushed) id.space ≡ false
+    nothing_below = pushing_step.below ∙ none
+
+    catching_step : Reached news (slice_set news place m) id.space place (with_frames id.number (cut_out height below))
+    catching_step =
+        quiet_step news id.space place
+        (told_sound_at pushed id place pushing_step.edited.sound pushing_step.here nothing_below ts (Variables count) news t)
+        (told_here pushed id place pushing_step.edited.sound pushing_step.here nothing_below ts (Variables count) news t)
+        l2 m e2 (with_frames id.number (cut_out height below)) (λ k. refl) q2
+
+    pub raised_sound : IsSound (slice_set news place m)
+    raised_sound = catching_step.edited.sound
+
+    pub raised_shows : (x : Ident) → unwound x (drop 1 (stack_of value id)) ≡ Some (handler ++ drop below (stack_of value id)) → IsRaised x id ts count value (shown_all (slice_set news place m)) true
+    raised_shows x u = (
+      handler ++ drop below (stack_of value id),
+      u,
+      settles_itself (slice_set news place m) id.space (taken_on id (handler ++ drop below (stack_of value id)) (done id ts (GivesOut count ∷ []) value)) raised_sound
+          (catching_step.edited.shows
+          ∙ ap (in_layer id.space (with_frames id.number (cut_out height below)))
+          (told_shows_at pushed id place pushing_step.edited.sound pushing_step.here nothing_below ts (Variables count) news t
+          ∙ ap (λ (ls : List Layer). in_layer id.space (telling ts) (in_layer id.space (giving (Variables count)) ls))
+          (pushing_step.edited.shows ∙ ap (in_layer id.space (with_frames id.number (λ stack. handler ++ stack))) viewed))
+          ∙ raised_is id value handler ts count height below high),
+    )
+
+  -- where the exception goes was looked for in the same stack
+  module _ (x : Ident) (l0 : Level) (r0 : l0 ≡ slice_index_or levels place l0) (below : ℕ)
+      (lands : unwound x (drop 1 (frames_in (thread_at l0.threads id.number))) ≡ Some (handler ++ drop below (frames_in (thread_at l0.threads id.number))))
+      (within : below ≤ length (frames_in (thread_at l0.threads id.number))) where
+    abbrev stack_in : Level → List Frame
+    stack_in k = frames_in (thread_at k.threads id.number)
+
+    same_stack : stack_in l0 ≡ stack_in l
+    same_stack = ap stack_in (r0 ∙ get_or_default levels place l0 l (place_within levels id.space place h.0 h.1) ∙ sym e)
+
+    value_stack : stack_of value id ≡ stack_in l0
+    value_stack =
+        ap (λ (ls : List Layer). stack_of ls id) (sym viewed)
+        ∙ ap (λ (o : Option Layer). frames_in (thread_at (unwrap_or o (new_layer id.space)).threads id.number)) h.1.found
+        ∙ ap (λ (k : Layer). frames_in (thread_at k.threads id.number)) (sym (read_shown levels id.space place h.0 h.1 l0 r0))
+
+    pub lands_here : unwound x (drop 1 (stack_of value id)) ≡ Some (handler ++ drop below (stack_of value id))
+    lands_here = subst (λ (fs : List Frame). unwound x (drop 1 fs) ≡ Some (handler ++ drop below fs)) (sym value_stack) lands
+
+    lands_there : unwound x (drop 1 (stack_in l)) ≡ Some (handler ++ drop below (stack_in l))
+    lands_there = subst (λ (fs : List Frame). unwound x (drop 1 fs) ≡ Some (handler ++ drop below fs)) same_stack lands
+
+    pub room_above : (news : List Level) → news ≡ pushed → (l2 : Level) → l2 ≡ slice_index_or news place l2 → 0 + height ≤ length (stack_in l2)
+    room_above news k l2 e2 =
+        let same : l2 ≡ l1 = read_set levels place l1 l2 (place_within levels id.space place h.0 h.1) (subst (λ (ls : List Level). l2 ≡ slice_index_or ls place l2) k e2) in
+        subst (λ (j : Level). 0 + height ≤ length (stack_in j)) (sym same)
+        (room_to_undo id.number handler l l1 q x (handler ++ drop below (stack_in l)) height lands_there high)
+
+    pub room_below : (ts : List Tell) (count : ℕ) (news : List Level) → ToldAt place ts (Variables count) pushed news → (l2 : Level) → l2 ≡ slice_index_or news place l2 → height + below ≤ length (stack_in l2)
+    room_below ts count news t l2 e2 =
+        let told : l2 ≡ t.told = told_level pushed id place pushing_step.edited.sound pushing_step.here (pushing_step.below ∙ none) ts (Variables count) news t l2 e2 in
+        let before : t.before ≡ l1 = read_set levels place l1 t.before (place_within levels id.space place h.0 h.1) t.read in
+        let threads : l2.threads ≡ l1.threads = ap (λ (k : Level). k.threads) told ∙ t.tells.threads ∙ ap (λ (k : Level). k.threads) before in
+        subst (λ (us : List Thread). height + below ≤ length (frames_in (thread_at us id.number))) (sym threads)
+        (room_to_cut id.number handler l l1 q x (handler ++ drop below (stack_in l)) height below lands_there high (subst (λ (fs : List Frame). below ≤ length fs) same_stack within))
+
+-- What was told clashes, and nothing was done
+pub clash_shows : (levels : List Level) (value : List Layer) → shown_all levels ≡ value → IsSound levels → (space : List ℕ) (place : ℕ) → PlaceIn levels space place → (ts : List Tell) (news : List Level) → ClashesAt place ts levels news
+    → (is_consistent (view value space ++ ts) ≡ false) × (shown_all news ≡ value)
+clash_shows levels value viewed s space place h ts news t = (
+  ap (λ (ls : List Layer). is_consistent (view ls space ++ ts)) (sym viewed)
+      ∙ ap (λ (us : List Tell). is_consistent (us ++ ts)) (sym ((s.fits t.before (place_member levels space place h.0 h.1 t.before t.read)).seen ∙ ap (view (shown_all levels)) name))
+      ∙ t.clash,
+  ap shown_all t.left ∙ viewed,
+)
+  where
+    name : t.before.space ≡ space
+    name = ap (λ (k : Layer). k.space) (read_shown levels space place h.0 h.1 t.before t.read) ∙ space_of (shown_all levels) space h.0 h.1.found
+
+-- A space that was told nothing after it gave something out, and whose numbers are set back
+module _ (levels : List Level) (place : ℕ) (within : place < length levels) (given : Given) (l0 l1 g l2 t l3 : Level) (r0 : l0 ≡ slice_index_or levels place l0) (r1 : l1 ≡ slice_index_or levels place l1)
+    (e : g ≡ after_giving given l1) (r2 : l2 ≡ slice_index_or (slice_set levels place g) place l2) (k : t ≡ l2) (r3 : l3 ≡ slice_index_or (slice_set (slice_set levels place g) place t) place l3) where
+  pub given_level : l2 ≡ after_giving given l0
+  given_level = read_set levels place g l2 within r2 ∙ e ∙ ap (after_giving given) (r1 ∙ get_or_default levels place l1 l0 within ∙ sym r0)
+
+  pub restored : slice_set (slice_set (slice_set levels place g) place t) place (record l3 { next = l0.next }) ≡ levels
+  restored =
+      let inside : place < length (slice_set levels place g) = omega (arith, within, length-set levels place g) in
+      let same : l3 ≡ after_giving given l0 = read_set (slice_set levels place g) place t l3 inside r3 ∙ k ∙ given_level in
+      set-set (slice_set levels place g) place t (record l3 { next = l0.next })
+      ∙ set-set levels place g (record l3 { next = l0.next })
+      ∙ ap (λ (m : Level). slice_set levels place (record m { next = l0.next })) same
+      ∙ ap (slice_set levels place) r0
+      ∙ set-get_or levels place l0
+
+-- A thread that is added while the statement of another is taken off
+pub added : (threads : List Thread) (place n : ℕ) (x : Thread) → IsFirst (is_numbered n) threads place x → (new : Thread) (pushed : List Thread) → pushed ≡ threads ++ new ∷ []
+    → (t : Thread) → t ≡ slice_index_or pushed place t → (fs : List Frame) → fs ≡ drop 1 t.frames
+    → slice_set pushed place (record { number = t.number; frames = fs }) ≡ in_thread n (λ t. record t { frames = drop 1 t.frames }) threads ++ new ∷ []
+added threads place n x h new pushed p t r fs f =
+    let same : t ≡ x = r ∙ ap (λ (ts : List Thread). slice_index_or ts place t) p ∙ get_or_append_left threads (new ∷ []) t place h.within ∙ get_or_default threads place t x h.within ∙ h.item in
+    ap (λ (ts : List Thread). slice_set ts place (record { number = t.number; frames = fs })) p
+    ∙ set-append_left threads (new ∷ []) place (record { number = t.number; frames = fs }) h.within
+    ∙ ap (λ (ts : List Thread). ts ++ new ∷ [])
+    (ap (λ (gs : List Frame). slice_set threads place (record { number = t.number; frames = gs })) f
+    ∙ ap (λ (u : Thread). slice_set threads place (record u { frames = drop 1 u.frames })) same
+    ∙ sym (h.edited (λ t. record t { frames = drop 1 t.frames })))
+
+-- the place in what is kept is that in what it is read as
+pub place_by : {now levels : List Level} → now ≡ levels → (space : List ℕ) (place : ℕ) → PlaceIn now space place → PlaceIn levels space place
+place_by seen space place h = subst (λ (ls : List Level). PlaceIn ls space place) seen h

@@ -1,0 +1,72 @@
+-- A handler that goes on a thread's stack, and what stands below it that is cut out.
+use Rattle.std.proofs.Common.{◌≡◌, ℕ, ◌+◌, ◌≤◌, arith, List, ◌++◌, length, drop, refl, ap, ◌∙◌, Option, Some, None, length-append}
+use Rattle.oz_base.specs.declared.names.Ident.{Ident}
+use Rattle.oz_semantics.specs.Configurations.{is_numbered, thread_at, frames_in, in_thread, with_frames}
+use Rattle.oz_semantics.specs.Exceptions.{unwound}
+use Rattle.oz_semantics.specs.declared.configuration.Frame.{Frame}
+use Rattle.oz_semantics.specs.declared.configuration.Thread.{Thread}
+use Rattle.oz_semantics.specs.declared.configuration.Layer.{Layer}
+use Rattle.view_laws.proofs.ListLaws.{found_in}
+use Rattle.space_core.specs.Shown.{shown, IsQuiet}
+use Rattle.space_core.specs.Stacks.{cut_out}
+use Rattle.space_core.specs.declared.level.Level.{Level}
+use Rattle.space_core.proofs.Firsts.{found_edited}
+use Rattle.space_core.proofs.LayerLaws.{frames_twice, frames_agree, cut_handler}
+
+-- One quiet change after another
+pub quiet_twice : (f g : Layer → Layer) (l m n : Level) → IsQuiet f l m → IsQuiet g m n → IsQuiet (λ k. g (f k)) l n
+quiet_twice f g l m n p q = record {
+  becomes = q.becomes ∙ ap g p.becomes;
+  space = q.space ∙ p.space;
+  store = q.store ∙ p.store;
+  told_from = q.told_from ∙ p.told_from;
+  touched = q.touched ∙ p.touched;
+  traced = q.traced ∙ p.traced;
+  variables = let a = p.variables in let b = q.variables in omega (arith, a, b);
+  children = let a = p.children in let b = q.children in omega (arith, a, b);
+}
+
+-- as another that comes to the same
+pub quiet_as : (f g : Layer → Layer) (l m : Level) → IsQuiet f l m → f (shown l) ≡ g (shown l) → IsQuiet g l m
+quiet_as f g l m q e = record {
+  becomes = q.becomes ∙ e;
+  space = q.space;
+  store = q.store;
+  told_from = q.told_from;
+  touched = q.touched;
+  traced = q.traced;
+  variables = q.variables;
+  children = q.children;
+}
+
+module _ (n : ℕ) (handler : List Frame) (l l1 : Level) (q : IsQuiet (with_frames n (λ stack. handler ++ stack)) l l1) where
+  abbrev stack : List Frame
+  stack = frames_in (thread_at l.threads n)
+
+  abbrev pushing : Thread → Thread
+  pushing t = record t { frames = handler ++ t.frames }
+
+  -- a stack that an exception leaves is one of a thread that is there
+  pub pushed_frames : (x : Ident) (left : List Frame) → unwound x (drop 1 stack) ≡ Some left → frames_in (thread_at l1.threads n) ≡ handler ++ stack
+  pushed_frames x left u = ap (λ (k : Layer). frames_in (thread_at k.threads n)) q.becomes ∙ by (thread_at l.threads n) refl u
+    where
+      by : (o : Option Thread) → thread_at l.threads n ≡ o → unwound x (drop 1 (frames_in o)) ≡ Some left → frames_in (thread_at (in_thread n pushing l.threads) n) ≡ handler ++ frames_in o
+      by None e v = absurd (cc)
+      by (Some t) e v = ap frames_in (found_edited (is_numbered n) pushing l.threads t e (found_in (is_numbered n) pushing l.threads t e).1)
+
+  pub room_to_cut : (x : Ident) (left : List Frame) (h c : ℕ) → unwound x (drop 1 stack) ≡ Some left → h ≡ length handler → c ≤ length stack → h + c ≤ length (frames_in (thread_at l1.threads n))
+  room_to_cut x left h c u e within =
+      let whole : length (frames_in (thread_at l1.threads n)) ≡ length handler + length stack = ap length (pushed_frames x left u) ∙ length-append handler stack in
+      omega (arith, whole, e, within)
+
+  pub room_to_undo : (x : Ident) (left : List Frame) (h : ℕ) → unwound x (drop 1 stack) ≡ Some left → h ≡ length handler → 0 + h ≤ length (frames_in (thread_at l1.threads n))
+  room_to_undo x left h u e =
+      let whole : length (frames_in (thread_at l1.threads n)) ≡ length handler + length stack = ap length (pushed_frames x left u) ∙ length-append handler stack in
+      omega (arith, whole, e)
+
+  pub caught_quietly : (m : Level) (h c : ℕ) → IsQuiet (with_frames n (cut_out h c)) l1 m → h ≡ length handler → IsQuiet (with_frames n (λ rest. handler ++ drop c stack)) l m
+  caught_quietly m h c r e =
+      quiet_as (λ k. with_frames n (cut_out h c) (with_frames n (λ stack. handler ++ stack) k)) (with_frames n (λ rest. handler ++ drop c stack)) l m
+      (quiet_twice (with_frames n (λ stack. handler ++ stack)) (with_frames n (cut_out h c)) l l1 m q r)
+      (frames_twice n (cut_out h c) (λ stack. handler ++ stack) (shown l)
+      ∙ frames_agree n (λ s. cut_out h c (handler ++ s)) (λ rest. handler ++ drop c stack) (shown l) (cut_handler handler stack h c e))

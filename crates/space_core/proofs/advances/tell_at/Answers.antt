@@ -1,0 +1,25 @@
+use Rattle.std.proofs.Common.{◌≡◌, ◌++◌, false, subst}
+use Rattle.oz_semantics.specs.Store.{is_consistent}
+use Rattle.space_core.specs.Telling.{IsLevelTold}
+use Rattle.space_core.specs.declared.level.Level.{Level}
+use Rattle.space_core.proofs.AdvanceLaws.{restored, given_level}
+use Rattle.space_core.proofs.advances.tell_at.Goals as goal
+
+pub returns-in-Ok-false-clause-told : goal.returns-in-Ok-false-clause-told
+returns-in-Ok-false-clause-told c =
+    let told = subst (IsLevelTold c.all_home-home.result c.args.tells.now c.index_mut-2.result.now c.tell.new.level) c.in-Ok-false.field-0-test c.in-Ok-false.ensures.told in
+    record {
+      before = c.index.result.now;
+      read = c.index.ensures;
+      clash = subst (λ (k : Level). is_consistent (k.store ++ c.args.tells.now) ≡ false)
+          (given_level c.args.levels.now.items c.args.place c.requires c.args.given.now c.index.result.now c.index_mut.result.now c.give.new.level c.index_mut-2.result.now c.tell.new.level c.index_mut-in-Ok-false.result.now c.index.ensures c.index_mut.ensures.value
+          c.in_ok-give.ensures.ok c.index_mut-2.ensures.value told.0 c.index_mut-in-Ok-false.ensures.value)
+          told.1;
+      left = restored c.args.levels.now.items c.args.place c.requires c.args.given.now c.index.result.now c.index_mut.result.now c.give.new.level c.index_mut-2.result.now c.tell.new.level c.index_mut-in-Ok-false.result.now c.index.ensures c.index_mut.ensures.value
+          c.in_ok-give.ensures.ok c.index_mut-2.ensures.value told.0 c.index_mut-in-Ok-false.ensures.value;
+    }
+
+pub returns-in-Err-clause-err : goal.returns-in-Err-clause-err
+returns-in-Err-clause-err c =
+    restored c.args.levels.now.items c.args.place c.requires c.args.given.now c.index.result.now c.index_mut.result.now c.give.new.level c.index_mut-2.result.now c.tell.new.level c.index_mut-in-Err.result.now c.index.ensures c.index_mut.ensures.value
+    c.in_ok-give.ensures.ok c.index_mut-2.ensures.value c.in-Err.ensures.err c.index_mut-in-Err.ensures.value
