@@ -4,7 +4,7 @@ use Rattle.std.specs.Prelude.{eqb}
 use Rattle.std.proofs.Math.Path.{fun_ext}
 use Rattle.std.proofs.lemmas.Nat.{div-add-mod'}
 use Rattle.std.proofs.lemmas.Bool.{eq-eqb, eqb-true}
-use Rattle.shared_map.specs.Lookup.{choice, join, nothing, updated, Swapped}
+use Rattle.shared_map.specs.Lookup.{choice, join, nothing, placed, Swapped}
 
 pub choice_beyond : {X : Type 0} (i : ℕ) (a b c d e : X) → 4 ≤ i → choice i a b c d e ≡ e
 choice_beyond i a b c d e h = grind arith
@@ -56,27 +56,27 @@ spot_d : {X : Type 0} (i : ℕ) (w : Bool) (o a b c d e : X) → choice i a b c 
 spot_d i true o a b c d e = grind arith
 spot_d i false o a b c d e = grind arith
 
-pub put_a : {V : Type 0} (p k r : ℕ) (o : Option V) (a b c d g : ℕ → Option V) → k / p ≡ 0 → r ≡ k % p → g ≡ updated r o a → join p g b c d ≡ updated k o (join p a b c d)
+pub put_a : {V : Type 0} (p k r : ℕ) (o : Option V) (a b c d g : ℕ → Option V) → k / p ≡ 0 → r ≡ k % p → g ≡ placed r o a → join p g b c d ≡ placed k o (join p a b c d)
 put_a p k r o a b c d g i e wrote =
-    ap (λ f. join p f b c d) (wrote ∙ ap (λ q. updated q o a) e)
+    ap (λ f. join p f b c d) (wrote ∙ ap (λ q. placed q o a) e)
     ∙ fun_ext (λ j. spot_a (j / p) (eqb (j % p) (k % p)) o (a (j % p)) (b (j % p)) (c (j % p)) (d (j % p)) None
     ∙ ap (λ t. cond t o (join p a b c d j)) (at_place p j k 0 i))
 
-pub put_b : {V : Type 0} (p k r : ℕ) (o : Option V) (a b c d g : ℕ → Option V) → k / p ≡ 1 → r ≡ k % p → g ≡ updated r o b → join p a g c d ≡ updated k o (join p a b c d)
+pub put_b : {V : Type 0} (p k r : ℕ) (o : Option V) (a b c d g : ℕ → Option V) → k / p ≡ 1 → r ≡ k % p → g ≡ placed r o b → join p a g c d ≡ placed k o (join p a b c d)
 put_b p k r o a b c d g i e wrote =
-    ap (λ f. join p a f c d) (wrote ∙ ap (λ q. updated q o b) e)
+    ap (λ f. join p a f c d) (wrote ∙ ap (λ q. placed q o b) e)
     ∙ fun_ext (λ j. spot_b (j / p) (eqb (j % p) (k % p)) o (a (j % p)) (b (j % p)) (c (j % p)) (d (j % p)) None
     ∙ ap (λ t. cond t o (join p a b c d j)) (at_place p j k 1 i))
 
-pub put_c : {V : Type 0} (p k r : ℕ) (o : Option V) (a b c d g : ℕ → Option V) → k / p ≡ 2 → r ≡ k % p → g ≡ updated r o c → join p a b g d ≡ updated k o (join p a b c d)
+pub put_c : {V : Type 0} (p k r : ℕ) (o : Option V) (a b c d g : ℕ → Option V) → k / p ≡ 2 → r ≡ k % p → g ≡ placed r o c → join p a b g d ≡ placed k o (join p a b c d)
 put_c p k r o a b c d g i e wrote =
-    ap (λ f. join p a b f d) (wrote ∙ ap (λ q. updated q o c) e)
+    ap (λ f. join p a b f d) (wrote ∙ ap (λ q. placed q o c) e)
     ∙ fun_ext (λ j. spot_c (j / p) (eqb (j % p) (k % p)) o (a (j % p)) (b (j % p)) (c (j % p)) (d (j % p)) None
     ∙ ap (λ t. cond t o (join p a b c d j)) (at_place p j k 2 i))
 
-pub put_d : {V : Type 0} (p k r : ℕ) (o : Option V) (a b c d g : ℕ → Option V) → k / p ≡ 3 → r ≡ k % p → g ≡ updated r o d → join p a b c g ≡ updated k o (join p a b c d)
+pub put_d : {V : Type 0} (p k r : ℕ) (o : Option V) (a b c d g : ℕ → Option V) → k / p ≡ 3 → r ≡ k % p → g ≡ placed r o d → join p a b c g ≡ placed k o (join p a b c d)
 put_d p k r o a b c d g i e wrote =
-    ap (λ f. join p a b c f) (wrote ∙ ap (λ q. updated q o d) e)
+    ap (λ f. join p a b c f) (wrote ∙ ap (λ q. placed q o d) e)
     ∙ fun_ext (λ j. spot_d (j / p) (eqb (j % p) (k % p)) o (a (j % p)) (b (j % p)) (c (j % p)) (d (j % p)) None
     ∙ ap (λ t. cond t o (join p a b c d j)) (at_place p j k 3 i))
 

@@ -1,6 +1,6 @@
 //! The values of a leaf.
 ghost use Rattle.std.specs.Prelude.{◌≡◌, ◌<◌, ◌/◌, ◌%◌, cond, IfOk, OnOk, option_copied};
-ghost use Rattle.shared_map.specs.Lookup.{choice, four_at, row_at, nothing, updated};
+ghost use Rattle.shared_map.specs.Lookup.{choice, four_at, row_at, nothing, placed};
 
 use oz_base::Copies;
 use std::alloc::{AllocError, Global};
@@ -69,7 +69,7 @@ impl<V> Four<V> {
     fn swap(&mut self, key: u64, entry: &mut Option<V>)
         requires { key < 4 }
         ensures was { entry.new ≡ four_at self.old key }
-        ensures after { four_at self.new ≡ updated key entry.old (four_at self.old) }
+        ensures after { four_at self.new ≡ placed key entry.old (four_at self.old) }
     {
         match key {
             0 => mem::swap(&mut self.a, entry),
@@ -127,7 +127,7 @@ impl<V> Row<V> {
     pub fn swap(&mut self, key: u64, entry: &mut Option<V>)
         requires { key < 16 }
         ensures was { entry.new ≡ row_at self.old key }
-        ensures after { row_at self.new ≡ updated key entry.old (row_at self.old) }
+        ensures after { row_at self.new ≡ placed key entry.old (row_at self.old) }
     {
         let (index, rest) = place(key);
         match index {
