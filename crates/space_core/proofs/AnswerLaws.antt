@@ -7,9 +7,8 @@ use Rattle.oz_semantics.specs.Configurations.{is_of, in_layer, stack_of, frames_
 use Rattle.oz_semantics.specs.Exceptions.{unwound}
 use Rattle.oz_semantics.specs.declared.configuration.Frame.{Frame}
 use Rattle.oz_semantics.specs.declared.configuration.Layer.{Layer}
-use Rattle.space_core.specs.Levels.{IsUnwound}
 use Rattle.space_core.specs.Advances.{IsCaught}
-use Rattle.space_core.specs.Unwinding.{IsLevelUnwound, IsLevelCaught}
+use Rattle.space_core.specs.Unwinding.{IsLevelCaught}
 use Rattle.space_core.specs.Places.{IsFirst}
 use Rattle.space_core.specs.Shown.{shown_all, IsSound, IsQuiet}
 use Rattle.space_core.specs.declared.level.Level.{Level}
@@ -60,17 +59,6 @@ module _ (levels now : List Level) (value : List Layer) (seen : now ≡ levels) 
       ap (λ (ls : List Layer). stack_of ls id) (sym viewed)
       ∙ ap (λ (o : Option Layer). frames_in (thread_at (unwrap_or o (new_layer id.space)).threads id.number)) found_here.1.found
       ∙ ap (λ (k : Layer). frames_in (thread_at k.threads id.number)) (sym (read_shown levels id.space place found_here.0 found_here.1 l e))
-
-  pub unwind_sound : {E : Type 0} (r : Result Bool E) → IfOk r (IsLevelUnwound exception id.number l m) → OnErr r (m ≡ l) → IsSound (slice_set levels place m)
-  unwind_sound (Ok true) q f = quiet_sound levels now value seen viewed s id.space place h l m e (with_frames id.number (λ rest. q.0)) q.2
-  unwind_sound (Ok false) q f = subst IsSound (sym (unchanged levels place l m e q.1)) s
-  unwind_sound (Err b) q f = subst IsSound (sym (unchanged levels place l m e f)) s
-
-  pub unwind_shows : {E : Type 0} (r : Result Bool E) → IfOk r (IsLevelUnwound exception id.number l m) → IfOk r (IsUnwound exception id value (shown_all (slice_set levels place m)))
-  unwind_shows (Ok true) q =
-      (q.0, ap (unwound exception) stack_here ∙ q.1, quiet_shows levels now value seen viewed s id.space place h l m e (with_frames id.number (λ rest. q.0)) q.2)
-  unwind_shows (Ok false) q = (ap (unwound exception) stack_here ∙ q.0, ap shown_all (unchanged levels place l m e q.1) ∙ viewed)
-  unwind_shows (Err b) q = q
 
   pub caught_sound : {E : Type 0} (r : Result Bool E) → IfOk r (IsLevelCaught exception id.number l m) → OnErr r (m ≡ l) → IsSound (slice_set levels place m)
   caught_sound (Ok true) q f = quiet_sound levels now value seen viewed s id.space place h l m e (with_frames id.number (λ rest. q.0)) q.2

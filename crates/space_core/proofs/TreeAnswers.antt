@@ -20,7 +20,7 @@ use Rattle.view_laws.proofs.Members.{has-cases}
 use Rattle.view_laws.proofs.NameLaws.{below_itself, names_equal}
 use Rattle.view_laws.proofs.SightLaws.{space_of}
 use Rattle.oz_laws.proofs.SameLaws.{In, In-from_contains}
-use Rattle.space_core.specs.Ending.{IsAbove, IsFailure, IsChild, IsAdded}
+use Rattle.space_core.specs.Ending.{IsFailure, IsChild, IsAdded}
 use Rattle.space_core.specs.Levels.{IsToldTo}
 use Rattle.space_core.specs.Places.{IsFirst, IsAbsent}
 use Rattle.space_core.specs.Shown.{shown, shown_all, seen_above, is_home, IsSound, IsQuiet}
@@ -28,7 +28,7 @@ use Rattle.space_core.specs.Telling.{IsLevelTold, has_below}
 use Rattle.space_core.specs.declared.level.Level.{Level}
 use Rattle.space_core.proofs.AnswerLaws.{PlaceIn, unchanged, quiet_sound, quiet_shows}
 use Rattle.space_core.proofs.CreateLaws.{find_put, not_own_child, create_sound, create_shows}
-use Rattle.space_core.proofs.EndLaws.{is_left, left_sound, left_shown, left_above, none_left, above_sees, fail_edit}
+use Rattle.space_core.proofs.EndLaws.{is_left, left_sound, left_shown, left_above, none_left, fail_edit}
 use Rattle.space_core.proofs.MemberLaws.{insert_member, map_insert}
 use Rattle.space_core.proofs.SoundLaws.{Edited, read_shown, place_member, none_inconsistent}
 use Rattle.space_core.proofs.TellLaws.{tell_edit}
@@ -86,13 +86,6 @@ homes_by seen space ts home e = subst (λ (ls : List Level). home ≡ list_all (
 
 pub none_by : {now levels : List Level} → now ≡ levels → (space : List ℕ) → has_below (shown_all now) space ≡ false → has_below (shown_all levels) space ≡ false
 none_by seen space e = subst (λ (ls : List Level). has_below (shown_all ls) space ≡ false) seen e
-
-pub above_by : {now levels : List Level} → now ≡ levels → (space : List ℕ) (tells : List Tell) → IsAbove now space tells → IsAbove levels space tells
-above_by seen space tells a = subst (λ (ls : List Level). IsAbove ls space tells) seen a
-
--- and so what the space above sees
-pub above_is : {now levels : List Level} → now ≡ levels → IsSound levels → (space : List ℕ) (tells : List Tell) → IsAbove now space tells → (tells ≡ seen_above (shown_all levels) space) × (is_consistent tells ≡ true)
-above_is {levels = levels} seen s space tells a = above_sees levels s space tells (above_by seen space tells a)
 
 -- Ends
 

@@ -1,9 +1,7 @@
 -- What the calls on the layers of a configuration come to.
-use Rattle.std.specs.Prelude.{ℕ, ◌≡◌, Bool, true, false, List, ◌++◌, Option, Some, None, Contains, slice_get, drop}
-use Rattle.oz_base.specs.declared.names.Ident.{Ident}
+use Rattle.std.specs.Prelude.{ℕ, ◌≡◌, Bool, true, false, List, ◌++◌, Some, Contains, slice_get, drop}
 use Rattle.oz_semantics.specs.Store.{is_consistent}
-use Rattle.oz_semantics.specs.Configurations.{view, in_layer, telling, with_frames, stack_of}
-use Rattle.oz_semantics.specs.Exceptions.{unwound}
+use Rattle.oz_semantics.specs.Configurations.{view, in_layer, telling}
 use Rattle.oz_semantics.specs.Names.{is_properly_below}
 use Rattle.oz_semantics.specs.Settling.{inconsistent_spaces, without_inconsistent}
 use Rattle.oz_semantics.specs.declared.value.Tell.{Tell}
@@ -25,15 +23,6 @@ pub record ToldTo (space : List ℕ) (ts : List Tell) (old new : List Layer) : T
 abbrev pub IsToldTo : List ℕ → List Tell → List Layer → List Layer → Bool → Type 0
 IsToldTo space ts old new true = ToldTo space ts old new
 IsToldTo space ts old new false = (new ≡ old) × (is_consistent (view old space ++ ts) ≡ false)
-
--- the stack that an exception leaves took the place of the thread's; or the thread's has no mark
-abbrev pub caught_by : Option (List Frame) → Ident → List Layer → List Layer
-caught_by None id layers = layers
-caught_by (Some frames) id layers = in_layer id.space (with_frames id.number (λ rest. frames)) layers
-
-abbrev pub IsUnwound : Ident → Ident → List Layer → List Layer → Bool → Type 0
-IsUnwound x id old new true = (frames : List Frame) × (unwound x (stack_of old id) ≡ Some frames) × (new ≡ caught_by (Some frames) id old)
-IsUnwound x id old new false = (unwound x (stack_of old id) ≡ None) × (new ≡ old)
 
 -- other statements in the place of the one on top of a stack
 abbrev pub replacing : List Frame → List Frame → List Frame

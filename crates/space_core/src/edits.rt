@@ -1,18 +1,18 @@
 //! Edits of what is kept of one space, which tell nothing.
 ghost use Rattle.std.specs.Prelude.{◌≡◌, ◌++◌, ◌∷◌, [], ◌+◌, ◌≤◌, List, not, filter, drop, length, IfOk, OnOk, OnErr};
 ghost use Rattle.oz_base.specs.Lists.{first, is_empty};
-ghost use Rattle.oz_semantics.specs.Configurations.{thread_at, frames_in, in_thread, with_frames, without_terminated, spawning, giving_out, counting_procedure};
+ghost use Rattle.oz_semantics.specs.Configurations.{thread_at, frames_in, in_thread, with_frames, without_terminated, spawning, giving_out};
 ghost use Rattle.oz_semantics.specs.declared.configuration.Thread.{Thread};
 ghost use Rattle.space_core.specs.Levels.{replacing};
 ghost use Rattle.space_core.specs.Shown.{IsQuiet};
 ghost use Rattle.space_core.specs.Giving.{next_after, after_giving, declaring, spawning_by};
 ghost use Rattle.space_core.specs.Stacks.{IsLanding, cut_out};
-ghost use Rattle.space_core.specs.Unwinding.{IsThreadUnwound, IsLevelUnwound, IsLevelCaught};
+ghost use Rattle.space_core.specs.Unwinding.{IsLevelCaught};
 
 use crate::given::Given;
 use crate::level::Level;
 use crate::looking::thread_place;
-use crate::stacks::{Landing, nearest_mark, unwound};
+use crate::stacks::{Landing, nearest_mark};
 use oz_base::{Ident, Sequence, Stack};
 use oz_semantics::{Frame, Next, Thread};
 use std::alloc::{AllocError, Global};
@@ -183,15 +183,6 @@ pub fn give_out(level: &mut Level, count: u64) -> Result<(), AllocError>
     Ok(())
 }
 
-/// The space gives out a number for a procedure.
-pub fn count_procedure(level: &mut Level) -> Result<(), AllocError>
-    ensures ok { OnOk result (IsQuiet counting_procedure level.old level.new) }
-    ensures err { OnErr result (level.new ≡ level.old) }
-{
-    level.next.procedure = level.next.procedure.checked_add(1).ok_or(AllocError)?;
-    Ok(())
-}
-
 /// The statement on top of a thread's stack gives way to these, and the space gives out so many variables.
 pub fn declare(
     level: &mut Level,
@@ -301,36 +292,4 @@ pub fn unwind_from(
     push(level, number, frames.into_vec())?;
     cut(level, number, handler, count);
     Ok(true)
-}
-
-fn unwind_thread(
-    alloc: Global,
-    threads: &mut Sequence<Thread>,
-    number: u64,
-    exception: &Ident,
-) -> Result<bool, AllocError>
-    ensures unwound { IfOk result (IsThreadUnwound exception.now number threads.old threads.new) }
-    ensures err { OnErr result (threads.new ≡ threads.old) }
-{
-    let Some(place) = thread_place(threads, number) else {
-        return Ok(false);
-    };
-    let Some(left) = unwound(alloc, &threads.get(place).frames, exception)? else {
-        return Ok(false);
-    };
-    threads.get_mut(place).frames = left;
-    Ok(true)
-}
-
-/// An exception goes to the nearest mark of a thread's stack.
-pub fn unwind(
-    alloc: Global,
-    level: &mut Level,
-    number: u64,
-    exception: &Ident,
-) -> Result<bool, AllocError>
-    ensures unwound { IfOk result (IsLevelUnwound exception.now number level.old level.new) }
-    ensures err { OnErr result (level.new ≡ level.old) }
-{
-    unwind_thread(alloc, &mut level.threads, number, exception)
 }

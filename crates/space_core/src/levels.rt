@@ -1,14 +1,14 @@
 //! The layers.
-ghost use Rattle.std.specs.Prelude.{◌≡◌, ◌<◌, ◌∷◌, ◌++◌, [], true, length, drop, position, is_some, IfOk, OnOk, OnErr, option_copied};
+ghost use Rattle.std.specs.Prelude.{◌≡◌, ◌<◌, ◌∷◌, [], true, length, drop, position, is_some, IfOk, OnOk, OnErr, option_copied};
 ghost use Rattle.oz_base.specs.Lists.{first};
 ghost use Rattle.oz_semantics.specs.Names.{parent_of};
-ghost use Rattle.oz_semantics.specs.Configurations.{is_of, layer_at, layer_of, view, ancestor_variables, stack_of, new_layer, next_child, in_layer, with_frames, without_terminated, giving_out, counting_procedure, spawning, failed, raised_by, ending};
+ghost use Rattle.oz_semantics.specs.Configurations.{is_of, layer_at, layer_of, view, ancestor_variables, stack_of, new_layer, next_child, in_layer, with_frames, without_terminated, giving_out, spawning, failed, raised_by, ending};
 ghost use Rattle.oz_semantics.specs.Spaces.{alike_on, is_held};
 ghost use Rattle.oz_semantics.specs.Edits.{created};
 ghost use Rattle.oz_semantics.specs.Settling.{inconsistent_spaces};
 ghost use Rattle.oz_semantics.specs.Changes.{Pushes, Spawns, GivesOut, changed_all};
 ghost use Rattle.oz_semantics.specs.Steps.{without_top};
-ghost use Rattle.space_core.specs.Levels.{OfLayer, IsToldTo, IsUnwound, replacing};
+ghost use Rattle.space_core.specs.Levels.{OfLayer, IsToldTo, replacing};
 ghost use Rattle.space_core.specs.Telling.{has_below};
 ghost use Rattle.space_core.specs.Advances.{given_out, IsAdvanced, IsCaught, IsRaised};
 ghost use Rattle.space_core.specs.Shown.{seen_above};
@@ -160,17 +160,6 @@ impl Levels {
         edits::pop(&mut self.levels[place], id.number)
     }
 
-    /// Puts statements on top of a thread's stack, the first of them uppermost.
-    pub fn push(&mut self, id: &Ident, frames: Vec<Frame>) -> Result<(), AllocError>
-        ensures ok { OnOk result (self.new ≡ in_layer id.now.space (with_frames id.now.number (λ stack. frames.items ++ stack)) self.old) }
-        ensures err { OnErr result (self.new ≡ self.old) }
-    {
-        let Some(place) = level_place(self.levels.as_slice(), &id.space) else {
-            return Ok(());
-        };
-        edits::push(&mut self.levels[place], id.number, frames)
-    }
-
     /// Puts statements in the place of the one on top of a thread's stack.
     pub fn replace_top(&mut self, id: &Ident, frames: Vec<Frame>) -> Result<(), AllocError>
         ensures ok { OnOk result (self.new ≡ in_layer id.now.space (with_frames id.now.number (replacing frames.items)) self.old) }
@@ -225,17 +214,6 @@ impl Levels {
         edits::give_out(&mut self.levels[place], count)
     }
 
-    /// The space gives out a number for a procedure. It refuses where these would be more than 2^64 - 1.
-    pub fn count_procedure(&mut self, space: &SpaceName) -> Result<(), AllocError>
-        ensures ok { OnOk result (self.new ≡ in_layer space.now counting_procedure self.old) }
-        ensures err { OnErr result (self.new ≡ self.old) }
-    {
-        let Some(place) = level_place(self.levels.as_slice(), space) else {
-            return Ok(());
-        };
-        edits::count_procedure(&mut self.levels[place])
-    }
-
     /// Tells a space that is there, and fails each space below it that then sees what is inconsistent. False exactly where it is
     /// inconsistent with what the space sees: then nothing changes. It refuses for want of memory, and where other spaces are below
     /// the space: what these see is not made anew yet.
@@ -257,36 +235,6 @@ impl Levels {
         }
         let home = all_home(self.levels.as_slice(), space, tells);
         telling::tell(alloc, &mut self.levels[place], home, tells)
-    }
-
-    /// An exception goes to the nearest mark of a thread's stack. False exactly where there is none: then nothing changes.
-    pub fn unwind(
-        &mut self,
-        alloc: Global,
-        id: &Ident,
-        exception: &Ident,
-    ) -> Result<bool, AllocError>
-        ensures unwound { IfOk result (IsUnwound exception.now id.now self.old self.new) }
-        ensures err { OnErr result (self.new ≡ self.old) }
-    {
-        let Some(place) = level_place(self.levels.as_slice(), &id.space) else {
-            return Ok(false);
-        };
-        edits::unwind(alloc, &mut self.levels[place], id.number, exception)
-    }
-
-    /// A space fails, and all below it is gone.
-    pub fn fail(&mut self, alloc: Global, space: &SpaceName) -> Result<(), AllocError>
-        ensures ok { OnOk result (self.new ≡ ending space.now failed self.old) }
-        ensures err { OnErr result (self.new ≡ self.old) }
-    {
-        let store = store_above(alloc, self.levels.as_slice(), space)?;
-        drop_below(&mut self.levels, space);
-        let Some(place) = level_place(self.levels.as_slice(), space) else {
-            return Ok(());
-        };
-        tree::fail(alloc, &mut self.levels[place], store);
-        Ok(())
     }
 
     /// A space is ended by the exception that is the variable's term, and all below it is gone.

@@ -78,21 +78,3 @@ pub fn nearest_mark(
     }
     Ok(None)
 }
-
-/// The stack that an exception leaves of a stack, where that has a mark.
-pub fn unwound(
-    alloc: Global,
-    stack: &Stack<Frame>,
-    exception: &Ident,
-) -> Result<Option<Stack<Frame>>, AllocError>
-    ensures { IfOk result (λ left. left ≡ unwound exception.now stack.now) }
-{
-    let mut rest = stack.copied(alloc)?;
-    'marks: while let Some(frame) = rest.pop() {
-        if let Some(frames) = handler_of(alloc, &frame, exception)? {
-            rest.push_all(frames.into_vec())?;
-            return Ok(Some(rest));
-        }
-    }
-    Ok(None)
-}
