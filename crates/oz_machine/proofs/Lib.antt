@@ -1,10 +1,10 @@
 pub mod PlaceLaws
-pub mod SettleNeeds
 pub mod ActLaws
 pub mod TopLaws
 pub mod DoingLaws
 pub mod TurnLaws
 pub mod SearchLaws
 pub mod QuietLaws
+pub mod StepEdits
 pub mod RunLaws
 pub mod ToldLaws

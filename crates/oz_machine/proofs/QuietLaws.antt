@@ -268,14 +268,14 @@ unwound_turn statements id layers old new queue after shown frames cost head is 
 pub record MakesQuietly (id : Ident) (l : Layer) (act : Act) (old new : List Layer) : Type 0 where
   pub changes : List Change
   pub effect : act_effect l act ≡ Makes changes
-  pub made : new ≡ changed_all id changes old
+  pub made : new ≡ changed_all id changes (without_top id old)
   pub started : names_in id.space (news_of l changes) ≡ started_by id.space l act
 
 pub quiet_done : (id : Ident) (l : Layer) (act : Act) (old new : List Layer) → is_quiet act ≡ true → IsDone id (act_effect l act) old new true → MakesQuietly id l act old new
-quiet_done id l Passes old new e h = record { changes = []; effect = refl; made = h.0; started = refl }
-quiet_done id l (GoesOn frames) old new e h = record { changes = Pushes frames ∷ []; effect = refl; made = h.0; started = refl }
-quiet_done id l (Declares environment names body) old new e h = record { changes = declared_changes l environment names body; effect = refl; made = h.0; started = refl }
-quiet_done id l (Starts frames) old new e h = record { changes = Spawns frames ∷ []; effect = refl; made = h.0; started = refl }
+quiet_done id l Passes old new e h = record { changes = []; effect = refl; made = h; started = refl }
+quiet_done id l (GoesOn frames) old new e h = record { changes = Pushes frames ∷ []; effect = refl; made = h; started = refl }
+quiet_done id l (Declares environment names body) old new e h = record { changes = declared_changes l environment names body; effect = refl; made = h; started = refl }
+quiet_done id l (Starts frames) old new e h = record { changes = Spawns frames ∷ []; effect = refl; made = h; started = refl }
 quiet_done id l (GivesValue x v) old new e h = absurd (false≢true e)
 quiet_done id l (GivesTerm x t) old new e h = absurd (false≢true e)
 quiet_done id l (GivesVariable x y) old new e h = absurd (false≢true e)

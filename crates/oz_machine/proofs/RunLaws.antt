@@ -1,6 +1,6 @@
 -- Runs: each turn that makes a step costs 1 at least, and by it a run goes on, ends or is over.
 use Rattle.std.proofs.Common.{◌≡◌, ◌∙◌, ℕ, zero, suc, ◌-◌, ◌<◌, ◌≤◌, nat_le, Bool, true, false, if◌then◌else◌, List, [], ◌∷◌, Option, Some, None, refl, sym, subst, ap, arith}
-use Rattle.std.specs.Prelude.{Result, IfOk, IfSome}
+use Rattle.std.specs.Prelude.{Result, Ok, Err, IfOk, OnErr, IfSome}
 use Rattle.std.specs.declared.alloc.AllocError.{AllocError}
 use Rattle.std.proofs.lemmas.Bool.{leb-true, le-leb, lt-leb}
 use Rattle.oz_base.specs.declared.names.Ident.{Ident}
@@ -10,13 +10,13 @@ use Rattle.oz_semantics.specs.Settling.{Turned}
 use Rattle.oz_semantics.specs.Steps.{stepped}
 use Rattle.oz_semantics.specs.Schedule.{turn_of, turn}
 use Rattle.oz_semantics.specs.Runs as runs
-use Rattle.oz_semantics.specs.Runs.{Ended, TopRaised, Over, paying, after_turn, run_for, run}
+use Rattle.oz_semantics.specs.Runs.{Ended, TopRaised, Over, left_by, paying, after_turn, run_for, run}
 use Rattle.oz_semantics.specs.declared.configuration.Configuration.{Configuration}
 use Rattle.oz_semantics.specs.declared.outcome.Stepped.{Stepped}
 use Rattle.oz_semantics.specs.declared.outcome.Stepped.TheVariants.{Moved, Quiescent, TopEnded}
 use Rattle.settle_laws.proofs.TurnLaws.{cost_law}
 use Rattle.oz_machine.specs.Turns.{cost_of, CostsWithin, IsTurn}
-use Rattle.oz_machine.specs.Answers.{IsRun}
+use Rattle.oz_machine.specs.Answers.{IsRun, IsAfterTurns, after_turns}
 use Rattle.oz_machine.specs.declared.runs.Ran.{Ran}
 
 -- What a turn within a fuel was
@@ -130,3 +130,26 @@ module _ (k : Kernel) (space : List ℕ) where
   run_went left c d cost e t some within =
       sym (going left left c e ∙ ap (after_turn (run_for k space left) left c) t ∙ pays cost left (run_for k space left d) c within
       ∙ enough left (suc (left - cost)) d (left - cost) (omega (arith, within, some)) (omega arith))
+
+-- Where a run is refused
+
+pub on_err : {T E P : Type 0} (r : Result T E) → P → OnErr r P
+on_err (Ok a) h = tt
+on_err (Err e) h = h
+
+pub none_after : (k : Kernel) (c d : Configuration) → d ≡ c → IsAfterTurns k c d
+unfolding after_turns
+none_after k c d e = (0, e)
+
+pub same_after : (k : Kernel) (c d e : Configuration) → e ≡ d → IsAfterTurns k c d → IsAfterTurns k c e
+same_after k c d e f h = (h.0, f ∙ h.1)
+
+-- one turn more
+turns_more : (k : Kernel) (n : ℕ) (c : Configuration) → after_turns k (suc n) c ≡ left_by (turn k (after_turns k n c))
+unfolding after_turns
+turns_more k zero c = refl
+turns_more k (suc n) c = turns_more k n (left_by (turn k c))
+
+pub turn_after : (k : Kernel) (c d e : Configuration) (s : Stepped) → turn k d ≡ (s, e) → IsAfterTurns k c d → IsAfterTurns k c e
+turn_after k c d e s t h =
+    (suc h.0, sym (ap (λ (u : Turned). u.1) t) ∙ ap (λ (b : Configuration). left_by (turn k b)) h.1 ∙ sym (turns_more k h.0 c))

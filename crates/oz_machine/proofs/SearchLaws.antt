@@ -1,14 +1,20 @@
 -- What follows an edit by the search, and the opening.
-use Rattle.std.proofs.Common.{◌≡◌, ℕ, List, [], ap, sym, ◌∙◌, Result, Ok, Err, None}
-use Rattle.std.specs.Prelude.{OnOk}
+use Rattle.std.proofs.Common.{◌≡◌, ℕ, List, [], ap, subst, sym, ◌∙◌, None, Result, Ok, Err}
+use Rattle.std.specs.Prelude.{OnOk, OnErr}
 use Rattle.oz_base.specs.declared.names.Ident.{Ident}
 use Rattle.oz_language.specs.declared.kernel.Statement.{Statement}
 use Rattle.oz_language.specs.declared.kernel.Kernel.{Kernel}
 use Rattle.oz_semantics.specs.Settling.{inconsistent_spaces, runnable, queue_after}
 use Rattle.oz_semantics.specs.Runs.{opening}
-use Rattle.oz_semantics.specs.Search.{followed}
+use Rattle.oz_semantics.specs.Edits.{committed, created}
+use Rattle.oz_semantics.specs.Search.{followed, with_root, chosen_in}
 use Rattle.oz_semantics.specs.declared.configuration.Layer.{Layer}
 use Rattle.oz_semantics.specs.declared.configuration.Configuration.{Configuration}
+use Rattle.turn_laws.specs.Kept.{IsKept}
+use Rattle.oz_machine.specs.declared.course.Due.{Due}
+use Rattle.oz_machine.specs.declared.course.Due.TheVariants.{Nobody}
+use Rattle.oz_machine.specs.declared.course.Course.{Course}
+use Rattle.oz_machine.specs.Courses.{asked, config_of}
 use Rattle.settle_laws.specs.Turns.{opening_layers}
 use Rattle.settle_laws.proofs.SoundLaws.{followed_left, nothing_sound}
 use Rattle.settle_laws.proofs.TreeSteps.{opening_left}
@@ -21,21 +27,39 @@ made_same layers ls queue ids shown texts e f g =
     ap (λ (xs : List Layer). made xs queue shown) e ∙ ap (λ (xs : List Ident). made ls xs shown) f ∙ ap (made ls ids) g
 
 -- the edit left nothing inconsistent, and the queue follows
-pub follows_edit : {E : Type 0} (r : Result Unit E) (statements : List Statement) (old new : Configuration) → inconsistent_spaces old.layers ≡ [] → OnOk r (new.layers ≡ old.layers)
-    → OnOk r (new.queue ≡ queue_after (runnable statements old.layers) None old.queue) → OnOk r (new.shown ≡ old.shown) → OnOk r (new ≡ followed statements old old.layers)
-follows_edit (Ok a) statements old new sound layers queue shown =
-    made_same new.layers old.layers new.queue (queue_after (runnable statements old.layers) None old.queue) new.shown old.shown layers queue shown
-    ∙ sym (followed_left statements old old.layers (nothing_sound old.layers sound))
-follows_edit (Err e) statements old new sound layers queue shown = layers
+pub follows_edit : (statements : List Statement) (before layers : List Layer) (queue : List Ident) (shown : List (List ℕ)) (new : Configuration) → inconsistent_spaces layers ≡ []
+    → new ≡ made layers (queue_after (runnable statements layers) None queue) shown → new ≡ followed statements (made before queue shown) layers
+follows_edit statements before layers queue shown new sound e = e ∙ sym (followed_left statements (made before queue shown) layers (nothing_sound layers sound))
 
 -- the queue of the opening
-pub opens : (k : Kernel) (statements : List Statement) (layers : List Layer) (before : List Ident) (none : List (List ℕ)) (new : Configuration) → statements ≡ k.statements → layers ≡ opening_layers k → before ≡ [] → none ≡ []
-    → new.layers ≡ layers → new.queue ≡ queue_after (runnable statements layers) None before → new.shown ≡ none → new ≡ opening k
-opens k statements layers before none new same opened no_queue no_text kept queue shown =
-    let follows : new.queue ≡ queue_after (runnable k.statements (opening_layers k)) None [] =
-    queue
-    ∙ ap (λ (ss : List Statement). queue_after (runnable ss layers) None before) same
-    ∙ ap (λ (ls : List Layer). queue_after (runnable k.statements ls) None before) opened
+pub opens : (k : Kernel) (layers : List Layer) (before : List Ident) (none : List (List ℕ)) (new : Configuration) → layers ≡ opening_layers k → before ≡ [] → none ≡ []
+    → new ≡ made layers (queue_after (runnable k.statements layers) None before) none → new ≡ opening k
+opens k layers before none new opened no_queue no_text is =
+    let follows : queue_after (runnable k.statements layers) None before ≡ queue_after (runnable k.statements (opening_layers k)) None [] =
+    ap (λ (ls : List Layer). queue_after (runnable k.statements ls) None before) opened
     ∙ ap (queue_after (runnable k.statements (opening_layers k)) None) no_queue in
-    made_same new.layers (opening_layers k) new.queue (queue_after (runnable k.statements (opening_layers k)) None []) new.shown [] (kept ∙ opened) follows (shown ∙ no_text)
+    is
+    ∙ made_same layers (opening_layers k) (queue_after (runnable k.statements layers) None before) (queue_after (runnable k.statements (opening_layers k)) None []) none [] opened follows no_text
     ∙ sym (opening_left k)
+
+-- where nobody is due, the queue is as it is
+pub settled_seen : (statements : List Statement) (c : Course) → c.due ≡ Nobody → config_of statements c ≡ made c.levels c.queue c.shown
+settled_seen statements c nobody = ap (λ (d : Due). made c.levels (asked statements c.levels d c.queue) c.shown) nobody
+
+-- the edits, after those who were due were asked
+pub chosen_by : (statements : List Statement) (space : List ℕ) (i : ℕ) (old settled : Course) (left : List Layer) (new : Configuration) → config_of statements settled ≡ config_of statements old → settled.due ≡ Nobody
+    → left ≡ committed statements space i settled.levels → new ≡ followed statements (made settled.levels settled.queue settled.shown) left → new ≡ chosen_in statements space i (config_of statements old)
+chosen_by statements space i old settled left new same nobody edit follows =
+    follows ∙ ap (followed statements (made settled.levels settled.queue settled.shown)) edit
+    ∙ ap (chosen_in statements space i) (sym (settled_seen statements settled nobody) ∙ same)
+
+pub root_by : (statements : List Statement) (procedure : Ident) (top : List ℕ) (old settled : Course) (left : List Layer) (new : Configuration) → config_of statements settled ≡ config_of statements old → settled.due ≡ Nobody → top ≡ []
+    → left ≡ created top procedure settled.levels → new ≡ followed statements (made settled.levels settled.queue settled.shown) left → new ≡ with_root statements procedure (config_of statements old)
+root_by statements procedure top old settled left new same nobody is edit follows =
+    follows ∙ ap (followed statements (made settled.levels settled.queue settled.shown)) (edit ∙ ap (λ (s : List ℕ). created s procedure settled.levels) is)
+    ∙ ap (with_root statements procedure) (sym (settled_seen statements settled nobody) ∙ same)
+
+-- What is kept by an edit that was made, or refused
+pub kept_by : {T E : Type 0} (r : Result T E) (statements : List Statement) (old new made : Configuration) → OnOk r (new ≡ made) → OnErr r (new ≡ old) → IsKept statements old → IsKept statements made → IsKept statements new
+kept_by (Ok a) statements old new made h g before after = subst (IsKept statements) (sym h) after
+kept_by (Err e) statements old new made h g before after = subst (IsKept statements) (sym g) before

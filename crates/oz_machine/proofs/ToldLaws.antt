@@ -79,11 +79,12 @@ pub done_below : (id : Ident) (ts : List Tell) (changes : List Change) (layers :
 done_below id ts changes layers e =
     changes_below id.space id changes (in_layer id.space (telling ts) layers) ∙ same_below id.space id.space (telling ts) layers (λ l. refl) ∙ e
 
--- so it was before a statement was taken off a stack
-pub alone_before : (id : Ident) (layers : List Layer) → has_below (without_top id layers) id.space ≡ false → IsAlone layers id.space
-alone_before id layers e l h =
-    none_passes (λ (m : Layer). is_properly_below id.space m.space) layers l
-    (sym (same_below id.space id.space (with_frames id.number (λ (frames : List Frame). drop 1 frames)) layers (λ m. refl)) ∙ e) (In-from_contains layers l h)
+-- nor where a statement was taken off a stack
+pub pop_below : (id : Ident) (layers : List Layer) → has_below (without_top id layers) id.space ≡ has_below layers id.space
+pop_below id layers = same_below id.space id.space (with_frames id.number (λ (frames : List Frame). drop 1 frames)) layers (λ m. refl)
+
+pub alone_there : (id : Ident) (layers : List Layer) → has_below layers id.space ≡ false → IsAlone layers id.space
+alone_there id layers e l h = none_passes (λ (m : Layer). is_properly_below id.space m.space) layers l e (In-from_contains layers l h)
 
 -- then nothing fails
 pub none_fails : (space : List ℕ) (before after : List Layer) → Settles space before after → has_below before space ≡ false → after ≡ before
@@ -196,7 +197,7 @@ pub record MakesTold (id : Ident) (l : Layer) (act : Act) (old new : List Layer)
   pub changes : List Change
   pub effect : act_effect l act ≡ Tells tells changes
   pub fits : is_consistent (view old id.space ++ tells) ≡ true
-  pub settles : Settles id.space (done id tells changes old) new
+  pub settles : Settles id.space (done id tells changes (without_top id old)) new
 
 pub told_done : (id : Ident) (l : Layer) (act : Act) (old new : List Layer) → is_quiet act ≡ false → IsDone id (act_effect l act) old new true → MakesTold id l act old new
 told_done id l Passes old new e h = absurd (false≢true (sym e))

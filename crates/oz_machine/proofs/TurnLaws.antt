@@ -1,9 +1,10 @@
 -- What a thread answers, and turns within a fuel.
-use Rattle.std.proofs.Common.{◌≡◌, ◌<◌, ℕ, List, [], ◌∷◌, Option, Some, None, refl, sym, subst}
-use Rattle.std.specs.Prelude.{Result, Ok, Err, IfOk, OnOk}
+use Rattle.std.proofs.Common.{◌≡◌, ◌∙◌, ◌<◌, ◌≤◌, ℕ, Bool, true, List, [], ◌∷◌, drop, Option, Some, None, refl, sym, ap, subst, arith}
+use Rattle.std.specs.Prelude.{Result, Ok, Err, IfOk, if◌then◌else◌, unwrap_or}
 use Rattle.std.specs.declared.alloc.AllocError.{AllocError}
 use Rattle.oz_base.specs.Lists.{first}
-use Rattle.oz_semantics.specs.Sights.{Sight, Readiness}
+use Rattle.oz_semantics.specs.Sights.{Sight, Readiness, can_step}
+use Rattle.oz_semantics.specs.Readiness.{answer_ready}
 use Rattle.oz_semantics.specs.Answers as answers
 use Rattle.oz_semantics.specs.Statements.{code_answer, stack_answer}
 use Rattle.oz_semantics.specs.Settling.{Turned}
@@ -12,7 +13,24 @@ use Rattle.oz_semantics.specs.declared.configuration.Configuration.{Configuratio
 use Rattle.oz_semantics.specs.declared.outcome.Stepped.{Stepped}
 use Rattle.builtins.specs.Answers.{IsAnswer}
 use Rattle.builtins.specs.declared.answer.Answer.{Answer}
+use Rattle.builtins.specs.declared.answer.Answer.TheVariants.{Acts, RaisesKind, RaisesTerm, Rests}
+use Rattle.oz_base.specs.declared.names.Ident.{Ident}
+use Rattle.oz_language.specs.declared.kernel.Kernel.{Kernel}
+use Rattle.oz_language.specs.declared.kernel.Statement.{Statement}
+use Rattle.oz_semantics.specs.Schedule.{turn_of, turn}
+use Rattle.oz_semantics.specs.Steps.{stepped}
+use Rattle.oz_semantics.specs.declared.outcome.Stepped.TheVariants.{Quiescent}
+use Rattle.settle_laws.proofs.TurnLaws.{cost_law}
+use Rattle.oz_machine.specs.declared.course.Due.{Due}
+use Rattle.oz_machine.specs.declared.course.Due.TheVariants.{Nobody}
+use Rattle.oz_machine.specs.declared.course.Course.{Course}
+use Rattle.oz_machine.specs.Courses.{asked, config_of, stepping}
+use Rattle.oz_semantics.specs.Configurations.{frames_in, layer_at, new_layer, stack_of, thread_at}
+use Rattle.oz_semantics.specs.Spaces.{sight}
+use Rattle.oz_semantics.specs.declared.configuration.Layer.{Layer}
+use Rattle.oz_machine.specs.Quiet.{able_in, IsHeadAnswer}
 use Rattle.oz_machine.specs.Turns.{cost_of, IsTurn}
+use Rattle.oz_machine.proofs.DoingLaws.{headed}
 
 -- a thread without statements rests
 pub empty_rests : (s : Sight) (frames : List Frame) → None ≡ first frames → (r : Readiness) × (stack_answer s frames ≡ answers.Rests r)
@@ -28,8 +46,54 @@ pub ok_answer : (r : Result Answer AllocError) (a b : answers.Answer) → a ≡ 
 ok_answer (Ok answer) a b e h = subst (λ (x : answers.Answer). IsAnswer x answer) (sym e) h
 ok_answer (Err fault) a b e h = h
 
--- a turn that was not made
-pub back_turn : (r : Result (Option Stepped) AllocError) (t : Turned) (fuel : ℕ) (old new : Configuration) → IfOk r (λ stepped. stepped ≡ None) → OnOk r (new ≡ old) → fuel < cost_of t.0
-    → IfOk r (IsTurn t fuel old new)
-back_turn (Ok stepped) t fuel old new none back less = subst (IsTurn t fuel old new) (sym none) (less, back)
-back_turn (Err fault) t fuel old new none back less = none
+-- The head of the queue, where nobody is due
+
+pub queue_is : (statements : List Statement) (now : Course) (id : Ident) → now.due ≡ Nobody → first now.queue ≡ Some id → asked statements now.levels now.due now.queue ≡ id ∷ drop 1 now.queue
+queue_is statements now id nobody head = ap (λ (d : Due). asked statements now.levels d now.queue) nobody ∙ headed now.queue id head
+
+pub turn_is : (k : Kernel) (now : Course) (id : Ident) → now.due ≡ Nobody → first now.queue ≡ Some id → turn k (config_of k.statements now) ≡ stepped k id (stepping now)
+turn_is k now id nobody head = ap (turn_of k (config_of k.statements now)) (queue_is k.statements now id nobody head)
+
+pub turn_none : (k : Kernel) (now : Course) → now.due ≡ Nobody → first now.queue ≡ None → ◌≡◌ {A = Turned} (turn k (config_of k.statements now)) (Quiescent, config_of k.statements now)
+turn_none k now nobody none = ap (turn_of k (config_of k.statements now)) (ap (λ (d : Due). asked k.statements now.levels d now.queue) nobody ∙ empty now.queue none)
+  where
+    empty : (queue : List Ident) → first queue ≡ None → queue ≡ []
+    empty [] e = refl
+    empty (x ∷ xs) e = absurd (cc)
+
+pub dear_turn : (k : Kernel) (now : Course) (id : Ident) (fuel : ℕ) → now.due ≡ Nobody → first now.queue ≡ Some id → fuel ≡ 0 → fuel < cost_of (turn k (config_of k.statements now)).0
+dear_turn k now id fuel nobody head zero =
+    let costs : 1 ≤ cost_of (stepped k id (stepping now)).0 = cost_law k id (stepping now) in
+    let dear : 1 ≤ cost_of (turn k (config_of k.statements now)).0 = subst (λ (t : Turned). 1 ≤ cost_of t.0) (sym (turn_is k now id nobody head)) costs in
+    omega (arith, dear, zero)
+
+-- by a course that is the same
+pub ok_turned : (r : Result (Option Stepped) AllocError) (t u : Turned) (fuel : ℕ) (old new : Configuration) → t ≡ u → IfOk r (IsTurn u fuel old new) → IfOk r (IsTurn t fuel old new)
+ok_turned r t u fuel old new e h = subst (λ (x : Turned). IfOk r (IsTurn x fuel old new)) (sym e) h
+
+-- What a made answer tells
+
+-- whether a thread can step
+pub answer_steps : (a : answers.Answer) (answer : Answer) → IsAnswer a answer → (answer ≡ Rests → ⊥) → can_step (answer_ready a) ≡ true
+answer_steps a (Acts what) h other = ap (λ (b : answers.Answer). can_step (answer_ready b)) h
+answer_steps a (RaisesKind kind) h other = ap (λ (b : answers.Answer). can_step (answer_ready b)) h
+answer_steps a (RaisesTerm x) h other = ap (λ (b : answers.Answer). can_step (answer_ready b)) h
+answer_steps a Rests h other = absurd (other refl)
+
+-- a thread of a space that is not there rests
+pub nowhere_answers : (statements : List Statement) (layers : List Layer) (id : Ident) → layer_at layers id.space ≡ None
+    → (r : Readiness) × (stack_answer (sight statements layers id.space) (stack_of layers id) ≡ answers.Rests r)
+nowhere_answers statements layers id e =
+    (_, ap (λ (o : Option Layer). stack_answer (sight statements layers id.space) (frames_in (thread_at (unwrap_or o (new_layer id.space)).threads id.number))) e)
+
+-- the answer of the one thread in a queue is that of its head
+pub alone_answer : (statements : List Statement) (layers : List Layer) (queue : List Ident) (id : Ident) (answer : Answer) → queue ≡ id ∷ []
+    → IsAnswer (stack_answer (sight statements layers id.space) (stack_of layers id)) answer → IsHeadAnswer statements layers queue (Some answer)
+alone_answer statements layers queue id answer e h other head =
+    let same : id ≡ other = (let said : Some id ≡ Some other = sym (ap first e) ∙ head in cc) in
+    subst (λ (i : Ident). IsAnswer (stack_answer (sight statements layers i.space) (stack_of layers i)) answer) same h
+
+-- which joins
+pub alone_joins : (statements : List Statement) (layers : List Layer) (id : Ident) (answer : Answer) → IsAnswer (stack_answer (sight statements layers id.space) (stack_of layers id)) answer → (answer ≡ Rests → ⊥)
+    → id ∷ [] ≡ able_in statements layers id
+alone_joins statements layers id answer h other = sym (ap (λ (b : Bool). if b then id ∷ [] else []) (answer_steps (stack_answer (sight statements layers id.space) (stack_of layers id)) answer h other))

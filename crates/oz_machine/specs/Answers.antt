@@ -1,7 +1,11 @@
 -- What the calls of a machine answer.
-use Rattle.std.specs.Prelude.{ℕ, ◌≡◌, ◌<◌, ◌≤◌, ◌-◌, true, false, List, Option, Some, None}
+use Rattle.std.specs.Prelude.{ℕ, zero, suc, ◌≡◌, ◌<◌, ◌≤◌, ◌-◌, true, false, List, Option, Some, None}
 use Rattle.oz_base.specs.declared.names.Ident.{Ident}
+use Rattle.oz_language.specs.declared.kernel.Kernel.{Kernel}
+use Rattle.oz_semantics.specs.Schedule.{turn}
 use Rattle.oz_semantics.specs.Runs as runs
+use Rattle.oz_semantics.specs.Runs.{left_by}
+use Rattle.oz_semantics.specs.declared.configuration.Configuration.{Configuration}
 use Rattle.oz_semantics.specs.Spaces.{state}
 use Rattle.oz_semantics.specs.Search.{has_script, script_variable}
 use Rattle.oz_semantics.specs.Texts.{Printed}
@@ -9,6 +13,15 @@ use Rattle.oz_machine.specs.Courses.{Loaded}
 use Rattle.oz_machine.specs.declared.runs.Ran.{Ran}
 use Rattle.oz_machine.specs.declared.runs.Ran.TheVariants.{Ended, TopEnded, OutOfFuel}
 use Rattle.oz_machine.specs.declared.texts.Text.{Text}
+
+-- what so many turns leave
+unfoldable pub after_turns : Kernel → ℕ → Configuration → Configuration
+after_turns k zero c = c
+after_turns k (suc n) c = after_turns k n (left_by (turn k c))
+
+-- some number of turns leads from one configuration to the other
+abbrev pub IsAfterTurns : Kernel → Configuration → Configuration → Type 0
+IsAfterTurns k old new = (n : ℕ) × (new ≡ after_turns k n old)
 
 -- how a run of a space with this fuel ended, by its answer and what the machine is then
 abbrev pub IsRun : Loaded → List ℕ → ℕ → runs.Ran → Ran → Type 0

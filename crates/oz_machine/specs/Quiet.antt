@@ -1,5 +1,6 @@
 -- Steps that told nothing, and the queue after them.
-use Rattle.std.specs.Prelude.{ℕ, ◌≡◌, Bool, true, if◌then◌else◌, List, [], ◌∷◌, Option, Some, None, map}
+use Rattle.std.specs.Prelude.{ℕ, ◌≡◌, Bool, true, if◌then◌else◌, List, [], ◌∷◌, Option, Some, None, map, drop}
+use Rattle.oz_base.specs.Lists.{first}
 use Rattle.oz_base.specs.declared.names.Ident.{Ident}
 use Rattle.oz_language.specs.declared.kernel.Statement.{Statement}
 use Rattle.oz_semantics.specs.Names.{named}
@@ -12,6 +13,8 @@ use Rattle.oz_semantics.specs.Changes.{Change}
 use Rattle.oz_semantics.specs.Steps.{without_top}
 use Rattle.oz_semantics.specs.declared.configuration.Thread.{Thread}
 use Rattle.oz_semantics.specs.declared.configuration.Layer.{Layer}
+use Rattle.builtins.specs.Answers.{IsAnswer}
+use Rattle.builtins.specs.declared.answer.Answer.{Answer}
 use Rattle.view_laws.specs.Steps.{spawned_from}
 use Rattle.turn_laws.specs.Kept.{IsKept}
 use Rattle.oz_machine.specs.declared.course.Course.{Course}
@@ -33,9 +36,15 @@ able_of statements layers (Some id) = able_in statements layers id
 abbrev pub IsHead : List Statement → Ident → List Layer → List Ident → List (List ℕ) → Type 0
 IsHead statements id layers queue shown = IsKept statements (record { layers = layers; queue = id ∷ queue; shown = shown })
 
--- and then its statement was taken off its stack, where this was known
-abbrev pub IsPopped : List Statement → Ident → Bool → List Layer → Course → Type 0
-IsPopped statements id kept layers c = kept ≡ true → (c.levels ≡ without_top id layers) × IsHead statements id layers c.queue c.shown
+-- the thread that steps is the head of the queue, where this is known
+abbrev pub KeepsHead : List Statement → Ident → Bool → Course → Type 0
+KeepsHead statements id kept c = kept ≡ true → IsHead statements id c.levels (drop 1 c.queue) c.shown
+
+-- an answer that was made already is that of the thread at the head
+abbrev pub IsHeadAnswer : List Statement → List Layer → List Ident → Option Answer → Type 0
+IsHeadAnswer statements layers queue None = Unit {0}
+IsHeadAnswer statements layers queue (Some answer) =
+    (id : Ident) → first queue ≡ Some id → IsAnswer (stack_answer (sight statements layers id.space) (stack_of layers id)) answer
 
 -- the threads that changes start in a space with this layer
 abbrev pub news_of : Layer → List Change → List Thread

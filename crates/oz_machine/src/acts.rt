@@ -1,14 +1,13 @@
 //! What a statement's act does to the layers.
-ghost use Rattle.std.specs.Prelude.{◌≡◌, ◌+◌, ◌∷◌, [], true, is_some, length, map, option_to_list, IfOk, OnOk};
+ghost use Rattle.std.specs.Prelude.{◌≡◌, ◌+◌, true, is_some, length, map, option_to_list, IfOk, OnOk, OnErr};
 ghost use Rattle.std.specs.List.{range_with_len};
 ghost use Rattle.environments.specs.Environments.{Environment, binding_all};
 ghost use Rattle.oz_semantics.specs.Names.{named};
 ghost use Rattle.oz_semantics.specs.Terms.{list_term, term_tells};
 ghost use Rattle.oz_semantics.specs.Configurations.{layer_of, layer_at};
-ghost use Rattle.oz_semantics.specs.Effects.{act_effect, Makes, Tells};
-ghost use Rattle.oz_semantics.specs.Changes.{Change, Pushes, Spawns, GivesOut, CountsProcedure};
+ghost use Rattle.oz_semantics.specs.Effects.{act_effect};
+ghost use Rattle.oz_semantics.specs.Steps.{without_top};
 ghost use Rattle.oz_semantics.specs.Answers as answers;
-ghost use Rattle.oz_semantics.specs.declared.value.Tell.TheVariants.{Equal, Is};
 ghost use Rattle.builtins.specs.Answers.{act_of};
 ghost use Rattle.oz_machine.specs.Doings.{IsDone, is_quiet, started_by};
 
@@ -18,7 +17,7 @@ use oz_base::{Copies, Ident, Sequence, Shared, SpaceName};
 use oz_language::{Constant, Identifier};
 use oz_raise::{list_term, term_tells};
 use oz_semantics::{Next, Procedure, Tell, Value};
-use space_core::Levels;
+use space_core::{Given, Levels};
 use statements::frames_of;
 use std::alloc::{AllocError, Global};
 
@@ -77,48 +76,13 @@ fn declare(
     names: &[Identifier],
     body: &[u32],
 ) -> Result<(), AllocError>
-    ensures { IfOk result (λ done. IsDone id.now (act_effect (layer_of levels.old id.now.space) (answers.Declares environment names.now body.now)) levels.old levels.new true) }
+    ensures ok { IfOk result (λ done. IsDone id.now (act_effect (layer_of levels.old id.now.space) (answers.Declares environment names.now body.now)) levels.old levels.new true) }
+    ensures err { OnErr result (levels.new ≡ levels.old) }
 {
     let next = next_of(levels, &id.space);
     bind_from(alloc, &mut environment, names, &id.space, next.variable)?;
     let frames = frames_of(alloc, &environment, body)?;
-    levels.consistent();
-    levels.push(id, frames)?;
-    levels.give_out(&id.space, names.len() as u64)?;
-    Ok(())
-}
-
-/// A new thread.
-fn start(
-    levels: &mut Levels,
-    id: &Ident,
-    frames: Vec<oz_semantics::Frame>,
-) -> Result<(), AllocError>
-    ensures { IfOk result (λ done. IsDone id.now (Makes (Spawns frames.items ∷ [])) levels.old levels.new true) }
-{
-    levels.consistent();
-    levels.spawn(&id.space, frames)?;
-    Ok(())
-}
-
-fn go_on_with(
-    levels: &mut Levels,
-    id: &Ident,
-    frames: Vec<oz_semantics::Frame>,
-) -> Result<(), AllocError>
-    ensures { IfOk result (λ done. IsDone id.now (Makes (Pushes frames.items ∷ [])) levels.old levels.new true) }
-{
-    levels.consistent();
-    levels.push(id, frames)?;
-    Ok(())
-}
-
-/// The space is told one thing.
-fn tell(alloc: Global, levels: &mut Levels, id: &Ident, tell: Tell) -> Result<bool, AllocError>
-    requires { is_some (layer_at levels.old id.now.space) ≡ true }
-    ensures { IfOk result (IsDone id.now (Tells (tell ∷ []) []) levels.old levels.new) }
-{
-    levels.tell(alloc, &id.space, &[tell])
+    levels.declare(id, frames, names.len() as u64)
 }
 
 /// The variable is the list of these.
@@ -130,16 +94,14 @@ fn give_list(
     items: &[Constant],
 ) -> Result<bool, AllocError>
     requires { is_some (layer_at levels.old id.now.space) ≡ true }
-    ensures { IfOk result (IsDone id.now (act_effect (layer_of levels.old id.now.space) (answers.GivesTerm variable.now (list_term items.now))) levels.old levels.new) }
+    ensures ok { IfOk result (IsDone id.now (act_effect (layer_of levels.old id.now.space) (answers.GivesTerm variable.now (list_term items.now))) levels.old levels.new) }
+    ensures err { OnErr result (levels.new ≡ levels.old) }
 {
     let next = next_of(levels, &id.space);
     let nodes = list_term(alloc, items)?;
     let tells = term_tells(alloc, &id.space, next.variable, variable, &nodes)?;
-    if !levels.tell(alloc, &id.space, &tells)? {
-        return Ok(false);
-    }
-    levels.give_out(&id.space, nodes.len().saturating_sub(1) as u64)?;
-    Ok(true)
+    let count = nodes.len().saturating_sub(1) as u64;
+    levels.tell_by(alloc, id, &tells, Given::Variables(count))
 }
 
 /// The variable is a new procedure.
@@ -153,7 +115,8 @@ fn make_procedure(
     environment: Environment,
 ) -> Result<bool, AllocError>
     requires { is_some (layer_at levels.old id.now.space) ≡ true }
-    ensures { IfOk result (IsDone id.now (act_effect (layer_of levels.old id.now.space) (answers.MakesProcedure variable parameters body environment)) levels.old levels.new) }
+    ensures ok { IfOk result (IsDone id.now (act_effect (layer_of levels.old id.now.space) (answers.MakesProcedure variable parameters body environment)) levels.old levels.new) }
+    ensures err { OnErr result (levels.new ≡ levels.old) }
 {
     let next = next_of(levels, &id.space);
     let procedure = Procedure {
@@ -166,12 +129,14 @@ fn make_procedure(
         environment,
     };
     let value = Value::Procedure(Shared::new(alloc, procedure)?);
-    let tells = [Tell::Is { variable, value }];
-    if !levels.tell(alloc, &id.space, &tells)? {
-        return Ok(false);
-    }
-    levels.count_procedure(&id.space)?;
-    Ok(true)
+    levels.tell_by(alloc, id, &[Tell::Is { variable, value }], Given::Procedure)
+}
+
+/// Takes the statement off the top of a thread's stack, and lets go of it.
+pub fn take_off(levels: &mut Levels, id: &Ident)
+    ensures { levels.new ≡ without_top id.now levels.old }
+{
+    let _frame = levels.pop(id);
 }
 
 /// Whether an act tells its space nothing, and shows nothing.
@@ -213,18 +178,20 @@ pub fn started(
     }
 }
 
-/// Does what an act says that shows nothing. False exactly where what is told clashes: then nothing was done.
+/// Takes the statement off a thread's stack and does what an act says that shows nothing. False exactly where what is told clashes:
+/// then nothing was done.
 pub fn act(alloc: Global, levels: &mut Levels, id: &Ident, act: Act) -> Result<bool, AllocError>
     requires { is_some (layer_at levels.old id.now.space) ≡ true }
-    ensures { IfOk result (IsDone id.now (act_effect (layer_of levels.old id.now.space) (act_of act)) levels.old levels.new) }
+    ensures ok { IfOk result (IsDone id.now (act_effect (layer_of levels.old id.now.space) (act_of act)) levels.old levels.new) }
+    ensures err { OnErr result (levels.new ≡ levels.old) }
 {
     match act {
         Act::Passes => {
-            levels.consistent();
+            take_off(levels, id);
             Ok(true)
         }
         Act::GoesOn(frames) => {
-            go_on_with(levels, id, frames.into_vec())?;
+            levels.go_on(id, frames.into_vec())?;
             Ok(true)
         }
         Act::Declares {
@@ -243,15 +210,13 @@ pub fn act(alloc: Global, levels: &mut Levels, id: &Ident, act: Act) -> Result<b
             Ok(true)
         }
         Act::Starts(frames) => {
-            start(levels, id, frames.into_vec())?;
+            levels.start(id, frames.into_vec())?;
             Ok(true)
         }
-        Act::GivesValue { variable, value } => tell(
-            alloc,
-            levels,
-            id,
-            Tell::Is { variable, value },
-        ),
+        Act::GivesValue { variable, value } => {
+            let tell = Tell::Is { variable, value };
+            levels.tell_by(alloc, id, &[tell], Given::Nothing)
+        }
         Act::GivesList { variable, items } => {
             give_list(alloc, levels, id, &variable, items.as_slice())
         }
@@ -260,7 +225,7 @@ pub fn act(alloc: Global, levels: &mut Levels, id: &Ident, act: Act) -> Result<b
                 left: variable,
                 right: other,
             };
-            tell(alloc, levels, id, equation)
+            levels.tell_by(alloc, id, &[equation], Given::Nothing)
         }
         Act::MakesProcedure {
             variable,

@@ -4,6 +4,7 @@
 
 mod acts;
 mod course;
+mod following;
 mod machine;
 mod opening;
 mod quiet;

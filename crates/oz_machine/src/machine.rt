@@ -1,12 +1,12 @@
 //! The machine: a loaded program, shared by all copies, and what it is in the course of its run.
-ghost use Rattle.std.specs.Prelude.{◌≡◌, [], IfOk, IfSome, OnOk};
+ghost use Rattle.std.specs.Prelude.{◌≡◌, [], IfOk, IfSome, OnOk, OnErr};
 ghost use Rattle.oz_semantics.specs.Configurations.{view};
 ghost use Rattle.oz_semantics.specs.Texts.{term_text};
 ghost use Rattle.oz_semantics.specs.Schedule.{turn};
 ghost use Rattle.oz_semantics.specs.Runs.{opening, run};
 ghost use Rattle.oz_semantics.specs.Search.{with_root, search_space, chosen_in, state_text};
 ghost use Rattle.oz_machine.specs.Turns.{CostsWithin, IsTurn};
-ghost use Rattle.oz_machine.specs.Answers.{IsRun, IsScript, PrintsWithin};
+ghost use Rattle.oz_machine.specs.Answers.{IsAfterTurns, IsRun, IsScript, PrintsWithin};
 
 use crate::course::Course;
 use crate::opening::opening;
@@ -21,14 +21,13 @@ use oz_semantics::{State, Stepped};
 use shared_list::SharedList;
 use std::alloc::{AllocError, Global};
 use std::marker::Model;
-use std::mem;
 
 /// A loaded program and what it is in the course of its run. Contracts see the kernel and the configuration.
 #[derive(Drop)]
 pub struct Machine {
     kernel: Shared<Kernel>,
     course: Course,
-    /// Whether all is known to hold that holds from turn to turn. It is not once the top has ended, and after a refusal.
+    /// Whether all is known to hold that holds from turn to turn. It is not once the top has ended.
     kept: bool,
 }
 
@@ -41,7 +40,7 @@ impl Model for Machine {
 
     ghost coded = { Prim.hlevel (codes, environment.the_row.coded) };
 
-    ghost view = { λ m. record { kernel = m.kernel; config = config_of m.course } };
+    ghost view = { λ m. record { kernel = m.kernel; config = config_of m.kernel.statements m.course } };
 
     ghost invariant = { λ m. Keeps m.kernel.statements m.kept m.course };
 }
@@ -71,11 +70,13 @@ impl Machine {
         })
     }
 
-    /// One turn. None exactly where it costs more than the fuel: it is not made, and nothing changes.
+    /// One turn. None exactly where it costs more than the fuel: it is not made, and nothing changes. Nor does anything change where it
+    /// is refused.
     pub fn step(&mut self, alloc: Global, fuel: u64) -> Result<Option<Stepped>, AllocError>
         ensures turn { IfOk result (IsTurn (turn self.old.kernel self.old.config) fuel self.old.config self.new.config) }
         ensures cost { IfOk result (λ turned. IfSome turned (CostsWithin fuel)) }
         ensures kernel { OnOk result (self.new.kernel ≡ self.old.kernel) }
+        ensures err { OnErr result (self.new ≡ self.old) }
     {
         let Machine {
             kernel,
@@ -86,10 +87,11 @@ impl Machine {
     }
 
     /// Turns while something of the space or below it can step, for no more than the fuel. A text that is shown costs a step for
-    /// each of its nodes besides.
+    /// each of its nodes besides. Where it is refused, the machine stands after the last turn that was made.
     pub fn run(&mut self, alloc: Global, space: &SpaceName, fuel: u64) -> Result<Ran, AllocError>
         ensures run { IfOk result (IsRun self.new space.now fuel (run self.old.kernel space.now self.old.config fuel)) }
         ensures kernel { OnOk result (self.new.kernel ≡ self.old.kernel) }
+        ensures err { OnErr result ((self.new.kernel ≡ self.old.kernel) × IsAfterTurns self.old.kernel self.old.config self.new.config) }
     {
         let Machine {
             kernel,
@@ -134,41 +136,28 @@ impl Machine {
         variable_text(alloc, words, levels.store_at(place), variable, fuel)
     }
 
-    /// Makes the search root, a child of the top that applies the procedure to its root variable, and gives its name.
+    /// Makes the search root, a child of the top that applies the procedure to its root variable, and gives its name. Where it is refused
+    /// nothing changes.
     pub fn root(&mut self, alloc: Global, procedure: Ident) -> Result<SpaceName, AllocError>
         ensures root { OnOk result (self.new.config ≡ with_root self.old.kernel.statements procedure self.old.config) }
         ensures name { IfOk result (λ space. space ≡ search_space self.old.config) }
         ensures kernel { OnOk result (self.new.kernel ≡ self.old.kernel) }
+        ensures err { OnErr result (self.new ≡ self.old) }
     {
-        let Machine {
-            kernel,
-            course,
-            kept,
-        } = self;
+        let Machine { kernel, course, .. } = self;
         let statements = kernel.get().statements.as_slice();
-        // Until the edit is made.
-        let was = mem::replace(kept, false);
-        let space = searching::root(alloc, statements, procedure, course)?;
-        *kept = was;
-        Ok(space)
+        searching::root(alloc, statements, procedure, course)
     }
 
-    /// Commits a space that offers alternatives to one of them, from 1.
+    /// Commits a space that offers alternatives to one of them, from 1. Where it is refused nothing changes.
     pub fn commit(&mut self, alloc: Global, space: &SpaceName, index: u64) -> Result<(), AllocError>
         ensures commit { OnOk result (self.new.config ≡ chosen_in self.old.kernel.statements space.now index self.old.config) }
         ensures kernel { OnOk result (self.new.kernel ≡ self.old.kernel) }
+        ensures err { OnErr result (self.new ≡ self.old) }
     {
-        let Machine {
-            kernel,
-            course,
-            kept,
-        } = self;
+        let Machine { kernel, course, .. } = self;
         let statements = kernel.get().statements.as_slice();
-        // Until the edit is made.
-        let was = mem::replace(kept, false);
-        searching::commit(alloc, statements, space, index, course)?;
-        *kept = was;
-        Ok(())
+        searching::commit(alloc, statements, space, index, course)
     }
 
     /// What is shown of a space in this state. None exactly where that costs more than the fuel.

@@ -10,8 +10,7 @@ ghost use Rattle.oz_semantics.specs.declared.value.Tell;
 ghost use Rattle.oz_semantics.specs.declared.value.Value;
 ghost use Rattle.oz_machine.specs.Courses.{config_of};
 
-use crate::course::Course;
-use crate::settling::requeue;
+use crate::course::{Course, Due};
 use environments::Environment;
 use oz_base::{Ident, SpaceName};
 use oz_language::{Identifier, Kernel, Operation};
@@ -110,15 +109,14 @@ fn opening_levels(alloc: Global, kernel: &Kernel) -> Result<Levels, AllocError>
     Ok(levels)
 }
 
-/// The opening configuration.
+/// The opening configuration. Everybody is due.
 pub fn opening(alloc: Global, kernel: &Kernel) -> Result<Course, AllocError>
-    ensures { IfOk result (λ course. config_of course ≡ opening kernel.now) }
+    ensures { IfOk result (λ course. config_of kernel.now.statements course ≡ opening kernel.now) }
 {
-    let mut course = Course {
+    Ok(Course {
         levels: opening_levels(alloc, kernel)?,
         queue: Queue::new(alloc),
+        due: Due::Everybody { mover: None },
         shown: SharedList::new(),
-    };
-    requeue(alloc, kernel.statements.as_slice(), None, &mut course)?;
-    Ok(course)
+    })
 }

@@ -1,171 +1,212 @@
 //! Exceptions (CTM 2.7).
-ghost use Rattle.std.specs.Prelude.{◌≡◌, [], List, true, false, if◌then◌else◌, is_some, IfOk, IfSome, OnOk};
-ghost use Rattle.oz_semantics.specs.Configurations.{layer_at, view, ending, failed, raised_by};
-ghost use Rattle.oz_semantics.specs.Exceptions.{is_failure};
+ghost use Rattle.std.specs.Prelude.{◌≡◌, ◌∷◌, [], List, Some, true, false, drop, if◌then◌else◌, is_some, IfOk, OnOk, OnErr};
+ghost use Rattle.oz_base.specs.Lists.{first};
 ghost use Rattle.oz_language.specs.declared.kernel.Statement.{Statement};
 ghost use Rattle.oz_semantics.specs.Names.{is_top};
-ghost use Rattle.oz_semantics.specs.Settling.{term_variable, with_raised, inconsistent_spaces};
-ghost use Rattle.oz_semantics.specs.Steps.{uncaught, raised, raised_kind};
+ghost use Rattle.oz_semantics.specs.Configurations.{layer_at, view, ending, failed, raised_by};
+ghost use Rattle.oz_semantics.specs.Changes.{GivesOut, done};
+ghost use Rattle.oz_semantics.specs.Exceptions.{is_failure};
+ghost use Rattle.oz_semantics.specs.Steps.{went_on, uncaught, raised, raised_kind, without_top};
+ghost use Rattle.oz_semantics.specs.declared.configuration.Frame.{Frame};
 ghost use Rattle.oz_semantics.specs.declared.configuration.Layer.{Layer};
-ghost use Rattle.oz_machine.specs.Courses.{config_of};
-ghost use Rattle.oz_machine.specs.Quiet.{IsPopped};
-ghost use Rattle.oz_machine.specs.Turns.{cost_of};
+ghost use Rattle.oz_semantics.specs.declared.outcome.RaiseKind.{RaiseKind};
 ghost use Rattle.settle_laws.specs.Settles.{Settles};
+ghost use Rattle.space_core.specs.Advances.{taken_on};
+ghost use Rattle.space_core.specs.Shown.{seen_above};
+ghost use Rattle.oz_machine.specs.Courses.{config_of, stepping};
+ghost use Rattle.oz_machine.specs.Quiet.{IsHead, KeepsHead};
+ghost use Rattle.oz_machine.specs.Raising.{EndsOver, IsTermOf};
+ghost use Rattle.oz_machine.specs.Turns.{cost_of};
 
-use crate::acts::next_of;
+use crate::acts::{next_of, take_off};
 use crate::course::Course;
+use crate::following::{follow, go_on, leave_to_none};
 use crate::quiet::go_on_unwound;
-use crate::settling::{follow, go_on};
 use oz_base::{Ident, SpaceName};
-use oz_language::Statement;
-use oz_raise::{is_failure, new_term, term};
+use oz_raise::{NewTerm, is_failure, new_term, term};
 use oz_semantics::{RaiseKind, Stepped};
-use space_core::Levels;
+use space_core::{Given, Levels};
 use std::alloc::{AllocError, Global};
+use term_store::Store;
 
 /// Whether an exception is a failure, as a space sees it that is there.
-fn fails(levels: &Levels, space: &SpaceName, exception: &Ident) -> Option<bool>
-    ensures { IfSome result (λ fails. fails ≡ is_failure (view levels.now space.now) exception.now) }
+fn fails(levels: &Levels, space: &SpaceName, exception: &Ident) -> bool
+    ensures { is_some (layer_at levels.now space.now) ≡ true → result ≡ is_failure (view levels.now space.now) exception.now }
 {
     match levels.place(space) {
-        None => None,
-        Some(place) => Some(is_failure(levels.store_at(place), exception)),
+        None => false,
+        Some(place) => is_failure(levels.store_at(place), exception),
     }
 }
 
-/// A space fails, or is ended by the exception.
-fn end_levels(
-    alloc: Global,
-    levels: &mut Levels,
-    space: &SpaceName,
-    exception: Ident,
-    fails: bool,
-) -> Result<(), AllocError>
-    ensures ended { OnOk result (levels.new ≡ ending space.now (λ l. if fails then failed l else raised_by exception l) levels.old) }
-    ensures consistent { OnOk result (inconsistent_spaces levels.new ≡ []) }
+/// A space fails, or is ended by the exception. It takes no memory.
+fn end_levels(levels: &mut Levels, space: &SpaceName, exception: Ident, fails: bool, above: Store)
+    requires { above ≡ seen_above levels.old space.now }
+    ensures { levels.new ≡ ending space.now (λ l. if fails then failed l else raised_by exception l) levels.old }
 {
     if fails {
-        levels.fail(alloc, space)?;
+        levels.fail_over(space, above);
     } else {
         levels.end(space, exception);
     }
-    levels.consistent();
-    Ok(())
 }
 
 /// Ends the child space of a thread that raised an exception which no mark takes.
-fn end_child(
-    alloc: Global,
-    statements: &[Statement],
-    id: &Ident,
-    exception: Ident,
-    course: &mut Course,
-) -> Result<Stepped, AllocError>
-    requires { is_top id.now.space ≡ false }
-    ensures turn { (before : List Layer) → Settles id.now.space before course.old.levels → IfOk result (λ stepped.
-        uncaught statements.now id.now exception before (record { layers = before; queue = course.old.queue; shown = course.old.shown }) ≡ (stepped, config_of course.new)) }
-    ensures cost { IfOk result (λ stepped. cost_of stepped ≡ 1) }
+fn end_child(id: &Ident, exception: Ident, above: Store, course: &mut Course) -> Stepped
+    requires head { first course.old.queue ≡ Some id.now }
+    requires there { is_some (layer_at course.old.levels id.now.space) ≡ true }
+    requires child { is_top id.now.space ≡ false }
+    requires above { above ≡ seen_above course.old.levels id.now.space }
+    ensures turn { (statements : List Statement) (before : List Layer) → Settles id.now.space before course.old.levels
+        → uncaught statements id.now exception before (stepping course.old) ≡ (result, config_of statements course.new) }
+    ensures cost { cost_of result ≡ 1 }
 {
-    let Some(fails) = fails(&course.levels, &id.space, &exception) else {
-        return Err(AllocError);
-    };
-    end_levels(alloc, &mut course.levels, &id.space, exception, fails)?;
-    follow(alloc, statements, id, 1, course)
+    let fails = fails(&course.levels, &id.space, &exception);
+    end_levels(&mut course.levels, &id.space, exception, fails, above);
+    course.levels.consistent();
+    follow(1, course)
 }
 
 /// The run of the top ends with an exception of the thread that no mark takes.
 fn end_top(id: &Ident, exception: Ident, course: &mut Course) -> Stepped
     requires { is_top id.now.space ≡ true }
-    ensures turn { (statements : List Statement) (before : List Layer) → Settles id.now.space before course.old.levels →
-        uncaught statements id.now exception before (record { layers = before; queue = course.old.queue; shown = course.old.shown }) ≡ (result, config_of course.new) }
+    ensures turn { (statements : List Statement) (before : List Layer) → Settles id.now.space before course.old.levels
+        → uncaught statements id.now exception before (stepping course.old) ≡ (result, config_of statements course.new) }
     ensures cost { cost_of result ≡ 1 }
 {
     course.levels.clear(id);
     course.levels.drop_terminated(&id.space);
+    leave_to_none(course);
     Stepped::TopEnded { exception, cost: 1 }
 }
 
-/// An exception that no mark takes ends the run, or the child space.
-fn end_space(
-    alloc: Global,
-    statements: &[Statement],
-    id: &Ident,
-    exception: Ident,
-    course: &mut Course,
-) -> Result<Stepped, AllocError>
-    ensures turn { (before : List Layer) → Settles id.now.space before course.old.levels → IfOk result (λ stepped.
-        uncaught statements.now id.now exception before (record { layers = before; queue = course.old.queue; shown = course.old.shown }) ≡ (stepped, config_of course.new)) }
-    ensures cost { IfOk result (λ stepped. cost_of stepped ≡ 1) }
+/// What the end of a space needs: a store of what is seen above a child, and nothing for the top.
+fn above(alloc: Global, levels: &Levels, space: &SpaceName) -> Result<Option<Store>, AllocError>
+    ensures { IfOk result (λ above. EndsOver levels.now space.now above) }
 {
-    if id.space.is_top() {
-        Ok(end_top(id, exception, course))
+    if space.is_top() {
+        Ok(None)
     } else {
-        end_child(alloc, statements, id, exception, course)
+        Ok(Some(levels.store_above(alloc, space)?))
     }
 }
 
-/// An exception goes to the nearest mark of the thread's stack.
+/// An exception that no mark takes ends the run, or the child space. It takes no memory.
+fn end_space(id: &Ident, exception: Ident, above: Option<Store>, course: &mut Course) -> Stepped
+    requires head { first course.old.queue ≡ Some id.now }
+    requires there { is_some (layer_at course.old.levels id.now.space) ≡ true }
+    requires above { EndsOver course.old.levels id.now.space above }
+    ensures turn { (statements : List Statement) (before : List Layer) → Settles id.now.space before course.old.levels
+        → uncaught statements id.now exception before (stepping course.old) ≡ (result, config_of statements course.new) }
+    ensures cost { cost_of result ≡ 1 }
+{
+    match above {
+        None => end_top(id, exception, course),
+        Some(above) => end_child(id, exception, above, course),
+    }
+}
+
+/// A thread goes on with the stack that an exception left.
+fn go_on_caught(id: &Ident, kept: bool, course: &mut Course) -> Stepped
+    requires { first course.old.queue ≡ Some id.now }
+    ensures turn { (statements : List Statement) (layers : List Layer) (frames : List Frame)
+        → (kept ≡ true → IsHead statements id.now layers (drop 1 course.old.queue) course.old.shown)
+        → course.old.levels ≡ taken_on id.now frames (without_top id.now layers)
+        → went_on statements id.now 1 course.old.levels (stepping course.old) ≡ (result, config_of statements course.new) }
+    ensures cost { cost_of result ≡ 1 }
+{
+    if kept {
+        return go_on_unwound(id, course);
+    }
+    course.levels.consistent();
+    go_on(id, 1, course)
+}
+
+/// An exception of a term goes to the nearest mark of the thread's stack.
 pub fn raise(
     alloc: Global,
-    statements: &[Statement],
     id: &Ident,
     exception: Ident,
     kept: bool,
     course: &mut Course,
 ) -> Result<Stepped, AllocError>
-    ensures turn { (before layers : List Layer) → Settles id.now.space before course.old.levels → IsPopped statements.now id.now kept layers course.old
-        → (kept ≡ true → before ≡ course.old.levels) → IfOk result (λ stepped.
-        raised statements.now id.now exception before (record { layers = before; queue = course.old.queue; shown = course.old.shown }) ≡ (stepped, config_of course.new)) }
+    requires head { first course.old.queue ≡ Some id.now }
+    requires there { is_some (layer_at course.old.levels id.now.space) ≡ true }
+    ensures turn { (statements : List Statement) → KeepsHead statements id.now kept course.old → IfOk result (λ stepped.
+        raised statements id.now exception (without_top id.now course.old.levels) (stepping course.old) ≡ (stepped, config_of statements course.new)) }
     ensures cost { IfOk result (λ stepped. cost_of stepped ≡ 1) }
+    ensures err { OnErr result (course.new ≡ course.old) }
 {
-    if !course.levels.unwind(alloc, id, &exception)? {
-        return end_space(alloc, statements, id, exception, course);
+    if course.levels.unwind_from(alloc, id, &exception)? {
+        return Ok(go_on_caught(id, kept, course));
     }
-    if kept {
-        go_on_unwound(alloc, statements, id, course)
-    } else {
-        go_on(alloc, statements, id, 1, course)
-    }
+    let above = above(alloc, &course.levels, &id.space)?;
+    take_off(&mut course.levels, id);
+    course.levels.consistent();
+    Ok(end_space(id, exception, above, course))
 }
 
-/// The space is told the term of an exception of the machine, by new variables, of which the first is answered. What is told of
-/// new variables never clashes.
+/// The space is told an exception's term, in place of the statement that raised it. What is told of new variables never clashes.
 fn tell_term(
     alloc: Global,
     id: &Ident,
-    kind: RaiseKind,
+    made: &NewTerm,
+    count: u64,
     levels: &mut Levels,
-) -> Result<Ident, AllocError>
+) -> Result<(), AllocError>
     requires { is_some (layer_at levels.old id.now.space) ≡ true }
-    ensures variable { IfOk result (λ x. x ≡ term_variable levels.old id.now.space) }
-    ensures settles { OnOk result (Settles id.now.space (with_raised kind id.now.space levels.old) levels.new) }
+    ensures told { OnOk result (Settles id.now.space (done id.now made.now.tells.items (GivesOut count ∷ []) (without_top id.now levels.old)) levels.new) }
+    ensures err { OnErr result (levels.new ≡ levels.old) }
 {
-    levels.consistent();
-    let next = next_of(levels, &id.space);
-    let nodes = term(alloc, kind)?;
-    let made = new_term(alloc, &id.space, next.variable, &nodes)?;
-    // What is told of variables that were given out leaves the space traced.
-    levels.give_out(&id.space, nodes.len() as u64)?;
-    if levels.tell(alloc, &id.space, &made.tells)? {
-        Ok(made.variable)
+    if levels.tell_by(alloc, id, &made.tells, Given::Variables(count))? {
+        Ok(())
     } else {
         Err(AllocError)
     }
 }
 
+/// A new term goes to the nearest mark of the thread's stack, or ends the space.
+fn raise_new(
+    alloc: Global,
+    id: &Ident,
+    made: NewTerm,
+    count: u64,
+    course: &mut Course,
+) -> Result<Stepped, AllocError>
+    requires head { first course.old.queue ≡ Some id.now }
+    requires there { is_some (layer_at course.old.levels id.now.space) ≡ true }
+    ensures turn { (statements : List Statement) (kind : RaiseKind) → IsTermOf kind course.old.levels id.now.space made count → IfOk result (λ stepped.
+        raised_kind statements id.now kind (without_top id.now course.old.levels) (stepping course.old) ≡ (stepped, config_of statements course.new)) }
+    ensures cost { IfOk result (λ stepped. cost_of stepped ≡ 1) }
+    ensures err { OnErr result (course.new ≡ course.old) }
+{
+    if course
+        .levels
+        .raise(alloc, id, &made.tells, count, &made.variable)?
+    {
+        return Ok(go_on(id, 1, course));
+    }
+    let above = above(alloc, &course.levels, &id.space)?;
+    tell_term(alloc, id, &made, count, &mut course.levels)?;
+    Ok(end_space(id, made.variable, above, course))
+}
+
 /// An exception of the machine.
 pub fn raise_kind(
     alloc: Global,
-    statements: &[Statement],
     id: &Ident,
     kind: RaiseKind,
     course: &mut Course,
 ) -> Result<Stepped, AllocError>
-    requires { is_some (layer_at course.old.levels id.now.space) ≡ true }
-    ensures turn { IfOk result (λ stepped.
-        raised_kind statements.now id.now kind course.old.levels (config_of course.old) ≡ (stepped, config_of course.new)) }
+    requires head { first course.old.queue ≡ Some id.now }
+    requires there { is_some (layer_at course.old.levels id.now.space) ≡ true }
+    ensures turn { (statements : List Statement) → IfOk result (λ stepped.
+        raised_kind statements id.now kind (without_top id.now course.old.levels) (stepping course.old) ≡ (stepped, config_of statements course.new)) }
     ensures cost { IfOk result (λ stepped. cost_of stepped ≡ 1) }
+    ensures err { OnErr result (course.new ≡ course.old) }
 {
-    let exception = tell_term(alloc, id, kind, &mut course.levels)?;
-    raise(alloc, statements, id, exception, false, course)
+    let next = next_of(&course.levels, &id.space);
+    let nodes = term(alloc, kind)?;
+    let made = new_term(alloc, &id.space, next.variable, &nodes)?;
+    raise_new(alloc, id, made, nodes.len() as u64, course)
 }

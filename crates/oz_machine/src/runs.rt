@@ -1,12 +1,14 @@
 //! Runs: turns while something of a space or below it can step.
-ghost use Rattle.std.specs.Prelude.{◌≡◌, ◌≤◌, IfOk};
+ghost use Rattle.std.specs.Prelude.{◌≡◌, ◌≤◌, IfOk, OnErr};
 ghost use Rattle.oz_semantics.specs.Spaces.{goes_on};
 ghost use Rattle.oz_semantics.specs.Runs.{run, Ended};
 ghost use Rattle.oz_machine.specs.Courses.{config_of, Keeps};
-ghost use Rattle.oz_machine.specs.Answers.{IsRun};
+ghost use Rattle.oz_machine.specs.Answers.{IsRun, IsAfterTurns};
+ghost use Rattle.oz_machine.specs.declared.course.Due.TheVariants.{Nobody};
 
 use crate::course::Course;
-use crate::turn::step;
+use crate::settling::settle;
+use crate::turn::turn;
 use oz_base::{Ident, SpaceName};
 use oz_language::{Kernel, Statement};
 use oz_semantics::{State, Stepped};
@@ -34,7 +36,7 @@ fn ended(
     left: u64,
 ) -> Result<Ran, AllocError>
     requires { left ≤ fuel }
-    ensures { IfOk result (IsRun (record { kernel = kernel.now; config = config_of course.now }) space.now fuel (Ended (config_of course.now) left)) }
+    ensures { IfOk result (IsRun (record { kernel = kernel.now; config = config_of kernel.now.statements course.now }) space.now fuel (Ended (config_of kernel.now.statements course.now) left)) }
 {
     let statements = kernel.statements.as_slice();
     let state = space_state(alloc, statements, &course.levels, space)?;
@@ -50,7 +52,7 @@ fn goes_on(
     kept: bool,
     space: &SpaceName,
 ) -> Result<bool, AllocError>
-    ensures { Keeps statements.now kept course.now → IfOk result (λ goes. goes ≡ goes_on statements.now course.now.levels space.now) }
+    ensures { course.now.due ≡ Nobody → Keeps statements.now kept course.now → IfOk result (λ goes. goes ≡ goes_on statements.now course.now.levels space.now) }
 {
     if kept {
         return Ok(course.queue.any_below(space));
@@ -58,7 +60,8 @@ fn goes_on(
     stability::goes_on(alloc, statements, &course.levels, space)
 }
 
-/// Turns while something of the space or below it can step, for no more than the fuel.
+/// Turns while something of the space or below it can step, for no more than the fuel. Where it is refused, it stands after the last
+/// turn that was made.
 pub fn run(
     alloc: Global,
     kernel: &Kernel,
@@ -68,17 +71,22 @@ pub fn run(
     fuel: u64,
 ) -> Result<Ran, AllocError>
     requires { Keeps kernel.now.statements kept.old course.old }
-    ensures run { IfOk result (IsRun (record { kernel = kernel.now; config = config_of course.new }) space.now fuel (run kernel.now space.now (config_of course.old) fuel)) }
+    ensures run { IfOk result (IsRun (record { kernel = kernel.now; config = config_of kernel.now.statements course.new }) space.now fuel (run kernel.now space.now (config_of kernel.now.statements course.old) fuel)) }
     ensures kept { Keeps kernel.now.statements kept.new course.new }
+    ensures err { OnErr result (IsAfterTurns kernel.now (config_of kernel.now.statements course.old) (config_of kernel.now.statements course.new)) }
 {
     let statements = kernel.statements.as_slice();
     let mut left = fuel;
+    let mut answered = settle(alloc, statements, course)?;
     'turns: while goes_on(alloc, statements, course, *kept, space)? {
-        let Some(stepped) = step(alloc, kernel, course, kept, left)? else {
+        let Some(stepped) = turn(alloc, kernel, answered, course, kept, left)? else {
             return Ok(Ran::OutOfFuel);
         };
         match stepped {
-            Stepped::Moved { cost } => left -= cost,
+            Stepped::Moved { cost } => {
+                left -= cost;
+                answered = settle(alloc, statements, course)?;
+            }
             Stepped::Quiescent => return ended(alloc, kernel, course, space, fuel, left),
             Stepped::TopEnded { exception, cost } => {
                 let steps = fuel - (left - cost);

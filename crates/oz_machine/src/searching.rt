@@ -1,27 +1,27 @@
 //! Edits of the tree of spaces by a search.
-ghost use Rattle.std.specs.Prelude.{◌≡◌, IfOk, OnOk};
+ghost use Rattle.std.specs.Prelude.{◌≡◌, List, IfOk, OnOk, OnErr};
+ghost use Rattle.oz_language.specs.declared.kernel.Statement.{Statement};
 ghost use Rattle.oz_semantics.specs.Edits.{committed};
 ghost use Rattle.oz_semantics.specs.Search.{followed, with_root, search_space, chosen_in};
+ghost use Rattle.oz_semantics.specs.declared.configuration.Layer.{Layer};
+ghost use Rattle.oz_machine.specs.declared.course.Due.TheVariants.{Nobody};
 ghost use Rattle.oz_machine.specs.Courses.{config_of};
 
-use crate::course::Course;
-use crate::settling::requeue;
+use crate::course::{Course, Due};
+use crate::settling::settle_only;
 use oz_base::{Ident, SpaceName};
 use oz_language::Statement;
 use space_core::Levels;
 use stability::{Choice, chosen};
 use std::alloc::{AllocError, Global};
 
-/// What follows an edit: the queue.
-fn follow_edit(
-    alloc: Global,
-    statements: &[Statement],
-    course: &mut Course,
-) -> Result<(), AllocError>
-    ensures { OnOk result (config_of course.new ≡ followed statements.now (config_of course.old) course.old.levels) }
+/// What follows an edit: everybody is due.
+fn follow_edit(course: &mut Course)
+    ensures { (statements : List Statement) (before : List Layer) → course.old.due ≡ Nobody →
+        config_of statements course.new ≡ followed statements (record { layers = before; queue = course.old.queue; shown = course.old.shown }) course.old.levels }
 {
     course.levels.consistent();
-    requeue(alloc, statements, None, course)
+    course.due = Due::Everybody { mover: None };
 }
 
 /// Makes the search root, a child of the top that applies the procedure to its root variable, and gives its name.
@@ -31,15 +31,17 @@ pub fn root(
     procedure: Ident,
     course: &mut Course,
 ) -> Result<SpaceName, AllocError>
-    ensures root { OnOk result (config_of course.new ≡ with_root statements.now procedure (config_of course.old)) }
-    ensures name { IfOk result (λ space. space ≡ search_space (config_of course.old)) }
+    ensures root { OnOk result (config_of statements.now course.new ≡ with_root statements.now procedure (config_of statements.now course.old)) }
+    ensures name { IfOk result (λ space. space ≡ search_space (config_of statements.now course.old)) }
+    ensures err { OnErr result (config_of statements.now course.new ≡ config_of statements.now course.old) }
 {
+    settle_only(alloc, statements, course)?;
     let top = SpaceName::top();
     if course.levels.place(&top).is_none() {
         return Err(AllocError);
     }
     let space = course.levels.create(alloc, &top, procedure)?;
-    follow_edit(alloc, statements, course)?;
+    follow_edit(course);
     Ok(space)
 }
 
@@ -51,7 +53,8 @@ fn commit_in(
     index: u64,
     levels: &mut Levels,
 ) -> Result<(), AllocError>
-    ensures { OnOk result (levels.new ≡ committed statements.now space.now index levels.old) }
+    ensures ok { OnOk result (levels.new ≡ committed statements.now space.now index levels.old) }
+    ensures err { OnErr result (levels.new ≡ levels.old) }
 {
     match chosen(alloc, statements, levels, space, index)? {
         None => Ok(()),
@@ -67,8 +70,11 @@ pub fn commit(
     index: u64,
     course: &mut Course,
 ) -> Result<(), AllocError>
-    ensures { OnOk result (config_of course.new ≡ chosen_in statements.now space.now index (config_of course.old)) }
+    ensures commit { OnOk result (config_of statements.now course.new ≡ chosen_in statements.now space.now index (config_of statements.now course.old)) }
+    ensures err { OnErr result (config_of statements.now course.new ≡ config_of statements.now course.old) }
 {
+    settle_only(alloc, statements, course)?;
     commit_in(alloc, statements, space, index, &mut course.levels)?;
-    follow_edit(alloc, statements, course)
+    follow_edit(course);
+    Ok(())
 }

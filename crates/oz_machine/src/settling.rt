@@ -1,64 +1,259 @@
-//! What follows each step: the queue is filled.
-ghost use Rattle.std.specs.Prelude.{◌≡◌, ◌≤◌, List, OnOk, IfOk, Some, None, option_copied};
-ghost use Rattle.oz_semantics.specs.Settling.{runnable, queue_after, settled};
-ghost use Rattle.oz_semantics.specs.Configurations.{in_layer, without_terminated};
-ghost use Rattle.oz_semantics.specs.Steps.{went_on};
-ghost use Rattle.oz_semantics.specs.declared.configuration.Layer.{Layer};
-ghost use Rattle.oz_semantics.specs.declared.configuration.Configuration.{Configuration};
-ghost use Rattle.oz_machine.specs.Courses.{config_of};
-ghost use Rattle.settle_laws.specs.Settles.{Settles};
-ghost use Rattle.oz_semantics.specs.declared.outcome.Stepped.TheVariants.{Moved};
+//! What comes before each step: those who are due are asked whether they can step.
+ghost use Rattle.std.specs.Prelude.{◌≡◌, ◌<◌, ◌++◌, [], Some, length, position, option_copied, option_to_list, IfOk, OnOk, OnErr};
+ghost use Rattle.oz_semantics.specs.Configurations.{is_of, stack_of};
+ghost use Rattle.oz_semantics.specs.Settling.{runnable, queue_after};
+ghost use Rattle.oz_semantics.specs.Spaces.{sight};
+ghost use Rattle.oz_semantics.specs.Statements.{stack_answer};
+ghost use Rattle.builtins.specs.Answers.{IsAnswer};
+ghost use Rattle.oz_machine.specs.declared.course.Due.TheVariants.{Nobody};
+ghost use Rattle.oz_machine.specs.Courses.{asked, config_of};
+ghost use Rattle.oz_machine.specs.Quiet.{top_steps, able_in, IsHeadAnswer};
 
-use crate::course::Course;
-use oz_base::Ident;
+use crate::course::{Course, Due};
+use builtins::Answer;
+use oz_base::{Copies, Ident};
 use oz_language::Statement;
-use oz_semantics::Stepped;
-use oz_threads::runnable;
+use oz_threads::{Queue, is_step, runnable};
+use space_core::Levels;
+use statements::{answer, ready};
 use std::alloc::{AllocError, Global};
 
-/// The threads that can step make the queue, and the one that stepped, if one did, joins the end.
-pub fn requeue(
+/// What the statement on top of a thread's stack answers, of the space at a place.
+pub fn top_answer(
     alloc: Global,
     statements: &[Statement],
+    levels: &Levels,
+    place: usize,
+    id: &Ident,
+) -> Result<Answer, AllocError>
+    requires within { place < length levels.now }
+    requires place { Some place ≡ position (is_of id.now.space) levels.now }
+    ensures { IfOk result (IsAnswer (stack_answer (sight statements.now levels.now id.now.space) (stack_of levels.now id.now))) }
+{
+    match levels.top_frame(id) {
+        None => Ok(Answer::Rests),
+        Some(frame) => answer(alloc, statements, &id.space, levels.store_at(place), frame),
+    }
+}
+
+/// What the statement on top of a thread's stack answers.
+fn thread_answer(
+    alloc: Global,
+    statements: &[Statement],
+    levels: &Levels,
+    id: &Ident,
+) -> Result<Answer, AllocError>
+    ensures { IfOk result (IsAnswer (stack_answer (sight statements.now levels.now id.now.space) (stack_of levels.now id.now))) }
+{
+    let Some(place) = levels.place(&id.space) else {
+        return Ok(Answer::Rests);
+    };
+    top_answer(alloc, statements, levels, place, id)
+}
+
+/// Whether the statement on top of the stack of a thread can step, of the space at a place.
+fn steps_at(
+    alloc: Global,
+    statements: &[Statement],
+    levels: &Levels,
+    place: usize,
+    id: &Ident,
+) -> Result<bool, AllocError>
+    requires within { place < length levels.now }
+    requires place { Some place ≡ position (is_of id.now.space) levels.now }
+    ensures { IfOk result (λ steps. steps ≡ top_steps statements.now levels.now id.now) }
+{
+    let Some(frame) = levels.top_frame(id) else {
+        return Ok(false);
+    };
+    let ready = ready(alloc, statements, &id.space, levels.store_at(place), frame)?;
+    Ok(is_step(&ready))
+}
+
+/// Whether the statement on top of a thread's stack can step.
+fn steps(
+    alloc: Global,
+    statements: &[Statement],
+    levels: &Levels,
+    id: &Ident,
+) -> Result<bool, AllocError>
+    ensures { IfOk result (λ steps. steps ≡ top_steps statements.now levels.now id.now) }
+{
+    let Some(place) = levels.place(&id.space) else {
+        return Ok(false);
+    };
+    steps_at(alloc, statements, levels, place, id)
+}
+
+/// The thread, if it can step.
+fn able(
+    alloc: Global,
+    statements: &[Statement],
+    levels: &Levels,
+    id: &Ident,
+) -> Result<Option<Ident>, AllocError>
+    ensures { IfOk result (λ able. option_to_list able ≡ able_in statements.now levels.now id.now) }
+{
+    if steps(alloc, statements, levels, id)? {
+        Ok(Some(id.copied(alloc)?))
+    } else {
+        Ok(None)
+    }
+}
+
+/// A thread joins the end of the queue, if it can step.
+fn join_able(
+    alloc: Global,
+    statements: &[Statement],
+    levels: &Levels,
+    id: &Ident,
+    queue: &mut Queue,
+) -> Result<(), AllocError>
+    ensures ok { OnOk result (queue.new ≡ queue.old ++ able_in statements.now levels.now id.now) }
+    ensures err { OnErr result (queue.new ≡ queue.old) }
+{
+    match able(alloc, statements, levels, id)? {
+        None => Ok(()),
+        Some(id) => queue.push(id),
+    }
+}
+
+/// Two threads join the end of the queue, as far as they can step.
+fn join_both(
+    alloc: Global,
+    statements: &[Statement],
+    levels: &Levels,
+    id: &Ident,
+    other: &Ident,
+    queue: &mut Queue,
+) -> Result<(), AllocError>
+    ensures ok { OnOk result (queue.new ≡ (queue.old ++ able_in statements.now levels.now id.now) ++ able_in statements.now levels.now other.now) }
+    ensures err { OnErr result (queue.new ≡ queue.old) }
+{
+    let first = able(alloc, statements, levels, id)?;
+    let second = able(alloc, statements, levels, other)?;
+    queue.push_both(alloc, first, second)
+}
+
+/// A thread joins the queue, in which no other is, if it can step. Its answer, where it is a step.
+fn join_alone(
+    alloc: Global,
+    statements: &[Statement],
+    levels: &Levels,
+    id: &Ident,
+    queue: &mut Queue,
+) -> Result<Option<Answer>, AllocError>
+    requires { queue.old ≡ [] }
+    ensures ok { OnOk result (queue.new ≡ queue.old ++ able_in statements.now levels.now id.now) }
+    ensures answer { IfOk result (IsHeadAnswer statements.now levels.now queue.new) }
+    ensures err { OnErr result (queue.new ≡ queue.old) }
+{
+    let answer = thread_answer(alloc, statements, levels, id)?;
+    if let Answer::Rests = answer {
+        join_able(alloc, statements, levels, id, queue)?;
+        return Ok(None);
+    }
+    queue.push(id.copied(alloc)?)?;
+    Ok(Some(answer))
+}
+
+/// All threads that can step make the queue, and the one that stepped, if one did, joins before the others.
+fn requeue(
+    alloc: Global,
+    statements: &[Statement],
+    levels: &Levels,
     mover: Option<&Ident>,
+    queue: &mut Queue,
+) -> Result<(), AllocError>
+    ensures ok { OnOk result (queue.new ≡ queue_after (runnable statements.now levels.now) (option_copied mover.entry) queue.old) }
+    ensures err { OnErr result (queue.new ≡ queue.old) }
+{
+    let ids = runnable(alloc, statements, levels)?;
+    queue.requeue(alloc, &ids, mover)
+}
+
+/// A thread joins the end of the queue, if it can step. Its answer, where no other was in the queue and it is a step.
+fn join_mover(
+    alloc: Global,
+    statements: &[Statement],
+    levels: &Levels,
+    id: &Ident,
+    queue: &mut Queue,
+) -> Result<Option<Answer>, AllocError>
+    ensures ok { OnOk result (queue.new ≡ queue.old ++ able_in statements.now levels.now id.now) }
+    ensures answer { IfOk result (IsHeadAnswer statements.now levels.now queue.new) }
+    ensures err { OnErr result (queue.new ≡ queue.old) }
+{
+    if queue.len() == 0 {
+        return join_alone(alloc, statements, levels, id, queue);
+    }
+    join_able(alloc, statements, levels, id, queue)?;
+    Ok(None)
+}
+
+/// Those who are due join the queue, as far as they can step. The answer of the head, where it was made.
+fn ask(
+    alloc: Global,
+    statements: &[Statement],
+    levels: &Levels,
+    due: &Due,
+    queue: &mut Queue,
+) -> Result<Option<Answer>, AllocError>
+    ensures ok { OnOk result (queue.new ≡ asked statements.now levels.now due.now queue.old) }
+    ensures answer { IfOk result (IsHeadAnswer statements.now levels.now queue.new) }
+    ensures err { OnErr result (queue.new ≡ queue.old) }
+{
+    match due {
+        Due::Nobody => Ok(None),
+        Due::Mover {
+            mover,
+            started: None,
+        } => join_mover(alloc, statements, levels, mover, queue),
+        Due::Mover {
+            mover,
+            started: Some(started),
+        } => {
+            join_both(alloc, statements, levels, mover, started, queue)?;
+            Ok(None)
+        }
+        Due::Everybody { mover } => {
+            requeue(alloc, statements, levels, mover.as_ref(), queue)?;
+            Ok(None)
+        }
+    }
+}
+
+/// Asks those who are due. The answer of the head, where it was made. What contracts see of the course stays the same, also where
+/// it refuses.
+pub fn settle(
+    alloc: Global,
+    statements: &[Statement],
+    course: &mut Course,
+) -> Result<Option<Answer>, AllocError>
+    ensures same { config_of statements.now course.new ≡ config_of statements.now course.old }
+    ensures due { OnOk result (course.new.due ≡ Nobody) }
+    ensures answer { IfOk result (IsHeadAnswer statements.now course.new.levels course.new.queue) }
+{
+    let answered = ask(
+        alloc,
+        statements,
+        &course.levels,
+        &course.due,
+        &mut course.queue,
+    )?;
+    course.due = Due::Nobody;
+    Ok(answered)
+}
+
+/// The same, where the answer is of no use.
+pub fn settle_only(
+    alloc: Global,
+    statements: &[Statement],
     course: &mut Course,
 ) -> Result<(), AllocError>
-    ensures levels { OnOk result (course.new.levels ≡ course.old.levels) }
-    ensures queue { OnOk result (course.new.queue ≡ queue_after (runnable statements.now course.old.levels) (option_copied mover.entry) course.old.queue) }
-    ensures shown { OnOk result (course.new.shown ≡ course.old.shown) }
+    ensures same { config_of statements.now course.new ≡ config_of statements.now course.old }
+    ensures due { OnOk result (course.new.due ≡ Nobody) }
 {
-    let ids = runnable(alloc, statements, &course.levels)?;
-    course.queue.requeue(alloc, &ids, mover)
-}
-
-/// What follows a step of the thread that cost so much.
-pub fn follow(
-    alloc: Global,
-    statements: &[Statement],
-    mover: &Ident,
-    cost: u64,
-    course: &mut Course,
-) -> Result<Stepped, AllocError>
-    ensures turn { (before : List Layer) → Settles mover.now.space before course.old.levels → IfOk result (λ stepped.
-        settled statements.now (Some mover.now) cost (record { layers = before; queue = course.old.queue; shown = course.old.shown }) ≡ (stepped, config_of course.new)) }
-    ensures cost { IfOk result (λ stepped. stepped ≡ Moved cost) }
-{
-    requeue(alloc, statements, Some(mover), course)?;
-    Ok(Stepped::Moved { cost })
-}
-
-/// A thread goes on after a step that cost so much, or is terminated where nothing is left on its stack.
-pub fn go_on(
-    alloc: Global,
-    statements: &[Statement],
-    mover: &Ident,
-    cost: u64,
-    course: &mut Course,
-) -> Result<Stepped, AllocError>
-    ensures turn { (before : List Layer) → Settles mover.now.space before course.old.levels → IfOk result (λ stepped.
-        went_on statements.now mover.now cost before (record { layers = before; queue = course.old.queue; shown = course.old.shown }) ≡ (stepped, config_of course.new)) }
-    ensures cost { IfOk result (λ stepped. stepped ≡ Moved cost) }
-{
-    course.levels.drop_terminated(&mover.space);
-    follow(alloc, statements, mover, cost, course)
+    let _answered = settle(alloc, statements, course)?;
+    Ok(())
 }

@@ -1,6 +1,8 @@
 //! What follows a step that told its space something, where no space is below: threads of its own space alone can step by that.
-ghost use Rattle.std.specs.Prelude.{◌≡◌, ◌<◌, ◌++◌, List, Some, true, length, position, IfOk};
+ghost use Rattle.std.specs.Prelude.{◌≡◌, ◌++◌, List, Some, true, drop};
 ghost use Rattle.std.specs.List.{list_all};
+ghost use Rattle.oz_base.specs.Lists.{first};
+ghost use Rattle.oz_language.specs.declared.kernel.Statement.{Statement};
 ghost use Rattle.oz_semantics.specs.Store.{is_consistent};
 ghost use Rattle.oz_semantics.specs.Configurations.{is_numbered, layer_of, view};
 ghost use Rattle.oz_semantics.specs.Changes.{Change, done};
@@ -9,17 +11,14 @@ ghost use Rattle.oz_semantics.specs.declared.value.Tell.{Tell};
 ghost use Rattle.oz_semantics.specs.declared.configuration.Layer.{Layer};
 ghost use Rattle.oz_semantics.specs.declared.outcome.Stepped.TheVariants.{Moved};
 ghost use Rattle.turn_laws.specs.Telling.{IsAlone};
-ghost use Rattle.oz_machine.specs.Courses.{config_of};
+ghost use Rattle.oz_machine.specs.Courses.{config_of, stepping};
 ghost use Rattle.oz_machine.specs.Quiet.{IsHead};
 
 use crate::course::Course;
-use crate::quiet::join_able;
-use crate::settling::follow;
+use crate::following::{follow, leave_alone};
 use oz_base::Ident;
-use oz_language::Statement;
 use oz_semantics::{Stepped, Thread};
 use space_core::Levels;
-use std::alloc::{AllocError, Global};
 
 fn are_numbered(threads: &[Thread], number: u64) -> bool
     ensures { result ≡ list_all (is_numbered number) threads.now }
@@ -38,24 +37,20 @@ fn is_single(levels: &Levels, id: &Ident) -> bool
 }
 
 /// A thread goes on after a step that told its space, below which there is none, what is consistent with what it sees.
-pub fn go_on_told(
-    alloc: Global,
-    statements: &[Statement],
-    mover: &Ident,
-    cost: u64,
-    course: &mut Course,
-) -> Result<Stepped, AllocError>
-    ensures turn { (layers : List Layer) (ts : List Tell) (changes : List Change) → IsHead statements.now mover.now layers course.old.queue course.old.shown
+pub fn go_on_told(mover: &Ident, cost: u64, course: &mut Course) -> Stepped
+    requires { first course.old.queue ≡ Some mover.now }
+    ensures turn { (statements : List Statement) (layers : List Layer) (ts : List Tell) (changes : List Change)
+        → IsHead statements mover.now layers (drop 1 course.old.queue) course.old.shown
         → IsAlone layers mover.now.space → is_consistent (view layers mover.now.space ++ ts) ≡ true
         → course.old.levels ≡ done mover.now ts changes (without_top mover.now layers)
-        → IfOk result (λ stepped. went_on statements.now mover.now cost course.old.levels (config_of course.old) ≡ (stepped, config_of course.new)) }
-    ensures cost { IfOk result (λ stepped. stepped ≡ Moved cost) }
+        → went_on statements mover.now cost course.old.levels (stepping course.old) ≡ (result, config_of statements course.new) }
+    ensures cost { result ≡ Moved cost }
 {
     course.levels.drop_terminated(&mover.space);
     course.levels.consistent();
     if !is_single(&course.levels, mover) {
-        return follow(alloc, statements, mover, cost, course);
+        return follow(cost, course);
     }
-    join_able(alloc, statements, mover, course)?;
-    Ok(Stepped::Moved { cost })
+    leave_alone(course, None);
+    Stepped::Moved { cost }
 }

@@ -1,52 +1,34 @@
 //! One turn of the machine: the head of the queue makes one step.
-ghost use Rattle.std.specs.Prelude.{◌≡◌, ◌≤◌, ◌<◌, ◌+◌, ◌&&◌, not, ◌∷◌, [], List, true, is_some, length, position, IfOk, IfSome, OnOk, Some, None};
+ghost use Rattle.std.specs.Prelude.{◌≡◌, ◌≤◌, ◌<◌, ◌+◌, ◌&&◌, not, true, is_some, length, position, IfOk, IfSome, OnErr, Some};
+ghost use Rattle.oz_base.specs.Lists.{first};
 ghost use Rattle.oz_semantics.specs.Configurations.{is_of, layer_at, stack_of};
-ghost use Rattle.oz_semantics.specs.Statements.{stack_answer};
 ghost use Rattle.oz_semantics.specs.Spaces.{sight};
+ghost use Rattle.oz_semantics.specs.Statements.{stack_answer};
 ghost use Rattle.oz_semantics.specs.Answers as answers;
 ghost use Rattle.oz_semantics.specs.Steps.{without_top, after_answer, shown_by, stepped};
 ghost use Rattle.oz_semantics.specs.Schedule.{turn};
 ghost use Rattle.builtins.specs.Answers.{act_of, IsAnswer};
 ghost use Rattle.space_core.specs.Telling.{has_below};
-ghost use Rattle.oz_machine.specs.Courses.{config_of, Keeps};
+ghost use Rattle.oz_machine.specs.declared.course.Due.TheVariants.{Nobody};
+ghost use Rattle.oz_machine.specs.Courses.{config_of, stepping, Keeps};
 ghost use Rattle.oz_machine.specs.Doings.{is_quiet};
-ghost use Rattle.oz_machine.specs.Quiet.{IsHead, IsPopped};
+ghost use Rattle.oz_machine.specs.Quiet.{IsHeadAnswer, KeepsHead};
 ghost use Rattle.oz_machine.specs.Turns.{cost_of, CostsWithin, HasNotEnded, IsTurn};
-ghost use Rattle.oz_semantics.specs.declared.configuration.Layer.{Layer};
 
-use crate::acts::{act, is_quiet, started};
+use crate::acts::{act, is_quiet, started, take_off};
 use crate::course::Course;
+use crate::following::{follow, go_on};
 use crate::quiet::go_on_quietly;
 use crate::raising::{raise, raise_kind};
-use crate::settling::{follow, go_on};
+use crate::settling::{settle, top_answer};
 use crate::told::go_on_told;
 use builtins::{Act, Answer};
-use oz_base::{Ident, Sequence};
+use oz_base::{Copies, Ident, Sequence};
 use oz_language::{Kernel, Statement};
 use oz_semantics::{RaiseKind, Stepped};
 use space_core::Levels;
-use statements::answer;
 use std::alloc::{AllocError, Global};
-use std::mem;
 use term_text::{Text, term_text};
-
-/// What the statement on top of a thread's stack answers.
-fn top_answer(
-    alloc: Global,
-    statements: &[Statement],
-    levels: &Levels,
-    place: usize,
-    id: &Ident,
-) -> Result<Answer, AllocError>
-    requires within { place < length levels.now }
-    requires place { Some place ≡ position (is_of id.now.space) levels.now }
-    ensures { IfOk result (IsAnswer (stack_answer (sight statements.now levels.now id.now.space) (stack_of levels.now id.now))) }
-{
-    match levels.top_frame(id) {
-        None => Ok(Answer::Rests),
-        Some(frame) => answer(alloc, statements, &id.space, levels.store_at(place), frame),
-    }
-}
 
 /// Whether an act tells nothing, where this spares a look at the other threads.
 fn is_known_quiet(what: &Act, kept: bool) -> bool
@@ -55,14 +37,14 @@ fn is_known_quiet(what: &Act, kept: bool) -> bool
     kept && is_quiet(what)
 }
 
-/// Whether no space is below the thread's, where this spares a look at the threads of other spaces.
-fn is_known_lowest(levels: &Levels, id: &Ident, kept: bool) -> bool
-    ensures { result ≡ (kept && not (has_below levels.now id.now.space)) }
+/// Whether no space is below the thread's, where this spares a look at the threads of other spaces: after a step that told something.
+fn is_known_lowest(levels: &Levels, id: &Ident, kept: bool, quiet: bool) -> bool
+    ensures { result ≡ ((kept && not quiet) && not (has_below levels.now id.now.space)) }
 {
-    kept && !levels.has_below(&id.space)
+    kept && !quiet && !levels.has_below(&id.space)
 }
 
-/// The thread does what an act says that shows nothing. Its statement is off its stack already.
+/// The thread does what an act says that shows nothing.
 fn make_act(
     alloc: Global,
     kernel: &Kernel,
@@ -71,32 +53,27 @@ fn make_act(
     kept: bool,
     course: &mut Course,
 ) -> Result<Stepped, AllocError>
-    requires { is_some (layer_at course.old.levels id.now.space) ≡ true }
-    ensures turn { (layers : List Layer) → IsPopped kernel.now.statements id.now kept layers course.old
-        → IfOk result (λ stepped. after_answer kernel.now id.now course.old.levels (config_of course.old) (answers.Acts (act_of what)) ≡ (stepped, config_of course.new)) }
+    requires head { first course.old.queue ≡ Some id.now }
+    requires there { is_some (layer_at course.old.levels id.now.space) ≡ true }
+    requires kept { KeepsHead kernel.now.statements id.now kept course.old }
+    ensures turn { IfOk result (λ stepped. after_answer kernel.now id.now (without_top id.now course.old.levels) (stepping course.old) (answers.Acts (act_of what)) ≡ (stepped, config_of kernel.now.statements course.new)) }
     ensures cost { IfOk result (λ stepped. cost_of stepped ≡ 1) }
+    ensures err { OnErr result (course.new ≡ course.old) }
 {
-    let statements = kernel.statements.as_slice();
     let quiet = is_known_quiet(&what, kept);
-    let lowest = is_known_lowest(&course.levels, id, kept);
+    let lowest = is_known_lowest(&course.levels, id, kept, quiet);
     let started = started(alloc, &course.levels, id, &what)?;
     if !act(alloc, &mut course.levels, id, what)? {
-        return raise_kind(alloc, statements, id, RaiseKind::FailureTell, course);
+        return raise_kind(alloc, id, RaiseKind::FailureTell, course);
     }
     if quiet {
-        go_on_quietly(alloc, statements, id, started, 1, course)
-    } else if lowest {
-        go_on_told(alloc, statements, id, 1, course)
-    } else {
-        go_on(alloc, statements, id, 1, course)
+        return Ok(go_on_quietly(id, started, 1, course));
     }
-}
-
-/// Takes the statement off the top of a thread's stack, and lets go of it.
-fn take_off(levels: &mut Levels, id: &Ident)
-    ensures { levels.new ≡ without_top id.now levels.old }
-{
-    let _frame = levels.pop(id);
+    if lowest {
+        return Ok(go_on_told(id, 1, course));
+    }
+    course.levels.consistent();
+    Ok(go_on(id, 1, course))
 }
 
 /// The thread steps as its statement answered, which shows nothing.
@@ -108,30 +85,21 @@ fn make_step(
     kept: bool,
     course: &mut Course,
 ) -> Result<Stepped, AllocError>
+    requires head { first course.old.queue ≡ Some id.now }
     requires there { is_some (layer_at course.old.levels id.now.space) ≡ true }
-    requires kept { kept ≡ true → IsHead kernel.now.statements id.now course.old.levels course.old.queue course.old.shown }
-    ensures turn { (a : answers.Answer) → IsAnswer a answer → IfOk result (λ stepped. after_answer kernel.now id.now (without_top id.now course.old.levels) (config_of course.old) a ≡ (stepped, config_of course.new)) }
+    requires kept { KeepsHead kernel.now.statements id.now kept course.old }
+    ensures turn { (a : answers.Answer) → IsAnswer a answer → IfOk result (λ stepped. after_answer kernel.now id.now (without_top id.now course.old.levels) (stepping course.old) a ≡ (stepped, config_of kernel.now.statements course.new)) }
     ensures cost { IfOk result (λ stepped. cost_of stepped ≡ 1) }
+    ensures err { OnErr result (course.new ≡ course.old) }
 {
-    let statements = kernel.statements.as_slice();
     match answer {
         Answer::Rests => {
             course.levels.consistent();
-            follow(alloc, statements, id, 1, course)
+            Ok(follow(1, course))
         }
-        Answer::Acts(what) => {
-            take_off(&mut course.levels, id);
-            make_act(alloc, kernel, id, what, kept, course)
-        }
-        Answer::RaisesKind(kind) => {
-            take_off(&mut course.levels, id);
-            raise_kind(alloc, statements, id, kind, course)
-        }
-        Answer::RaisesTerm(exception) => {
-            take_off(&mut course.levels, id);
-            course.levels.consistent();
-            raise(alloc, statements, id, exception, kept, course)
-        }
+        Answer::Acts(what) => make_act(alloc, kernel, id, what, kept, course),
+        Answer::RaisesKind(kind) => raise_kind(alloc, id, kind, course),
+        Answer::RaisesTerm(exception) => raise(alloc, id, exception, kept, course),
     }
 }
 
@@ -154,21 +122,22 @@ fn show_text(
     kept: bool,
     course: &mut Course,
 ) -> Result<Stepped, AllocError>
-    requires { kept ≡ true → IsHead kernel.now.statements id.now course.old.levels course.old.queue course.old.shown }
-    ensures turn { IfOk result (λ stepped. shown_by kernel.now.statements id.now (record { bytes = text.bytes; nodes = text.nodes }) (without_top id.now course.old.levels) (config_of course.old) ≡ (stepped, config_of course.new)) }
+    requires head { first course.old.queue ≡ Some id.now }
+    requires kept { KeepsHead kernel.now.statements id.now kept course.old }
+    ensures turn { IfOk result (λ stepped. shown_by kernel.now.statements id.now (record { bytes = text.bytes; nodes = text.nodes }) (without_top id.now course.old.levels) (stepping course.old) ≡ (stepped, config_of kernel.now.statements course.new)) }
     ensures cost { IfOk result (λ stepped. cost_of stepped ≡ 1 + text.nodes) }
+    ensures err { OnErr result (course.new ≡ course.old) }
 {
     let Text { bytes, nodes } = text;
     let cost = text_cost(nodes)?;
-    let statements = kernel.statements.as_slice();
-    take_off(&mut course.levels, id);
-    course.levels.consistent();
+    let _ = kernel;
     course.shown.push(alloc, bytes)?;
+    take_off(&mut course.levels, id);
     if kept {
-        go_on_quietly(alloc, statements, id, None, cost, course)
-    } else {
-        go_on(alloc, statements, id, cost, course)
+        return Ok(go_on_quietly(id, None, cost, course));
     }
+    course.levels.consistent();
+    Ok(go_on(id, cost, course))
 }
 
 /// The thread shows a term, unless that costs more than the fuel: then nothing changes.
@@ -184,10 +153,12 @@ fn show(
 ) -> Result<Option<Stepped>, AllocError>
     requires within { place < length course.old.levels }
     requires place { Some place ≡ position (is_of id.now.space) course.old.levels }
-    requires kept { kept ≡ true → IsHead kernel.now.statements id.now course.old.levels course.old.queue course.old.shown }
+    requires head { first course.old.queue ≡ Some id.now }
+    requires kept { KeepsHead kernel.now.statements id.now kept course.old }
     requires fuel { 1 ≤ fuel }
-    ensures turn { IfOk result (IsTurn (after_answer kernel.now id.now (without_top id.now course.old.levels) (config_of course.old) (answers.Acts (answers.Shows variable.now))) fuel (config_of course.old) (config_of course.new)) }
+    ensures turn { IfOk result (IsTurn (after_answer kernel.now id.now (without_top id.now course.old.levels) (stepping course.old) (answers.Acts (answers.Shows variable.now))) fuel (config_of kernel.now.statements course.old) (config_of kernel.now.statements course.new)) }
     ensures cost { IfOk result (λ turned. IfSome turned (CostsWithin fuel)) }
+    ensures err { OnErr result (course.new ≡ course.old) }
 {
     let store = course.levels.store_at(place);
     match term_text(alloc, &kernel.words, store, variable, fuel - 1)? {
@@ -209,10 +180,12 @@ fn step_as(
 ) -> Result<Option<Stepped>, AllocError>
     requires within { place < length course.old.levels }
     requires place { Some place ≡ position (is_of id.now.space) course.old.levels }
-    requires kept { kept ≡ true → IsHead kernel.now.statements id.now course.old.levels course.old.queue course.old.shown }
+    requires head { first course.old.queue ≡ Some id.now }
+    requires kept { KeepsHead kernel.now.statements id.now kept course.old }
     requires fuel { 1 ≤ fuel }
-    ensures turn { (a : answers.Answer) → IsAnswer a answer → IfOk result (IsTurn (after_answer kernel.now id.now (without_top id.now course.old.levels) (config_of course.old) a) fuel (config_of course.old) (config_of course.new)) }
+    ensures turn { (a : answers.Answer) → IsAnswer a answer → IfOk result (IsTurn (after_answer kernel.now id.now (without_top id.now course.old.levels) (stepping course.old) a) fuel (config_of kernel.now.statements course.old) (config_of kernel.now.statements course.new)) }
     ensures cost { IfOk result (λ turned. IfSome turned (CostsWithin fuel)) }
+    ensures err { OnErr result (course.new ≡ course.old) }
 {
     if let Answer::Acts(Act::Shows(variable)) = &answer {
         return show(alloc, kernel, place, id, variable, kept, course, fuel);
@@ -220,81 +193,78 @@ fn step_as(
     Ok(Some(make_step(alloc, kernel, id, answer, kept, course)?))
 }
 
-/// A step of a thread. None exactly where it costs more than the fuel: it is not made, and nothing changes.
+/// What the statement on top of the thread's stack answers, of the space at a place: this was made already, or it is made now.
+fn head_answer(
+    alloc: Global,
+    statements: &[Statement],
+    course: &Course,
+    place: usize,
+    id: &Ident,
+    answered: Option<Answer>,
+) -> Result<Answer, AllocError>
+    requires within { place < length course.now.levels }
+    requires place { Some place ≡ position (is_of id.now.space) course.now.levels }
+    requires head { first course.now.queue ≡ Some id.now }
+    requires answered { IsHeadAnswer statements.now course.now.levels course.now.queue answered }
+    ensures { IfOk result (IsAnswer (stack_answer (sight statements.now course.now.levels id.now.space) (stack_of course.now.levels id.now))) }
+{
+    match answered {
+        Some(answer) => Ok(answer),
+        None => top_answer(alloc, statements, &course.levels, place, id),
+    }
+}
+
+/// A step of the thread at the head of the queue. None exactly where it costs more than the fuel: it is not made, and nothing changes.
 fn step_of(
     alloc: Global,
     kernel: &Kernel,
     id: &Ident,
+    answered: Option<Answer>,
     kept: bool,
     course: &mut Course,
     fuel: u64,
 ) -> Result<Option<Stepped>, AllocError>
-    requires kept { kept ≡ true → IsHead kernel.now.statements id.now course.old.levels course.old.queue course.old.shown }
+    requires head { first course.old.queue ≡ Some id.now }
+    requires answered { IsHeadAnswer kernel.now.statements course.old.levels course.old.queue answered }
+    requires kept { KeepsHead kernel.now.statements id.now kept course.old }
     requires fuel { 1 ≤ fuel }
-    ensures turn { IfOk result (IsTurn (stepped kernel.now id.now (config_of course.old)) fuel (config_of course.old) (config_of course.new)) }
+    ensures turn { IfOk result (IsTurn (stepped kernel.now id.now (stepping course.old)) fuel (config_of kernel.now.statements course.old) (config_of kernel.now.statements course.new)) }
     ensures cost { IfOk result (λ turned. IfSome turned (CostsWithin fuel)) }
+    ensures err { OnErr result (course.new ≡ course.old) }
 {
+    let Some(place) = course.levels.place(&id.space) else {
+        course.levels.consistent();
+        return Ok(Some(follow(1, course)));
+    };
     let statements = kernel.statements.as_slice();
-    match course.levels.place(&id.space) {
-        None => {
-            course.levels.consistent();
-            Ok(Some(follow(alloc, statements, id, 1, course)?))
-        }
-        Some(place) => {
-            let answer = top_answer(alloc, statements, &course.levels, place, id)?;
-            step_as(alloc, kernel, place, id, answer, kept, course, fuel)
-        }
-    }
+    let answer = head_answer(alloc, statements, course, place, id, answered)?;
+    step_as(alloc, kernel, place, id, answer, kept, course, fuel)
 }
 
-/// A thread that did not step is the head of the queue again.
-fn put_back(course: &mut Course, id: Ident) -> Result<Option<Stepped>, AllocError>
-    ensures none { IfOk result (λ stepped. stepped ≡ None) }
-    ensures back { OnOk result (config_of course.new ≡ record { layers = course.old.levels; queue = id ∷ course.old.queue; shown = course.old.shown }) }
-{
-    course.queue.push_front(id)?;
-    Ok(None)
-}
-
-/// A step of the thread that was the head of the queue. None exactly where it costs more than the fuel: it is not made, and the
-/// thread is the head again.
-fn step_head(
-    alloc: Global,
-    kernel: &Kernel,
-    id: Ident,
-    kept: bool,
-    course: &mut Course,
-    fuel: u64,
-) -> Result<Option<Stepped>, AllocError>
-    requires { kept ≡ true → IsHead kernel.now.statements id course.old.levels course.old.queue course.old.shown }
-    ensures turn { IfOk result (IsTurn (stepped kernel.now id (config_of course.old)) fuel (record { layers = course.old.levels; queue = id ∷ course.old.queue; shown = course.old.shown }) (config_of course.new)) }
-    ensures cost { IfOk result (λ turned. IfSome turned (CostsWithin fuel)) }
-{
-    if fuel == 0 {
-        return put_back(course, id);
-    }
-    match step_of(alloc, kernel, &id, kept, course, fuel)? {
-        Some(stepped) => Ok(Some(stepped)),
-        None => put_back(course, id),
-    }
-}
-
-/// The head of the queue makes a step.
+/// The head of the queue makes a step, where nobody is due.
 fn take_turn(
     alloc: Global,
     kernel: &Kernel,
+    answered: Option<Answer>,
     kept: bool,
     course: &mut Course,
     fuel: u64,
 ) -> Result<Option<Stepped>, AllocError>
-    requires { Keeps kernel.now.statements kept course.old }
-    ensures turn { IfOk result (IsTurn (turn kernel.now (config_of course.old)) fuel (config_of course.old) (config_of course.new)) }
+    requires due { course.old.due ≡ Nobody }
+    requires answered { IsHeadAnswer kernel.now.statements course.old.levels course.old.queue answered }
+    requires kept { Keeps kernel.now.statements kept course.old }
+    ensures turn { IfOk result (IsTurn (turn kernel.now (config_of kernel.now.statements course.old)) fuel (config_of kernel.now.statements course.old) (config_of kernel.now.statements course.new)) }
     ensures cost { IfOk result (λ turned. IfSome turned (CostsWithin fuel)) }
+    ensures err { OnErr result (course.new ≡ course.old) }
 {
-    match course.queue.next() {
-        None => Ok(Some(Stepped::Quiescent)),
-        Some(id) => step_head(alloc, kernel, id, kept, course, fuel),
+    let Some(id) = course.queue.first() else {
+        return Ok(Some(Stepped::Quiescent));
+    };
+    if fuel == 0 {
+        return Ok(None);
     }
+    let id = id.copied(alloc)?;
+    step_of(alloc, kernel, &id, answered, kept, course, fuel)
 }
 
 /// Whether all that was known to hold before a turn is known after it: the top has not ended.
@@ -308,8 +278,30 @@ fn is_still_kept(was: bool, turned: &Option<Stepped>) -> bool
     }
 }
 
-/// A turn. None exactly where it costs more than the fuel: it is not made, and nothing changes. What was known to hold from turn to
-/// turn is known after it too, unless the top has ended or memory was refused.
+/// A turn, where nobody is due. None exactly where it costs more than the fuel: it is not made, and nothing changes. What was known to
+/// hold from turn to turn is known after it too, unless the top has ended.
+pub fn turn(
+    alloc: Global,
+    kernel: &Kernel,
+    answered: Option<Answer>,
+    course: &mut Course,
+    kept: &mut bool,
+    fuel: u64,
+) -> Result<Option<Stepped>, AllocError>
+    requires due { course.old.due ≡ Nobody }
+    requires answered { IsHeadAnswer kernel.now.statements course.old.levels course.old.queue answered }
+    requires kept { Keeps kernel.now.statements kept.old course.old }
+    ensures turn { IfOk result (IsTurn (turn kernel.now (config_of kernel.now.statements course.old)) fuel (config_of kernel.now.statements course.old) (config_of kernel.now.statements course.new)) }
+    ensures cost { IfOk result (λ turned. IfSome turned (CostsWithin fuel)) }
+    ensures kept { Keeps kernel.now.statements kept.new course.new }
+    ensures err { OnErr result (course.new ≡ course.old) }
+{
+    let turned = take_turn(alloc, kernel, answered, *kept, course, fuel)?;
+    *kept = is_still_kept(*kept, &turned);
+    Ok(turned)
+}
+
+/// A turn, after those who are due were asked.
 pub fn step(
     alloc: Global,
     kernel: &Kernel,
@@ -318,13 +310,11 @@ pub fn step(
     fuel: u64,
 ) -> Result<Option<Stepped>, AllocError>
     requires { Keeps kernel.now.statements kept.old course.old }
-    ensures turn { IfOk result (IsTurn (turn kernel.now (config_of course.old)) fuel (config_of course.old) (config_of course.new)) }
+    ensures turn { IfOk result (IsTurn (turn kernel.now (config_of kernel.now.statements course.old)) fuel (config_of kernel.now.statements course.old) (config_of kernel.now.statements course.new)) }
     ensures cost { IfOk result (λ turned. IfSome turned (CostsWithin fuel)) }
     ensures kept { Keeps kernel.now.statements kept.new course.new }
+    ensures err { OnErr result (config_of kernel.now.statements course.new ≡ config_of kernel.now.statements course.old) }
 {
-    // Until the turn is made.
-    let was = mem::replace(kept, false);
-    let turned = take_turn(alloc, kernel, was, course, fuel)?;
-    *kept = is_still_kept(was, &turned);
-    Ok(turned)
+    let answered = settle(alloc, kernel.statements.as_slice(), course)?;
+    turn(alloc, kernel, answered, course, kept, fuel)
 }

@@ -1,6 +1,7 @@
 //! The queue of the threads that can step.
 ghost use Rattle.std.specs.Prelude.{◌≡◌, List, [], ◌∷◌, ◌++◌, filter, length, option_to_list, IfOk, OnOk, OnErr, MatchOption, option_copied};
 ghost use Rattle.std.specs.List.{list_any};
+ghost use Rattle.oz_base.specs.Lists.{first};
 ghost use Rattle.oz_base.specs.declared.names.Ident.{Ident};
 ghost use Rattle.oz_semantics.specs.Names.{is_below};
 ghost use Rattle.oz_semantics.specs.Settling.{is_among, mover_in, queue_after};
@@ -44,7 +45,14 @@ impl Queue {
         self.ids.len()
     }
 
-    /// Takes the head out.
+    /// The head.
+    pub fn first(&self) -> Option<&Ident>
+        ensures { option_copied result ≡ first self.now }
+    {
+        self.ids.front()
+    }
+
+    /// Takes the head out. It takes no memory.
     pub fn next(&mut self) -> Option<Ident>
         ensures { MatchOption result ((self.old ≡ []) × (self.new ≡ [])) (λ id. self.old ≡ id ∷ self.new) }
     {
@@ -60,13 +68,21 @@ impl Queue {
         Ok(())
     }
 
-    /// Puts a thread at the head. After `next` it takes the place that this freed, and no memory.
-    pub fn push_front(&mut self, id: Ident) -> Result<(), AllocError>
-        ensures ok { OnOk result (self.new ≡ id ∷ self.old) }
+    /// Puts a thread, if there is one, and then another, if there is one, at the end.
+    pub fn push_both(
+        &mut self,
+        alloc: Global,
+        one: Option<Ident>,
+        other: Option<Ident>,
+    ) -> Result<(), AllocError>
+        ensures ok { OnOk result (self.new ≡ (self.old ++ option_to_list one) ++ option_to_list other) }
         ensures err { OnErr result (self.new ≡ self.old) }
     {
-        self.ids.push_front(id)?;
-        Ok(())
+        let mut others = VecDeque::new(alloc);
+        if let Some(other) = other {
+            others.push_back(other)?;
+        }
+        join(&mut self.ids, one, others)
     }
 
     /// Whether a thread of the space or of a space below it can step.

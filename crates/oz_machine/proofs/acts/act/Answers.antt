@@ -1,20 +1,23 @@
-use Rattle.std.proofs.Common.{◌≡◌, ◌∙◌, true, refl, sym, ap, subst}
+use Rattle.std.proofs.Common.{◌≡◌, ◌∙◌, [], ◌∷◌, true, refl, sym, ap, subst}
+use Rattle.std.specs.Prelude.{IfOk}
 use Rattle.oz_semantics.specs.Configurations.{layer_of}
 use Rattle.oz_semantics.specs.Effects.{act_effect}
 use Rattle.oz_semantics.specs.Answers as answers
+use Rattle.oz_semantics.specs.declared.value.Tell.TheVariants.{Is, Equal}
 use Rattle.builtins.specs.Answers.{act_of}
 use Rattle.oz_machine.specs.Doings.{IsDone}
-use Rattle.oz_machine.proofs.SettleNeeds.{nothing_fails}
+use Rattle.oz_machine.proofs.DoingLaws.{tells_done}
 use Rattle.oz_machine.proofs.acts.act.Goals as goal
 
-pub returns-in-Passes : goal.returns-in-Passes
-returns-in-Passes c =
+pub returns-in-Passes-clause-ok : goal.returns-in-Passes-clause-ok
+returns-in-Passes-clause-ok c =
     let id = c.args.id.now in
     let old = c.args.levels.now in
-    subst (λ a. IsDone id (act_effect (layer_of old id.space) (act_of a)) old old true) (sym c.in-Passes.is) (refl, nothing_fails id.space old c.consistent.ensures)
+    let new = c.take_off.new.levels in
+    subst (λ a. IsDone id (act_effect (layer_of old id.space) (act_of a)) old new true) (sym c.in-Passes.is) c.take_off.ensures
 
-pub returns-in-Declares : goal.returns-in-Declares
-returns-in-Declares c =
+pub returns-in-Declares-clause-ok : goal.returns-in-Declares-clause-ok
+returns-in-Declares-clause-ok c =
     let id = c.args.id.now in
     let old = c.args.levels.now in
     let new = c.declare.new.levels in
@@ -23,4 +26,4 @@ returns-in-Declares c =
     let same : answers.Declares environment c.as_slice.result.now c.as_slice-in-Declares.result.now ≡ act_of c.args.act =
     ap (λ names. answers.Declares environment names c.as_slice-in-Declares.result.now) c.as_slice.ensures
     ∙ ap (λ body. answers.Declares environment c.in-Declares.names body) c.as_slice-in-Declares.ensures ∙ sym (ap act_of c.in-Declares.is) in
-    subst (λ a. IsDone id (act_effect l a) old new true) same c.in_ok-declare-in-Declares.ensures
+    subst (λ a. IsDone id (act_effect l a) old new true) same c.in_ok-declare-in-Declares.ensures.ok

@@ -1,16 +1,16 @@
-use Rattle.std.proofs.Common.{◌∙◌, ◌++◌, ap, sym}
+use Rattle.std.proofs.Common.{◌∙◌, ◌++◌, drop, refl, ap, sym}
 use Rattle.oz_semantics.specs.declared.outcome.Stepped.TheVariants.{Moved}
-use Rattle.oz_machine.specs.Quiet.{able_in, able_of}
+use Rattle.oz_machine.specs.declared.course.Due.TheVariants.{Mover}
+use Rattle.oz_machine.specs.Courses.{asked}
+use Rattle.oz_machine.proofs.DoingLaws.{course_view}
 use Rattle.oz_machine.proofs.QuietLaws.{quiet_turn}
 use Rattle.oz_machine.proofs.quiet.go_on_quietly.Goals as goal
 
 pub returns-clause-turn : goal.returns-clause-turn
-returns-clause-turn c = λ layers changes head is names.
-    let st = c.args.statements.now in
+returns-clause-turn c = λ statements layers changes head is names.
     let id = c.args.mover.now in
     let old = c.args.course.now in
-    let new = c.follow_quietly.new.course in
-    let ensured = c.in_ok-follow_quietly.ensures in
-    quiet_turn st id layers old.levels new.levels old.queue new.queue old.shown changes c.args.started c.args.cost head is names (ensured.levels ∙ c.drop_terminated.ensures)
-    (ensured.queue ∙ ap (λ ls. (old.queue ++ able_in st ls id) ++ able_of st ls c.args.started) (sym ensured.levels))
-    ∙ ap (λ texts. (Moved c.args.cost, record { layers = new.levels; queue = new.queue; shown = texts })) (sym ensured.shown)
+    let new = c.drop_terminated.new.self in
+    let left = c.leave_alone.ensures in
+    quiet_turn statements id layers old.levels new (drop 1 old.queue) (asked statements new (Mover id c.args.started) (drop 1 old.queue)) old.shown changes c.args.started c.args.cost head is names c.drop_terminated.ensures refl
+    ∙ ap (λ d. (Moved c.args.cost, d)) (sym (course_view statements c.leave_alone.new.course new (Mover id c.args.started) (drop 1 old.queue) old.shown left.levels (left.due id c.requires) left.queue left.shown))

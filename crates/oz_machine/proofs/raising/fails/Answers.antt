@@ -1,11 +1,18 @@
-use Rattle.std.proofs.Common.{◌≡◌, ◌∙◌, ap}
+use Rattle.std.proofs.Common.{◌≡◌, ◌∙◌, ap, sym}
+use Rattle.std.specs.Prelude.{is_some}
 use Rattle.oz_semantics.specs.Configurations.{view}
 use Rattle.oz_semantics.specs.Exceptions.{is_failure}
-use Rattle.oz_machine.proofs.PlaceLaws.{place_some}
+use Rattle.oz_machine.proofs.PlaceLaws.{place_view, place_none}
 use Rattle.oz_machine.proofs.raising.fails.Goals as goal
 
+pub returns-in-None : goal.returns-in-None
+returns-in-None c = λ e.
+    let none = ap is_some (place_none c.args.levels.now c.args.space.now (sym c.in-None.is ∙ c.place.ensures)) in
+    absurd (cc)
+
 pub returns-in-Some : goal.returns-in-Some
-returns-in-Some c =
-    let placed = place_some c.args.levels.now c.args.space.now c.in-Some.place c.in-Some.ensures in
-    let sees : c.store_at.result.now ≡ view c.args.levels.now c.args.space.now = c.store_at.ensures placed.0 placed.1.item ∙ ap (view c.args.levels.now) placed.1.name in
-    c.is_failure.ensures ∙ ap (λ ts. is_failure ts c.args.exception.now) sees
+returns-in-Some c = λ e.
+    let levels = c.args.levels.now in
+    let space = c.args.space.now in
+    c.is_failure.ensures
+    ∙ ap (λ ts. is_failure ts c.args.exception.now) (place_view levels space c.in-Some.place c.store_at.result.now (sym c.in-Some.is ∙ c.place.ensures) c.store_at.ensures)

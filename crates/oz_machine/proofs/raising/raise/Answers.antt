@@ -1,50 +1,52 @@
-use Rattle.std.proofs.Common.{◌≡◌, ◌∙◌, List, Option, Some, None, refl, sym, ap, subst}
-use Rattle.oz_semantics.specs.Configurations.{in_layer, with_frames, stack_of}
+use Rattle.std.proofs.Common.{◌≡◌, ◌∙◌, List, drop, Option, Some, None, sym, ap, subst}
+use Rattle.std.specs.Prelude.{is_some}
+use Rattle.oz_semantics.specs.Configurations.{layer_at, stack_of}
 use Rattle.oz_semantics.specs.Exceptions.{unwound}
-use Rattle.oz_semantics.specs.Steps.{raised, raised_to, went_on}
+use Rattle.oz_semantics.specs.Steps.{raised_to, uncaught, went_on, without_top}
 use Rattle.oz_semantics.specs.declared.configuration.Frame.{Frame}
 use Rattle.oz_semantics.specs.declared.configuration.Layer.{Layer}
-use Rattle.settle_laws.specs.Settles.{Settles}
-use Rattle.settle_laws.proofs.EditLaws.{are_quiet}
-use Rattle.settle_laws.proofs.SettleLaws.{quiet_settles, keeps_own}
-use Rattle.oz_machine.specs.Courses.{config_of}
-use Rattle.oz_machine.proofs.DoingLaws.{ok_turn}
+use Rattle.settle_laws.proofs.SettleLaws.{nothing_fails}
+use Rattle.space_core.specs.Advances.{taken_on}
+use Rattle.oz_machine.specs.Courses.{stepping}
+use Rattle.oz_machine.specs.Raising.{EndsOver}
+use Rattle.oz_machine.proofs.StepEdits.{stack_popped, popped_taken, pop_there, ends_popped}
 use Rattle.oz_machine.proofs.raising.raise.Goals as goal
 
-pub returns-then-not-branch-clause-turn : goal.returns-then-not-branch-clause-turn
-returns-then-not-branch-clause-turn c = λ before layers h popped same.
-    let s = c.args.id.now.space in
-    let old = c.args.course.now.levels in
-    let u = rw c.if-not-branch.true at c.in_ok-unwind.ensures.unwound in
-    let left : Settles s before c.unwind.new.self = subst (λ (ls : List Layer). Settles s before ls) (sym u.1) h in
-    let passed : unwound c.args.exception (stack_of before c.args.id.now) ≡ None = ap (unwound c.args.exception) (sym ((keeps_own s before old h).stack c.args.id.now refl)) ∙ u.0 in
-    rw passed (c.end_space.ensures.turn before left)
-
-pub returns-then-kept-clause-turn : goal.returns-then-kept-clause-turn
-returns-then-kept-clause-turn c = λ before layers h popped same.
-    let st = c.args.statements.now in
+pub returns-then-branch-clause-turn : goal.returns-then-branch-clause-turn
+returns-then-branch-clause-turn c = λ statements kept.
     let id = c.args.id.now in
+    let now = c.args.course.now in
     let x = c.args.exception in
-    let now = config_of c.args.course.now in
-    let new = c.unwind.new.self in
-    let u = rw c.if-not-branch.false at c.in_ok-unwind.ensures.unwound in
-    let head = popped c.if-kept.true in
-    let change : Layer → Layer = with_frames id.number (λ (rest : List Frame). u.0) in
-    ok_turn c.go_on_unwound.result (raised st id x before (record now { layers = before })) (went_on st id 1 new (record now { layers = new })) (config_of c.go_on_unwound.new.course)
-    (
-    ap (λ (ls : List Layer). raised st id x ls (record now { layers = ls })) (same c.if-kept.true)
-    ∙ ap (λ (o : Option (List Frame)). raised_to st id x o now.layers now) u.1
-    ∙ ap (λ (ls : List Layer). went_on st id 1 ls (record now { layers = ls })) (sym u.2)
-    )
-    (c.go_on_unwound.ensures.turn layers u.0 head.1 (u.2 ∙ ap (in_layer id.space change) head.0))
+    let wt = without_top id now.levels in
+    let u = rw c.if-branch.true at c.in_ok-unwind_from.ensures.caught in
+    let caught : unwound x (stack_of wt id) ≡ Some u.0 = ap (unwound x) (stack_popped id now.levels c.requires.there) ∙ u.1 in
+    let left : c.unwind_from.new.self ≡ taken_on id u.0 wt = u.2 ∙ sym (popped_taken id u.0 now.levels) in
+    ap (λ (o : Option (List Frame)). raised_to statements id x o wt (stepping now)) caught
+    ∙ ap (λ (ls : List Layer). went_on statements id 1 ls (stepping now)) (sym left)
+    ∙ c.go_on_caught.ensures.turn statements now.levels u.0 kept left
+
+pub end_space-requires : goal.end_space-requires
+end_space-requires c =
+    let id = c.args.id.now in
+    let now = c.args.course.now in
+    let u = rw c.if-branch.false at c.in_ok-unwind_from.ensures.caught in
+    let there = ap (λ (ls : List Layer). is_some (layer_at ls id.space)) u.1 ∙ c.requires.there in
+    record {
+      head = c.requires.head;
+      there = ap (λ (ls : List Layer). is_some (layer_at ls id.space)) c.take_off.ensures ∙ pop_there id c.unwind_from.new.self there;
+      above = subst (λ (ls : List Layer). EndsOver ls id.space c.in_ok-above.above) (sym c.take_off.ensures) (ends_popped id c.unwind_from.new.self c.in_ok-above.above c.in_ok-above.ensures);
+    }
 
 pub returns-clause-turn : goal.returns-clause-turn
-returns-clause-turn c = λ before layers h popped same.
-    let s = c.args.id.now.space in
-    let old = c.args.course.now.levels in
-    let u = rw c.if-not-branch.false at c.in_ok-unwind.ensures.unwound in
-    let change : Layer → Layer = with_frames c.args.id.now.number (λ (rest : List Frame). u.0) in
-    let q = quiet_settles change s before old (are_quiet.frames c.args.id.now.number (λ (rest : List Frame). u.0)) h in
-    let left : Settles s (in_layer s change before) c.unwind.new.self = subst (λ (ls : List Layer). Settles s (in_layer s change before) ls) (sym u.2) q in
-    let caught : unwound c.args.exception (stack_of before c.args.id.now) ≡ Some u.0 = ap (unwound c.args.exception) (sym ((keeps_own s before old h).stack c.args.id.now refl)) ∙ u.1 in
-    rw caught (c.go_on.ensures.turn (in_layer s change before) left)
+returns-clause-turn c = λ statements kept.
+    let id = c.args.id.now in
+    let now = c.args.course.now in
+    let x = c.args.exception in
+    let wt = without_top id now.levels in
+    let popped = c.take_off.new.levels in
+    let u = rw c.if-branch.false at c.in_ok-unwind_from.ensures.caught in
+    let passed : unwound x (stack_of wt id) ≡ None = ap (unwound x) (stack_popped id now.levels c.requires.there) ∙ u.0 in
+    let left : popped ≡ wt = c.take_off.ensures ∙ ap (without_top id) u.1 in
+    ap (λ (o : Option (List Frame)). raised_to statements id x o wt (stepping now)) passed
+    ∙ ap (λ (ls : List Layer). uncaught statements id x ls (stepping now)) (sym left)
+    ∙ c.end_space.ensures.turn statements popped (nothing_fails id.space popped c.consistent.ensures)

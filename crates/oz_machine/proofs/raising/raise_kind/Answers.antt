@@ -1,17 +1,25 @@
-use Rattle.std.proofs.Common.{◌∙◌, [], ap, sym}
-use Rattle.std.proofs.lemmas.Bool.{false≢true}
-use Rattle.oz_semantics.specs.Settling.{with_raised}
-use Rattle.oz_semantics.specs.Steps.{raised, raised_kind}
-use Rattle.oz_machine.specs.Courses.{config_of}
-use Rattle.oz_machine.proofs.DoingLaws.{ok_turn, raised_anywhere}
+use Rattle.std.proofs.Common.{◌≡◌, ◌∙◌, length, sym, ap, arith}
+use Rattle.std.proofs.lemmas.List.{length-map}
+use Rattle.oz_semantics.specs.Names.{named}
+use Rattle.oz_semantics.specs.Exceptions.{raise_term}
+use Rattle.oz_semantics.specs.declared.configuration.Next.{Next}
+use Rattle.oz_raise.specs.Nodes.{node_of, term_of}
+use Rattle.oz_machine.specs.Raising.{IsTermOf}
+use Rattle.oz_machine.proofs.DoingLaws.{new_told}
 use Rattle.oz_machine.proofs.raising.raise_kind.Goals as goal
 
 pub returns-clause-turn : goal.returns-clause-turn
-returns-clause-turn c =
-    let st = c.args.statements.now in
-    let id = c.args.id.now in
-    let now = config_of c.args.course.now in
-    let told = with_raised c.args.kind id.space now.layers in
-    ok_turn c.raise.result (raised_kind st id c.args.kind now.layers now) (raised st id c.in_ok-exception.exception told (record now { layers = told })) (config_of c.raise.new.course)
-    (raised_anywhere st id _ told now.layers told now.queue now.shown ∙ ap (λ x. raised st id x told (record now { layers = told })) (sym c.in_ok-exception.ensures.variable))
-    (c.raise.ensures.turn told [] c.in_ok-exception.ensures.settles (λ known. absurd (false≢true known)) (λ known. absurd (false≢true known)))
+returns-clause-turn c = λ statements.
+    let s = c.args.id.now.space in
+    let old = c.args.course.now.levels in
+    let nodes = c.in_ok-nodes.nodes in
+    let t = raise_term c.args.kind in
+    let width : length nodes.items ≡ length t = sym (length-map nodes.items node_of) ∙ ap length c.in_ok-nodes.ensures in
+    let long : c.len.result ≡ length t = omega (arith, nodes.ok.0, c.len.ensures, width) in
+    let same = new_told old s c.next_of-next.result (term_of c.deref.result.now) t c.in_ok-made.made.tells.items c.next_of-next.ensures
+    (ap term_of c.deref.ensures.value ∙ c.in_ok-nodes.ensures) c.in_ok-made.ensures.tells in
+    c.raise_new.ensures.turn statements c.args.kind (record {
+      variable = c.in_ok-made.ensures.variable ∙ ap (λ (k : Next). named s k.variable) c.next_of-next.ensures;
+      tells = same;
+      count = long;
+    })

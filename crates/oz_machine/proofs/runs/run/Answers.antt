@@ -2,21 +2,36 @@ use Rattle.std.proofs.Common.{◌≡◌, ◌∙◌, ◌-◌, List, true, false, 
 use Rattle.oz_language.specs.declared.kernel.Statement.{Statement}
 use Rattle.oz_semantics.specs.Spaces.{goes_on}
 use Rattle.oz_semantics.specs.Schedule.{turn}
-use Rattle.oz_semantics.specs.Runs.{TopRaised}
+use Rattle.oz_semantics.specs.Runs.{TopRaised, run}
+use Rattle.oz_semantics.specs.declared.configuration.Configuration.{Configuration}
+use Rattle.turn_laws.specs.Kept.{IsKept}
 use Rattle.oz_machine.specs.Courses.{config_of, Keeps}
-use Rattle.oz_machine.proofs.RunLaws.{was_made, not_made, made_within, moved_within, ended_within, ok_run, run_still, run_out, run_quiet, run_stopped, run_went}
+use Rattle.oz_machine.specs.Quiet.{IsHeadAnswer}
+use Rattle.oz_machine.proofs.RunLaws.{was_made, not_made, made_within, moved_within, ended_within, ok_run, run_still, run_out, run_quiet, run_stopped, run_went, none_after, same_after, turn_after, on_err}
 use Rattle.oz_machine.proofs.runs.run.Goals as goal
 
 pub turns-init : goal.turns-init
-turns-init c = record { within = omega arith; same = refl; kept = c.requires }
+turns-init c =
+    let k = c.args.kernel.now in
+    let here = config_of k.statements c.settle.new.course in
+    let there = config_of k.statements c.args.course.now in
+    let same : here ≡ there = ap (λ (st : List Statement). config_of st c.settle.new.course) (sym c.as_slice-statements.ensures) ∙ c.settle.ensures.same ∙ ap (λ (st : List Statement). config_of st c.args.course.now) c.as_slice-statements.ensures in
+    record {
+      within = omega arith;
+      same = ap (λ (b : Configuration). run k c.args.space.now b c.args.fuel) same;
+      kept = λ known. subst (IsKept k.statements) (sym same) (c.requires known);
+      after = none_after k there here same;
+      due = c.in_ok-answered.ensures.due;
+      answered = subst (λ (st : List Statement). IsHeadAnswer st c.settle.new.course.levels c.settle.new.course.queue c.in_ok-answered.answered) c.as_slice-statements.ensures c.in_ok-answered.ensures.answer;
+    }
 
 pub returns-in_default-clause-run : goal.returns-in_default-clause-run
 returns-in_default-clause-run c =
     let k = c.args.kernel.now in
-    let here = config_of c.turns.course in
-    let there = config_of c.step.new.course in
+    let here = config_of k.statements c.turns.course in
+    let there = config_of k.statements c.turn.new.course in
     let goes : goes_on k.statements here.layers c.args.space.now ≡ true
-    = ap (λ (st : List Statement). goes_on st here.layers c.args.space.now) (sym c.as_slice-statements.ensures) ∙ sym (c.in_ok-goes_on.ensures (subst (λ st. Keeps st c.turns.kept c.turns.course) (sym c.as_slice-statements.ensures) c.turns.invariant.kept)) ∙ c.if-branch.true in
+    = ap (λ (st : List Statement). goes_on st here.layers c.args.space.now) (sym c.as_slice-statements.ensures) ∙ sym (c.in_ok-goes_on.ensures c.turns.invariant.due (subst (λ st. Keeps st c.turns.kept c.turns.course) (sym c.as_slice-statements.ensures) c.turns.invariant.kept)) ∙ c.if-branch.true in
     let over = not_made (turn k here) c.turns.left here there c.in_ok-stepped.field-0 c.in_ok-stepped.ensures.turn c.in_default.not-Some in
     sym c.turns.invariant.same ∙ run_out k c.args.space.now c.turns.left here there goes over.0 over.1
 
@@ -29,18 +44,53 @@ turns-smaller c =
 pub turns-preserved : goal.turns-preserved
 turns-preserved c =
     let k = c.args.kernel.now in
-    let here = config_of c.turns.course in
-    let there = config_of c.step.new.course in
+    let here = config_of k.statements c.turns.course in
+    let there = config_of k.statements c.turn.new.course in
+    let next = c.settle-in-Moved.new.course in
     let goes : goes_on k.statements here.layers c.args.space.now ≡ true
-    = ap (λ (st : List Statement). goes_on st here.layers c.args.space.now) (sym c.as_slice-statements.ensures) ∙ sym (c.in_ok-goes_on.ensures (subst (λ st. Keeps st c.turns.kept c.turns.course) (sym c.as_slice-statements.ensures) c.turns.invariant.kept)) ∙ c.if-branch.true in
+    = ap (λ (st : List Statement). goes_on st here.layers c.args.space.now) (sym c.as_slice-statements.ensures) ∙ sym (c.in_ok-goes_on.ensures c.turns.invariant.due (subst (λ st. Keeps st c.turns.kept c.turns.course) (sym c.as_slice-statements.ensures) c.turns.invariant.kept)) ∙ c.if-branch.true in
     let turned = was_made (turn k here) c.turns.left here there c.in_ok-stepped.field-0 c.in-Some.stepped c.in_ok-stepped.ensures.turn c.in-Some.is in
     let made = made_within c.turns.left c.in_ok-stepped.field-0 c.in-Some.stepped c.in_ok-stepped.ensures.cost c.in-Some.is in
     let cost = moved_within c.turns.left c.in-Moved.cost c.in-Some.stepped made c.in-Moved.is in
-    let held = c.turns.invariant.within in record {
+    let held = c.turns.invariant.within in
+    let same : config_of k.statements next ≡ there =
+    subst (λ (st : List Statement). config_of st next ≡ config_of st c.turn.new.course) c.as_slice-statements.ensures c.settle-in-Moved.ensures.same in
+    record {
       within = omega (arith, held);
-      kept = c.in_ok-stepped.ensures.kept;
-      same = run_went k c.args.space.now c.turns.left here there c.in-Moved.cost goes (turned ∙ ap (λ s. (s, there)) c.in-Moved.is) cost.0 cost.1 ∙ c.turns.invariant.same;
+      kept = λ known. subst (IsKept k.statements) (sym same) (c.in_ok-stepped.ensures.kept known);
+      same =
+          ap (λ (b : Configuration). run k c.args.space.now b (c.turns.left - c.in-Moved.cost)) same
+          ∙ run_went k c.args.space.now c.turns.left here there c.in-Moved.cost goes (turned ∙ ap (λ s. (s, there)) c.in-Moved.is) cost.0 cost.1 ∙ c.turns.invariant.same;
+      after = same_after k (config_of k.statements c.args.course.now) there (config_of k.statements next) same (turn_after k (config_of k.statements c.args.course.now) here there c.in-Some.stepped turned c.turns.invariant.after);
+      due = c.in_ok-answered-in-Moved.ensures.due;
+      answered = subst (λ (st : List Statement). IsHeadAnswer st next.levels next.queue c.in_ok-answered-in-Moved.answered) c.as_slice-statements.ensures c.in_ok-answered-in-Moved.ensures.answer;
     }
+
+pub returns-in_err-answered-clause-err : goal.returns-in_err-answered-clause-err
+returns-in_err-answered-clause-err c =
+    let k = c.args.kernel.now in
+    let same = subst (λ (st : List Statement). config_of st c.settle.new.course ≡ config_of st c.args.course.now) c.as_slice-statements.ensures c.settle.ensures.same in
+    on_err c.from_residual.result (none_after k (config_of k.statements c.args.course.now) (config_of k.statements c.settle.new.course) same)
+
+pub returns-in_err-answered-in-Moved-clause-err : goal.returns-in_err-answered-in-Moved-clause-err
+returns-in_err-answered-in-Moved-clause-err c =
+    let k = c.args.kernel.now in
+    let first = config_of k.statements c.args.course.now in
+    let here = config_of k.statements c.turns.course in
+    let there = config_of k.statements c.turn.new.course in
+    let next = c.settle-in-Moved.new.course in
+    let turned = was_made (turn k here) c.turns.left here there c.in_ok-stepped.field-0 c.in-Some.stepped c.in_ok-stepped.ensures.turn c.in-Some.is in
+    let same = subst (λ (st : List Statement). config_of st next ≡ config_of st c.turn.new.course) c.as_slice-statements.ensures c.settle-in-Moved.ensures.same in
+    on_err c.from_residual-in_err-answered-in-Moved.result
+    (same_after k first there (config_of k.statements next) same (turn_after k first here there c.in-Some.stepped turned c.turns.invariant.after))
+
+pub returns-in-Quiescent-clause-err : goal.returns-in-Quiescent-clause-err
+returns-in-Quiescent-clause-err c =
+    let k = c.args.kernel.now in
+    let here = config_of k.statements c.turns.course in
+    let there = config_of k.statements c.turn.new.course in
+    let turned = was_made (turn k here) c.turns.left here there c.in_ok-stepped.field-0 c.in-Some.stepped c.in_ok-stepped.ensures.turn c.in-Some.is in
+    on_err c.ended.result (turn_after k (config_of k.statements c.args.course.now) here there c.in-Some.stepped turned c.turns.invariant.after)
 
 pub ended-requires : goal.ended-requires
 ended-requires c = c.turns.invariant.within
@@ -48,10 +98,10 @@ ended-requires c = c.turns.invariant.within
 pub returns-in-Quiescent-clause-run : goal.returns-in-Quiescent-clause-run
 returns-in-Quiescent-clause-run c =
     let k = c.args.kernel.now in
-    let here = config_of c.turns.course in
-    let there = config_of c.step.new.course in
+    let here = config_of k.statements c.turns.course in
+    let there = config_of k.statements c.turn.new.course in
     let goes : goes_on k.statements here.layers c.args.space.now ≡ true
-    = ap (λ (st : List Statement). goes_on st here.layers c.args.space.now) (sym c.as_slice-statements.ensures) ∙ sym (c.in_ok-goes_on.ensures (subst (λ st. Keeps st c.turns.kept c.turns.course) (sym c.as_slice-statements.ensures) c.turns.invariant.kept)) ∙ c.if-branch.true in
+    = ap (λ (st : List Statement). goes_on st here.layers c.args.space.now) (sym c.as_slice-statements.ensures) ∙ sym (c.in_ok-goes_on.ensures c.turns.invariant.due (subst (λ st. Keeps st c.turns.kept c.turns.course) (sym c.as_slice-statements.ensures) c.turns.invariant.kept)) ∙ c.if-branch.true in
     let turned = was_made (turn k here) c.turns.left here there c.in_ok-stepped.field-0 c.in-Some.stepped c.in_ok-stepped.ensures.turn c.in-Some.is in
     let quiet = run_quiet k c.args.space.now c.turns.left here there goes (turned ∙ ap (λ s. (s, there)) c.in-Quiescent.is) in
     ok_run c.ended.result k there c.args.space.now c.args.fuel _ _ (sym c.turns.invariant.same ∙ quiet) c.ended.ensures
@@ -62,10 +112,10 @@ overflow_sub-steps-in-TopEnded c = let held = c.turns.invariant.within in omega 
 pub returns-in-TopEnded-clause-run : goal.returns-in-TopEnded-clause-run
 returns-in-TopEnded-clause-run c =
     let k = c.args.kernel.now in
-    let here = config_of c.turns.course in
-    let there = config_of c.step.new.course in
+    let here = config_of k.statements c.turns.course in
+    let there = config_of k.statements c.turn.new.course in
     let goes : goes_on k.statements here.layers c.args.space.now ≡ true
-    = ap (λ (st : List Statement). goes_on st here.layers c.args.space.now) (sym c.as_slice-statements.ensures) ∙ sym (c.in_ok-goes_on.ensures (subst (λ st. Keeps st c.turns.kept c.turns.course) (sym c.as_slice-statements.ensures) c.turns.invariant.kept)) ∙ c.if-branch.true in
+    = ap (λ (st : List Statement). goes_on st here.layers c.args.space.now) (sym c.as_slice-statements.ensures) ∙ sym (c.in_ok-goes_on.ensures c.turns.invariant.due (subst (λ st. Keeps st c.turns.kept c.turns.course) (sym c.as_slice-statements.ensures) c.turns.invariant.kept)) ∙ c.if-branch.true in
     let turned = was_made (turn k here) c.turns.left here there c.in_ok-stepped.field-0 c.in-Some.stepped c.in_ok-stepped.ensures.turn c.in-Some.is in
     let made = made_within c.turns.left c.in_ok-stepped.field-0 c.in-Some.stepped c.in_ok-stepped.ensures.cost c.in-Some.is in
     let cost = ended_within c.turns.left c.in-TopEnded.cost c.in-TopEnded.exception c.in-Some.stepped made c.in-TopEnded.is in
@@ -83,7 +133,7 @@ ended-requires-2 c = c.turns.invariant.within
 pub returns-clause-run : goal.returns-clause-run
 returns-clause-run c =
     let k = c.args.kernel.now in
-    let here = config_of c.turns.course in
+    let here = config_of k.statements c.turns.course in
     let still : goes_on k.statements here.layers c.args.space.now ≡ false
-    = ap (λ (st : List Statement). goes_on st here.layers c.args.space.now) (sym c.as_slice-statements.ensures) ∙ sym (c.in_ok-goes_on.ensures (subst (λ st. Keeps st c.turns.kept c.turns.course) (sym c.as_slice-statements.ensures) c.turns.invariant.kept)) ∙ c.if-branch.false in
+    = ap (λ (st : List Statement). goes_on st here.layers c.args.space.now) (sym c.as_slice-statements.ensures) ∙ sym (c.in_ok-goes_on.ensures c.turns.invariant.due (subst (λ st. Keeps st c.turns.kept c.turns.course) (sym c.as_slice-statements.ensures) c.turns.invariant.kept)) ∙ c.if-branch.false in
     ok_run c.ended-2.result k here c.args.space.now c.args.fuel _ _ (sym c.turns.invariant.same ∙ run_still k c.args.space.now c.turns.left here still) c.ended-2.ensures

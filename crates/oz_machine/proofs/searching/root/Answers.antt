@@ -1,5 +1,15 @@
+use Rattle.oz_machine.specs.Courses.{config_of}
 use Rattle.oz_machine.proofs.PlaceLaws.{place_seen}
+use Rattle.oz_machine.proofs.SearchLaws.{root_by}
 use Rattle.oz_machine.proofs.searching.root.Goals as goal
 
 pub create-requires : goal.create-requires
-create-requires c = place_seen c.args.course.now.levels c.top-top.result c.place.result c.place.ensures c.if-is_none.ensures
+create-requires c = place_seen c.settle_only.new.course.levels c.top-top.result c.place.result c.place.ensures c.if-is_none.ensures
+
+pub returns-clause-root : goal.returns-clause-root
+returns-clause-root c =
+    let st = c.args.statements.now in
+    let settled = c.settle_only.new.course in
+    let nobody = c.in_ok-settle_only.ensures.due in
+    root_by st c.args.procedure c.top-top.result c.args.course.now settled c.create.new.self (config_of st c.follow_edit.new.course) c.settle_only.ensures.same nobody c.top-top.ensures c.in_ok-space.ensures.ok
+    (c.follow_edit.ensures st settled.levels nobody)

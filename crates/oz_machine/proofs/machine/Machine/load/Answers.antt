@@ -8,5 +8,5 @@ use Rattle.oz_machine.proofs.machine.Machine.load.Goals as goal
 pub invariant_of-result : goal.invariant_of-result
 invariant_of-result c = λ known.
     let k = c.args.kernel in
-    let made : IsKept k.statements (config_of c.in_ok-course.course) = subst (IsKept k.statements) (sym c.in_ok-course.ensures) (kept_opening k) in
-    subst (λ (p : Kernel). IsKept p.statements (config_of c.in_ok-course.course)) (sym c.in_ok-new.ensures) made
+    let made : IsKept k.statements (config_of k.statements c.in_ok-course.course) = subst (IsKept k.statements) (sym c.in_ok-course.ensures) (kept_opening k) in
+    subst (λ (p : Kernel). IsKept p.statements (config_of p.statements c.in_ok-course.course)) (sym c.in_ok-new.ensures) made

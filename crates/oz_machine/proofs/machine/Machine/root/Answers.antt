@@ -1,17 +1,22 @@
 use Rattle.std.proofs.Common.{◌≡◌, ◌∙◌, List, ap, sym, subst}
+use Rattle.std.specs.Prelude.{OnOk, OnErr}
 use Rattle.oz_language.specs.declared.kernel.Statement.{Statement}
 use Rattle.oz_language.specs.declared.kernel.Kernel.{Kernel}
 use Rattle.oz_semantics.specs.Search.{with_root}
-use Rattle.turn_laws.specs.Kept.{IsKept}
 use Rattle.turn_laws.proofs.KeptLaws.{kept_root}
 use Rattle.oz_machine.specs.Courses.{config_of}
+use Rattle.oz_machine.proofs.SearchLaws.{kept_by}
 use Rattle.oz_machine.proofs.machine.Machine.root.Goals as goal
 
-pub invariant_of-self-2 : goal.invariant_of-self-2
-invariant_of-self-2 c = λ known.
+pub invariant_of-self : goal.invariant_of-self
+invariant_of-self c = λ known.
     let st = c.self.inside.kernel.statements in
-    let old = config_of c.self.inside.course in
+    let old = config_of st c.self.inside.course in
+    let new = config_of st c.root.new.course in
     let same : c.as_slice-statements.result.now ≡ st = c.as_slice-statements.ensures ∙ ap (λ (k : Kernel). k.statements) c.get.ensures in
-    let made : config_of c.root.new.course ≡ with_root st c.args.procedure old
-    = c.in_ok-space.ensures.root ∙ ap (λ (ss : List Statement). with_root ss c.args.procedure old) same in
-    subst (IsKept st) (sym made) (kept_root st c.args.procedure old (c.self.invariant (sym c.replace-was.ensures.value ∙ known)))
+    let made : OnOk c.root.result (new ≡ with_root st c.args.procedure old) =
+    subst (λ (ss : List Statement). OnOk c.root.result (config_of ss c.root.new.course ≡ with_root ss c.args.procedure (config_of ss c.self.inside.course))) same c.root.ensures.root in
+    let refused : OnErr c.root.result (new ≡ old) =
+    subst (λ (ss : List Statement). OnErr c.root.result (config_of ss c.root.new.course ≡ config_of ss c.self.inside.course)) same c.root.ensures.err in
+    let held = c.self.invariant known in
+    kept_by c.root.result st old new (with_root st c.args.procedure old) made refused held (kept_root st c.args.procedure old held)

@@ -1,6 +1,6 @@
 use Rattle.oz_machine.proofs.QuietLaws.{nowhere_steps}
 use Rattle.oz_machine.proofs.PlaceLaws.{place_none}
-use Rattle.oz_machine.proofs.quiet.steps.Goals as goal
+use Rattle.oz_machine.proofs.settling.steps.Goals as goal
 
 pub returns-in_default : goal.returns-in_default
 returns-in_default c =

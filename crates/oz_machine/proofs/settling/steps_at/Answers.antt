@@ -8,7 +8,7 @@ use Rattle.oz_semantics.specs.Readiness.{answer_ready}
 use Rattle.oz_machine.proofs.PlaceLaws.{place_view}
 use Rattle.oz_machine.proofs.TurnLaws.{top_answers}
 use Rattle.oz_machine.proofs.QuietLaws.{empty_steps}
-use Rattle.oz_machine.proofs.quiet.steps_at.Goals as goal
+use Rattle.oz_machine.proofs.settling.steps_at.Goals as goal
 
 pub returns-in_default : goal.returns-in_default
 returns-in_default c = empty_steps (sight c.args.statements.now c.args.levels.now c.args.id.now.space) (stack_of c.args.levels.now c.args.id.now) c.in_default.ensures

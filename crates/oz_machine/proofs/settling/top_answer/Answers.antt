@@ -6,7 +6,7 @@ use Rattle.oz_semantics.specs.Spaces.{sight}
 use Rattle.oz_semantics.specs.Statements.{code_answer, stack_answer}
 use Rattle.oz_machine.proofs.PlaceLaws.{place_view}
 use Rattle.oz_machine.proofs.TurnLaws.{empty_rests, top_answers, ok_answer}
-use Rattle.oz_machine.proofs.turn.top_answer.Goals as goal
+use Rattle.oz_machine.proofs.settling.top_answer.Goals as goal
 
 pub returns-in-None : goal.returns-in-None
 returns-in-None c =

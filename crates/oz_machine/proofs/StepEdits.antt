@@ -1,0 +1,222 @@
+-- What the edits of a step make of the layers, with the statement that it takes off.
+use Rattle.std.proofs.Common.{◌≡◌, ◌∙◌, ◌+◌, inl, inr, ℕ, Bool, true, false, cond, List, [], ◌∷◌, ◌++◌, drop, length, Option, Some, None, is_some, refl, sym, ap, ap₂, subst}
+use Rattle.std.specs.Prelude.{unwrap_or}
+use Rattle.std.specs.List.{find}
+use Rattle.oz_base.specs.Lists.{list_eq}
+use Rattle.oz_base.specs.ListLaws.{list_eq-equivalence}
+use Rattle.oz_base.specs.declared.names.Ident.{Ident}
+use Rattle.oz_semantics.specs.Names.{is_below, is_properly_below, is_top, named, parent_of}
+use Rattle.oz_semantics.specs.Configurations.{is_of, is_numbered, layer_at, layer_of, new_layer, thread_at, frames_in, stack_of, view, in_layer, in_thread, with_frames, telling, giving_out}
+use Rattle.oz_semantics.specs.Answers.{Act, Passes, GoesOn, Declares, Starts, GivesValue, GivesTerm, GivesVariable, MakesProcedure, Shows}
+use Rattle.oz_semantics.specs.Changes.{Change, GivesOut, CountsProcedure, done}
+use Rattle.oz_semantics.specs.Effects.{act_effect}
+use Rattle.oz_semantics.specs.Exceptions.{raise_term, new_term_tells, with_term, unwound}
+use Rattle.oz_semantics.specs.Settling.{failing, with_raised, term_variable}
+use Rattle.oz_semantics.specs.Steps.{without_top}
+use Rattle.oz_semantics.specs.Terms.{Term, term_tells}
+use Rattle.oz_semantics.specs.declared.value.Tell.{Tell}
+use Rattle.oz_semantics.specs.declared.configuration.Frame.{Frame}
+use Rattle.oz_semantics.specs.declared.configuration.Thread.{Thread}
+use Rattle.oz_semantics.specs.declared.configuration.Next.{Next}
+use Rattle.oz_semantics.specs.declared.configuration.Layer.{Layer}
+use Rattle.oz_semantics.specs.declared.outcome.RaiseKind.{RaiseKind}
+use Rattle.view_laws.proofs.NameLaws.{above_parent, equal_names, not_above_parent, properly}
+use Rattle.view_laws.proofs.Members.{decide}
+use Rattle.view_laws.proofs.SightLaws.{change_unseen, failure_unseen}
+use Rattle.settle_laws.specs.Settles.{Settles}
+use Rattle.settle_laws.proofs.ListEdits.{edit_twice, is_found_edit}
+use Rattle.settle_laws.proofs.EditLaws.{edits_join, edits_agree, term_settles, pop_view}
+use Rattle.settle_laws.proofs.SettleLaws.{not_above, settled_same, keeps_own}
+use Rattle.space_core.specs.Advances.{taken_on}
+use Rattle.space_core.specs.Shown.{seen_above}
+use Rattle.oz_machine.specs.Raising.{EndsOver}
+use Rattle.oz_machine.proofs.PlaceLaws.{layer_of_name}
+use Rattle.oz_machine.proofs.QuietLaws.{edited_at, popped_next}
+
+-- A space that is there
+
+pub there : (o : Option Layer) → is_some o ≡ true → (l : Layer) × (o ≡ Some l)
+there (Some l) e = (l, refl)
+there None e = absurd (cc)
+
+-- is what is found there
+pub found_there : (layers : List Layer) (space : List ℕ) → is_some (layer_at layers space) ≡ true → layer_at layers space ≡ Some (layer_of layers space)
+found_there layers space e = let l = there (layer_at layers space) e in l.1 ∙ ap (λ (o : Option Layer). Some (unwrap_or o (new_layer space))) (sym l.1)
+
+-- and an edit that keeps names leaves it there
+pub edit_there : (layers : List Layer) (space other : List ℕ) (edit : Layer → Layer) → ((l : Layer) → (edit l).space ≡ l.space)
+    → is_some (layer_at (in_layer other edit layers) space) ≡ is_some (layer_at layers space)
+edit_there layers space other edit names = is_found_edit (is_of space) (is_of other) edit (λ l. ap (λ s. list_eq s space) (names l)) layers
+
+pub pop_there : (id : Ident) (layers : List Layer) → is_some (layer_at layers id.space) ≡ true → is_some (layer_at (without_top id layers) id.space) ≡ true
+pop_there id layers e = edit_there layers id.space id.space (with_frames id.number (λ frames. drop 1 frames)) (λ l. refl) ∙ e
+
+-- The stack without its top
+
+thread_popped : (n : ℕ) (threads : List Thread)
+    → frames_in (thread_at (in_thread n (λ (t : Thread). record t { frames = drop 1 t.frames }) threads) n) ≡ drop 1 (frames_in (thread_at threads n))
+thread_popped n [] = refl
+thread_popped n (t ∷ ts) = by (is_numbered n t) refl (thread_popped n ts)
+  where
+    by : (b : Bool) → is_numbered n t ≡ b → frames_in (find (is_numbered n) (in_thread n (λ (u : Thread). record u { frames = drop 1 u.frames }) ts)) ≡ drop 1 (frames_in (find (is_numbered n) ts))
+        → frames_in (find (is_numbered n) (cond b (record t { frames = drop 1 t.frames } ∷ ts) (t ∷ in_thread n (λ (u : Thread). record u { frames = drop 1 u.frames }) ts)))
+        ≡ drop 1 (frames_in (cond b (Some t) (find (is_numbered n) ts)))
+    by true e more = ap (λ (b : Bool). frames_in (cond b (Some (record t { frames = drop 1 t.frames })) (find (is_numbered n) ts))) e
+    by false e more = ap (λ (b : Bool). frames_in (cond b (Some t) (find (is_numbered n) (in_thread n (λ (u : Thread). record u { frames = drop 1 u.frames }) ts)))) e ∙ more
+
+pub stack_popped : (id : Ident) (layers : List Layer) → is_some (layer_at layers id.space) ≡ true → stack_of (without_top id layers) id ≡ drop 1 (stack_of layers id)
+stack_popped id layers e =
+    let pops : Layer → Layer = with_frames id.number (λ (frames : List Frame). drop 1 frames) in
+    let at = found_there layers id.space e in
+    let own : is_of id.space (pops (layer_of layers id.space)) ≡ true = subst (λ s. list_eq s id.space ≡ true) (sym (layer_of_name layers id.space)) (list_eq-equivalence.refl id.space) in
+    ap (λ (o : Option Layer). frames_in (thread_at (unwrap_or o (new_layer id.space)).threads id.number)) (edited_at id.space pops (layer_of layers id.space) layers at own)
+    ∙ thread_popped id.number (layer_of layers id.space).threads
+
+-- Another stack may take the place of one whose top was taken off, or was not
+
+threads_taken : (n : ℕ) (frames : List Frame) (threads : List Thread)
+    → in_thread n (λ (t : Thread). record t { frames = frames }) (in_thread n (λ (t : Thread). record t { frames = drop 1 t.frames }) threads)
+    ≡ in_thread n (λ (t : Thread). record t { frames = frames }) threads
+threads_taken n frames threads = edit_twice (is_numbered n) (λ (t : Thread). record t { frames = frames }) (λ (t : Thread). record t { frames = drop 1 t.frames }) (λ t. refl) threads
+
+pub popped_taken : (id : Ident) (frames : List Frame) (layers : List Layer) → taken_on id frames (without_top id layers) ≡ taken_on id frames layers
+popped_taken id frames layers =
+    let takes : Layer → Layer = with_frames id.number (λ rest. frames) in
+    let pops : Layer → Layer = with_frames id.number (λ (stack : List Frame). drop 1 stack) in
+    edits_join id.space takes pops layers (λ l. refl)
+    ∙ edits_agree id.space (λ l. takes (pops l)) takes layers (λ l at. ap (λ (ts : List Thread). record l { threads = ts }) (threads_taken id.number frames l.threads))
+
+-- and so where the space is told something besides, and gives out variables
+pub told_taken : (id : Ident) (frames : List Frame) (ts : List Tell) (n : ℕ) (layers : List Layer)
+    → taken_on id frames (done id ts (GivesOut n ∷ []) (without_top id layers)) ≡ taken_on id frames (done id ts (GivesOut n ∷ []) layers)
+told_taken id frames ts n layers =
+    let takes : Layer → Layer = with_frames id.number (λ rest. frames) in
+    let pops : Layer → Layer = with_frames id.number (λ (stack : List Frame). drop 1 stack) in
+    let gives : Layer → Layer = giving_out n in
+    let tells : Layer → Layer = telling ts in
+    let all : (ls : List Layer) → taken_on id frames (done id ts (GivesOut n ∷ []) ls) ≡ in_layer id.space (λ l. takes (gives (tells l))) ls =
+    λ ls. ap (in_layer id.space takes) (edits_join id.space gives tells ls (λ l. refl)) ∙ edits_join id.space takes (λ l. gives (tells l)) ls (λ l. refl) in
+    all (without_top id layers)
+    ∙ edits_join id.space (λ l. takes (gives (tells l))) pops layers (λ l. refl)
+    ∙ edits_agree id.space (λ l. takes (gives (tells (pops l)))) (λ l. takes (gives (tells l))) layers
+    (λ l at. ap (λ (threads : List Thread). record (gives (tells l)) { threads = threads }) (threads_taken id.number frames l.threads))
+    ∙ sym (all layers)
+
+-- A term that is told
+
+pub term_popped : (id : Ident) (layers : List Layer) → is_some (layer_at layers id.space) ≡ true → term_variable (without_top id layers) id.space ≡ term_variable layers id.space
+term_popped id layers e = ap (λ (k : Next). named id.space k.variable) (popped_next id layers (found_there layers id.space e))
+
+-- by new variables: it does not depend on stacks
+pub tells_popped : (id : Ident) (t : Term) (layers : List Layer) → is_some (layer_at layers id.space) ≡ true
+    → new_term_tells (layer_of layers id.space) t ≡ new_term_tells (layer_of (without_top id layers) id.space) t
+tells_popped id t layers e =
+    ap₂ (λ (s : List ℕ) (k : Next). term_tells s (k.variable + 1) (named s k.variable) t)
+    (layer_of_name layers id.space ∙ sym (layer_of_name (without_top id layers) id.space))
+    (sym (popped_next id layers (found_there layers id.space e)))
+
+-- what was told and given out is the term
+pub term_told : (id : Ident) (kind : RaiseKind) (ts : List Tell) (n : ℕ) (layers : List Layer) → is_some (layer_at layers id.space) ≡ true
+    → ts ≡ new_term_tells (layer_of layers id.space) (raise_term kind) → n ≡ length (raise_term kind)
+    → done id ts (GivesOut n ∷ []) (without_top id layers) ≡ with_raised kind id.space (without_top id layers)
+term_told id kind ts n layers e told count =
+    let popped = without_top id layers in
+    let t = raise_term kind in
+    ap (λ (m : ℕ). in_layer id.space (giving_out m) (in_layer id.space (telling ts) popped)) count
+    ∙ ap (λ (us : List Tell). in_layer id.space (giving_out (length t)) (in_layer id.space (telling us) popped)) (told ∙ tells_popped id t layers e)
+    ∙ term_settles id.space t popped (layer_of popped id.space) (found_there popped id.space (pop_there id layers e))
+
+-- it leaves the thread's stack
+pub raised_stack : (id : Ident) (kind : RaiseKind) (layers : List Layer) → is_some (layer_at layers id.space) ≡ true → stack_of (with_raised kind id.space layers) id ≡ stack_of layers id
+raised_stack id kind layers e =
+    let edit : Layer → Layer = with_term (raise_term kind) in
+    let own : is_of id.space (edit (layer_of layers id.space)) ≡ true = subst (λ s. list_eq s id.space ≡ true) (sym (layer_of_name layers id.space)) (list_eq-equivalence.refl id.space) in
+    ap (λ (o : Option Layer). frames_in (thread_at (unwrap_or o (new_layer id.space)).threads id.number)) (edited_at id.space edit (layer_of layers id.space) layers (found_there layers id.space e) own)
+
+-- by which the exception goes where it went without it
+pub raised_unwound : (id : Ident) (kind : RaiseKind) (x : Ident) (layers : List Layer) → is_some (layer_at layers id.space) ≡ true
+    → unwound x (stack_of (with_raised kind id.space (without_top id layers)) id) ≡ unwound x (drop 1 (stack_of layers id))
+raised_unwound id kind x layers e = ap (unwound x) (raised_stack id kind (without_top id layers) (pop_there id layers e) ∙ stack_popped id layers e)
+
+-- and the handler goes on
+pub raised_taken : (id : Ident) (kind : RaiseKind) (ts : List Tell) (n : ℕ) (frames : List Frame) (layers : List Layer) → is_some (layer_at layers id.space) ≡ true
+    → ts ≡ new_term_tells (layer_of layers id.space) (raise_term kind) → n ≡ length (raise_term kind)
+    → taken_on id frames (done id ts (GivesOut n ∷ []) layers) ≡ taken_on id frames (with_raised kind id.space (without_top id layers))
+raised_taken id kind ts n frames layers e told count = sym (told_taken id frames ts n layers) ∙ ap (taken_on id frames) (term_told id kind ts n layers e told count)
+
+-- What is seen above a space
+
+-- no change of the space is seen there
+edit_above : (space : List ℕ) (edit : Layer → Layer) (layers : List Layer) → ((l : Layer) → (edit l).space ≡ l.space) → seen_above (in_layer space edit layers) space ≡ seen_above layers space
+edit_above [] edit layers names = refl
+edit_above (n ∷ s) edit layers names =
+    change_unseen edit layers (n ∷ s) (parent_of (n ∷ s)) (λ l at. names l) (not_above_parent (n ∷ s) refl)
+
+-- nor that spaces below it fail
+failing_above : (space t : List ℕ) (layers : List Layer) → is_properly_below space t ≡ true → seen_above (failing layers t) space ≡ seen_above layers space
+failing_above [] t layers lower = refl
+failing_above (n ∷ s) t layers lower = failure_unseen layers t (parent_of (n ∷ s)) (sym (above_parent t (n ∷ s) other) ∙ not_above (n ∷ s) t lower)
+  where
+    other : list_eq t (n ∷ s) ≡ false
+    other = elim (decide (list_eq t (n ∷ s))) [
+      | inl e ↦ absurd ((properly (n ∷ s) t lower).1 (sym (equal_names t (n ∷ s) e)))
+      | inr e ↦ e
+    ]
+
+pub settled_above : (space : List ℕ) (before after : List Layer) → Settles space before after → seen_above after space ≡ seen_above before space
+settled_above space before after h = settled_same space before after h (λ ls. seen_above ls space) (λ t ls lower. failing_above space t ls lower)
+
+pub pop_above : (id : Ident) (layers : List Layer) → seen_above (without_top id layers) id.space ≡ seen_above layers id.space
+pop_above id layers = edit_above id.space (with_frames id.number (λ frames. drop 1 frames)) layers (λ l. refl)
+
+-- of a space that was told something in place of a statement
+pub told_above : (id : Ident) (ts : List Tell) (n : ℕ) (layers after : List Layer) → Settles id.space (done id ts (GivesOut n ∷ []) (without_top id layers)) after
+    → seen_above after id.space ≡ seen_above layers id.space
+told_above id ts n layers after h =
+    let popped = without_top id layers in
+    let told = in_layer id.space (telling ts) popped in
+    settled_above id.space (in_layer id.space (giving_out n) told) after h
+    ∙ edit_above id.space (giving_out n) told (λ l. refl) ∙ edit_above id.space (telling ts) popped (λ l. refl) ∙ pop_above id layers
+
+pub told_there : (id : Ident) (ts : List Tell) (n : ℕ) (layers after : List Layer) → Settles id.space (done id ts (GivesOut n ∷ []) (without_top id layers)) after
+    → is_some (layer_at layers id.space) ≡ true → is_some (layer_at after id.space) ≡ true
+told_there id ts n layers after h e =
+    let popped = without_top id layers in
+    let told = in_layer id.space (telling ts) popped in
+    ap is_some (keeps_own id.space (in_layer id.space (giving_out n) told) after h).at
+    ∙ edit_there told id.space id.space (giving_out n) (λ l. refl) ∙ edit_there popped id.space id.space (telling ts) (λ l. refl) ∙ pop_there id layers e
+
+-- so a child may end over what was seen above it before
+ends_same : (layers after : List Layer) (space : List ℕ) (above : Option (List Tell)) → seen_above after space ≡ seen_above layers space → EndsOver layers space above → EndsOver after space above
+ends_same layers after space None e h = h
+ends_same layers after space (Some above) e h = (h.0, h.1 ∙ sym e)
+
+pub ends_popped : (id : Ident) (layers : List Layer) (above : Option (List Tell)) → EndsOver layers id.space above → EndsOver (without_top id layers) id.space above
+ends_popped id layers above h = ends_same layers (without_top id layers) id.space above (pop_above id layers) h
+
+pub ends_told : (id : Ident) (ts : List Tell) (n : ℕ) (layers after : List Layer) (above : Option (List Tell))
+    → Settles id.space (done id ts (GivesOut n ∷ []) (without_top id layers)) after → EndsOver layers id.space above → EndsOver after id.space above
+ends_told id ts n layers after above settles h = ends_same layers after id.space above (told_above id ts n layers after settles) h
+
+-- The effect of an act
+
+-- depends on the name of the space and its next numbers alone
+effect_by : (l : Layer) (act : Act) → act_effect l act ≡ act_effect (record (new_layer l.space) { next = l.next }) act
+effect_by l Passes = refl
+effect_by l (GoesOn frames) = refl
+effect_by l (Declares environment names body) = refl
+effect_by l (Starts frames) = refl
+effect_by l (GivesValue x v) = refl
+effect_by l (GivesTerm x t) = refl
+effect_by l (GivesVariable x y) = refl
+effect_by l (MakesProcedure x parameters body environment) = refl
+effect_by l (Shows x) = refl
+
+-- and so not on stacks
+pub effect_popped : (id : Ident) (layers : List Layer) (act : Act) → is_some (layer_at layers id.space) ≡ true
+    → act_effect (layer_of (without_top id layers) id.space) act ≡ act_effect (layer_of layers id.space) act
+effect_popped id layers act e =
+    effect_by (layer_of (without_top id layers) id.space) act
+    ∙ ap₂ (λ (s : List ℕ) (k : Next). act_effect (record (new_layer s) { next = k }) act)
+    (layer_of_name (without_top id layers) id.space ∙ sym (layer_of_name layers id.space)) (popped_next id layers (found_there layers id.space e))
+    ∙ sym (effect_by (layer_of layers id.space) act)
