@@ -12,3 +12,5 @@ pub use call::{Outcome, oz_call};
 
 #[cfg(test)]
 mod tests;
+#[cfg(test)]
+mod workers_tests;

@@ -3,10 +3,12 @@
 
 mod explorer;
 mod frozen;
+mod node;
 mod waypoint;
 
 pub use explorer::{Explorer, Solved};
 pub use frozen::Frozen;
+pub use node::{NodeAtRest, run_to_rest};
 
 #[cfg(test)]
 mod tests;
