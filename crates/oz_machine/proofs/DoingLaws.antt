@@ -9,8 +9,8 @@ use Rattle.oz_language.specs.declared.kernel.Statement.{Statement}
 use Rattle.oz_semantics.specs.Names.{named}
 use Rattle.oz_semantics.specs.Terms.{Term, term_tells}
 use Rattle.oz_semantics.specs.Configurations.{layer_at, layer_of, new_layer, frames_in, thread_at, view}
-use Rattle.oz_semantics.specs.Effects.{Effect, Makes, Tells, ShowsText, act_effect}
-use Rattle.oz_semantics.specs.Changes.{Change, changed_all, done}
+use Rattle.oz_semantics.specs.Effects.{Effect, Makes, Tells, ShowsText}
+use Rattle.oz_semantics.specs.Changes.{Change, done}
 use Rattle.oz_semantics.specs.Exceptions.{new_term_tells}
 use Rattle.oz_semantics.specs.Settling.{Turned, inconsistent_spaces, settled, top_failed, top_is_inconsistent, requeued, without_inconsistent}
 use Rattle.oz_semantics.specs.Statements.{stack_answer}

@@ -1,14 +1,14 @@
 -- What the edits of a step make of the layers, with the statement that it takes off.
-use Rattle.std.proofs.Common.{◌≡◌, ◌∙◌, ◌+◌, inl, inr, ℕ, Bool, true, false, cond, List, [], ◌∷◌, ◌++◌, drop, length, Option, Some, None, is_some, refl, sym, ap, ap₂, subst}
+use Rattle.std.proofs.Common.{◌≡◌, ◌∙◌, ◌+◌, inl, inr, ℕ, Bool, true, false, cond, List, [], ◌∷◌, drop, length, Option, Some, None, is_some, refl, sym, ap, ap₂, subst}
 use Rattle.std.specs.Prelude.{unwrap_or}
 use Rattle.std.specs.List.{find}
 use Rattle.oz_base.specs.Lists.{list_eq}
 use Rattle.oz_base.specs.ListLaws.{list_eq-equivalence}
 use Rattle.oz_base.specs.declared.names.Ident.{Ident}
-use Rattle.oz_semantics.specs.Names.{is_below, is_properly_below, is_top, named, parent_of}
-use Rattle.oz_semantics.specs.Configurations.{is_of, is_numbered, layer_at, layer_of, new_layer, thread_at, frames_in, stack_of, view, in_layer, in_thread, with_frames, telling, giving_out}
+use Rattle.oz_semantics.specs.Names.{is_properly_below, named, parent_of}
+use Rattle.oz_semantics.specs.Configurations.{is_of, is_numbered, layer_at, layer_of, new_layer, thread_at, frames_in, stack_of, in_layer, in_thread, with_frames, telling, giving_out}
 use Rattle.oz_semantics.specs.Answers.{Act, Passes, GoesOn, Declares, Starts, GivesValue, GivesTerm, GivesVariable, MakesProcedure, Shows}
-use Rattle.oz_semantics.specs.Changes.{Change, GivesOut, CountsProcedure, done}
+use Rattle.oz_semantics.specs.Changes.{GivesOut, done}
 use Rattle.oz_semantics.specs.Effects.{act_effect}
 use Rattle.oz_semantics.specs.Exceptions.{raise_term, new_term_tells, with_term, unwound}
 use Rattle.oz_semantics.specs.Settling.{failing, with_raised, term_variable}
@@ -25,7 +25,7 @@ use Rattle.view_laws.proofs.Members.{decide}
 use Rattle.view_laws.proofs.SightLaws.{change_unseen, failure_unseen}
 use Rattle.settle_laws.specs.Settles.{Settles}
 use Rattle.settle_laws.proofs.ListEdits.{edit_twice, is_found_edit}
-use Rattle.settle_laws.proofs.EditLaws.{edits_join, edits_agree, term_settles, pop_view}
+use Rattle.settle_laws.proofs.EditLaws.{edits_join, edits_agree, term_settles}
 use Rattle.settle_laws.proofs.SettleLaws.{not_above, settled_same, keeps_own}
 use Rattle.space_core.specs.Advances.{taken_on}
 use Rattle.space_core.specs.Shown.{seen_above}

@@ -1,12 +1,9 @@
-use Rattle.std.proofs.Common.{◌≡◌, ◌∙◌, [], ◌∷◌, true, refl, sym, ap, subst}
-use Rattle.std.specs.Prelude.{IfOk}
+use Rattle.std.proofs.Common.{◌≡◌, ◌∙◌, true, sym, ap, subst}
 use Rattle.oz_semantics.specs.Configurations.{layer_of}
 use Rattle.oz_semantics.specs.Effects.{act_effect}
 use Rattle.oz_semantics.specs.Answers as answers
-use Rattle.oz_semantics.specs.declared.value.Tell.TheVariants.{Is, Equal}
 use Rattle.builtins.specs.Answers.{act_of}
 use Rattle.oz_machine.specs.Doings.{IsDone}
-use Rattle.oz_machine.proofs.DoingLaws.{tells_done}
 use Rattle.oz_machine.proofs.acts.act.Goals as goal
 
 pub returns-in-Passes-clause-ok : goal.returns-in-Passes-clause-ok

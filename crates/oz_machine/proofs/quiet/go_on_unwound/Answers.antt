@@ -1,4 +1,4 @@
-use Rattle.std.proofs.Common.{◌∙◌, ◌++◌, None, drop, refl, ap, sym}
+use Rattle.std.proofs.Common.{◌∙◌, ◌++◌, None, drop, ap, sym}
 use Rattle.std.proofs.lemmas.List.{append-nil}
 use Rattle.oz_semantics.specs.declared.outcome.Stepped.TheVariants.{Moved}
 use Rattle.oz_machine.specs.declared.course.Due.TheVariants.{Mover}

@@ -1,6 +1,5 @@
-use Rattle.std.proofs.Common.{◌≡◌, ◌∙◌, ap, sym}
+use Rattle.std.proofs.Common.{◌∙◌, ap, sym}
 use Rattle.std.specs.Prelude.{is_some}
-use Rattle.oz_semantics.specs.Configurations.{view}
 use Rattle.oz_semantics.specs.Exceptions.{is_failure}
 use Rattle.oz_machine.proofs.PlaceLaws.{place_view, place_none}
 use Rattle.oz_machine.proofs.raising.fails.Goals as goal

@@ -4,7 +4,6 @@ use Rattle.oz_semantics.specs.Names.{named}
 use Rattle.oz_semantics.specs.Exceptions.{raise_term}
 use Rattle.oz_semantics.specs.declared.configuration.Next.{Next}
 use Rattle.oz_raise.specs.Nodes.{node_of, term_of}
-use Rattle.oz_machine.specs.Raising.{IsTermOf}
 use Rattle.oz_machine.proofs.DoingLaws.{new_told}
 use Rattle.oz_machine.proofs.raising.raise_kind.Goals as goal
 

@@ -1,17 +1,16 @@
-use Rattle.std.proofs.Common.{◌≡◌, ◌∙◌, [], ◌∷◌, List, drop, Option, Some, None, sym, ap, subst}
+use Rattle.std.proofs.Common.{◌∙◌, [], ◌∷◌, List, Option, sym, ap, subst}
 use Rattle.std.specs.Prelude.{is_some}
 use Rattle.oz_base.specs.declared.names.Ident.{Ident}
-use Rattle.oz_semantics.specs.Configurations.{layer_at, stack_of}
+use Rattle.oz_semantics.specs.Configurations.{layer_at}
 use Rattle.oz_semantics.specs.Changes.{GivesOut, done}
-use Rattle.oz_semantics.specs.Exceptions.{unwound}
 use Rattle.oz_semantics.specs.Settling.{with_raised}
-use Rattle.oz_semantics.specs.Steps.{raised, raised_to, uncaught, went_on, without_top}
+use Rattle.oz_semantics.specs.Steps.{raised, raised_to, without_top}
 use Rattle.oz_semantics.specs.declared.configuration.Frame.{Frame}
 use Rattle.oz_semantics.specs.declared.configuration.Layer.{Layer}
 use Rattle.settle_laws.specs.Settles.{Settles}
 use Rattle.space_core.specs.Advances.{taken_on}
 use Rattle.oz_machine.specs.Courses.{stepping}
-use Rattle.oz_machine.proofs.StepEdits.{pop_there, raised_taken, raised_unwound, term_popped, term_told, told_there, ends_told}
+use Rattle.oz_machine.proofs.StepEdits.{raised_taken, raised_unwound, term_popped, term_told, told_there, ends_told}
 use Rattle.oz_machine.proofs.raising.raise_new.Goals as goal
 
 pub returns-then-branch-clause-turn : goal.returns-then-branch-clause-turn

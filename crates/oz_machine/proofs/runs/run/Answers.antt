@@ -1,4 +1,4 @@
-use Rattle.std.proofs.Common.{◌≡◌, ◌∙◌, ◌-◌, List, true, false, sym, ap, subst, refl, arith}
+use Rattle.std.proofs.Common.{◌≡◌, ◌∙◌, ◌-◌, List, true, false, sym, ap, subst, arith}
 use Rattle.oz_language.specs.declared.kernel.Statement.{Statement}
 use Rattle.oz_semantics.specs.Spaces.{goes_on}
 use Rattle.oz_semantics.specs.Schedule.{turn}

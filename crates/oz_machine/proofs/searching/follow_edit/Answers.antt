@@ -1,4 +1,4 @@
-use Rattle.std.proofs.Common.{◌≡◌, refl}
+use Rattle.std.proofs.Common.{refl}
 use Rattle.oz_machine.proofs.SearchLaws.{follows_edit}
 use Rattle.oz_machine.proofs.searching.follow_edit.Goals as goal
 

@@ -1,4 +1,4 @@
-use Rattle.std.proofs.Common.{◌≡◌, ◌∙◌, ◌++◌, [], ◌∷◌, List, Some, ap, sym}
+use Rattle.std.proofs.Common.{◌≡◌, ◌∙◌, ◌++◌, [], ◌∷◌, List, ap}
 use Rattle.oz_base.specs.declared.names.Ident.{Ident}
 use Rattle.oz_machine.proofs.TurnLaws.{alone_answer, alone_joins}
 use Rattle.oz_machine.proofs.settling.join_alone.Goals as goal

@@ -1,8 +1,3 @@
-use Rattle.std.proofs.Common.{ap, sym, refl}
-use Rattle.std.specs.Prelude.{unwrap_or}
-use Rattle.oz_semantics.specs.Configurations.{frames_in, new_layer, thread_at}
-use Rattle.oz_semantics.specs.Spaces.{sight}
-use Rattle.oz_semantics.specs.Statements.{stack_answer}
 use Rattle.oz_machine.proofs.PlaceLaws.{place_none}
 use Rattle.oz_machine.proofs.TurnLaws.{nowhere_answers}
 use Rattle.oz_machine.proofs.settling.thread_answer.Goals as goal

@@ -1,4 +1,4 @@
-use Rattle.std.proofs.Common.{◌≡◌, ◌∙◌, ◌&&◌, not, Bool, true, false, if◌then◌else◌, List, ◌++◌, ap, sym, subst}
+use Rattle.std.proofs.Common.{◌≡◌, ◌∙◌, ◌&&◌, not, Bool, true, false, if◌then◌else◌, List, ap, sym, subst}
 use Rattle.std.specs.Prelude.{is_some, OnErr}
 use Rattle.oz_semantics.specs.Configurations.{layer_at, layer_of}
 use Rattle.oz_semantics.specs.Effects.{act_effect}

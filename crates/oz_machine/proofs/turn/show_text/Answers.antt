@@ -3,7 +3,7 @@ use Rattle.oz_semantics.specs.Steps.{went_on, without_top}
 use Rattle.oz_semantics.specs.declared.configuration.Layer.{Layer}
 use Rattle.settle_laws.proofs.SettleLaws.{nothing_fails}
 use Rattle.turn_laws.proofs.HeadLaws.{kept_shown}
-use Rattle.oz_machine.specs.Courses.{config_of, stepping}
+use Rattle.oz_machine.specs.Courses.{stepping}
 use Rattle.oz_machine.proofs.turn.show_text.Goals as goal
 
 pub returns-then-kept-clause-turn : goal.returns-then-kept-clause-turn
