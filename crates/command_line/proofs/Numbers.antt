@@ -13,8 +13,7 @@ use Rattle.clap.specs.Walk.{row_text}
 use Rattle.clap.specs.declared.parser.matches.ArgMatches.{ArgMatches}
 use Rattle.clap.specs.declared.parser.matches.ArgMatches.TheViews.{out-ArgMatches, out-SubCommand}
 use Rattle.clap.specs.declared.parser.matches.SubCommand.{SubCommand}
-use Rattle.oz_language.specs.Commands.{Given, HasTaken, IsTaken, OptionName, Spells, Verb, Word, all, run, kernel, workers, budget, command_by, default, fit, is_number, most, same_name, takes, value_in, verb_word}
-use Rattle.oz_language.specs.declared.command.Command.{Command}
+use Rattle.oz_language.specs.Commands.{Given, OptionName, Verb, all, run, kernel, workers, budget, default, fit, is_number, most, same_name, takes, value_in, verb_word}
 use Rattle.command_line.specs.Reading.{number_in, verb_of}
 use Rattle.command_line.specs.Table.{id_of, row_for, rows_for}
 use Rattle.command_line.proofs.Uses.{has_plus, ids_same, most_fits, no_plus}
@@ -138,30 +137,3 @@ value_most v n given ok = subst (λ o. unwrap_or o (default n) ≤ most n) (numb
     go : (o : Option Text) → text_in given n ≡ o → unwrap_or (option_map (digits_value 10) o) (default n) ≤ most n
     go None e = default_most n
     go (Some t) e = number_most n t (text_is_number v n given t ok e)
-
-number_least : (n : OptionName) (t : Text) → is_number n t ≡ true → 1 ≤ digits_value 10 t
-number_least n t e = leb-true _ _ (both _ _ (both _ _ e).0).1
-
-default_least : (n : OptionName) → 1 ≤ default n
-default_least workers = omega arith
-default_least budget = omega arith
-
--- and at least 1
-value_least : (v : Verb) (n : OptionName) (given : List Given) → fit v given ≡ true → 1 ≤ value_in given n
-value_least v n given ok = subst (λ o. 1 ≤ unwrap_or o (default n)) (number_text n given) (go (text_in given n) refl)
-  where
-    go : (o : Option Text) → text_in given n ≡ o → 1 ≤ unwrap_or (option_map (digits_value 10) o) (default n)
-    go None e = default_least n
-    go (Some t) e = number_least n t (text_is_number v n given t ok e)
-
-value_taken : (v : Verb) (n : OptionName) (given : List Given) → fit v given ≡ true → IsTaken n (value_in given n)
-value_taken v n given ok = (value_least v n given ok, value_most v n given ok)
-
--- the numbers of a command that words spell are such as its options take
-numbers_by : (v : Verb) (given : List Given) → fit v given ≡ true → HasTaken (command_by v given)
-numbers_by all given ok = (value_taken all workers given ok, value_taken all budget given ok)
-numbers_by run given ok = value_taken run budget given ok
-numbers_by kernel given ok = tt
-
-pub numbers_taken : (words : List Word) (c : Command) → Spells words c → HasTaken c
-numbers_taken words c s = subst HasTaken s.meant (numbers_by s.verb s.given s.fitting)

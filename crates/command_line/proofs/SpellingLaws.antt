@@ -6,9 +6,8 @@ use Rattle.std.specs.Str.{bytes_eq}
 use Rattle.std.proofs.lemmas.Bool.{eqb-true}
 use Rattle.std.proofs.lemmas.Slice.Eq.{bytes_eq-Decides}
 use Rattle.oz_language.specs.declared.command.Command.{Command}
-use Rattle.oz_language.specs.Commands.{Given, HasTaken, IsSpelled, OptionName, Spells, Verb, Word, all, run, kernel, workers, budget, are_distinct, command_by, fit, is_number, option_word, same_name, takes, verb_word, words_by, words_of}
+use Rattle.oz_language.specs.Commands.{Given, IsSpelled, OptionName, Spells, Verb, Word, all, run, kernel, workers, budget, are_distinct, command_by, fit, is_number, option_word, same_name, takes, verb_word, words_by, words_of}
 use Rattle.command_line.specs.Reading.{apart, command_of, is_given, joined, option_name, option_read, options_of, value_part, verb_of, with_option}
-use Rattle.command_line.proofs.Numbers.{numbers_taken}
 use Rattle.command_line.proofs.WordKinds.{after_cons, before_cons}
 use Rattle.command_line.proofs.ReadingFacts.{given_more}
 use Rattle.command_line.proofs.ReadingLaws.{verb_is}
@@ -245,7 +244,3 @@ spells_only words None e = tt
 spells_only words (Some c) e = λ d s.
     let one : Some d ≡ Some c = sym (spelled words d s) ∙ sym e in
     cc
-
-pub spells_taken : (words : List Word) (r : Option Command) → r ≡ command_of words → IfSome r HasTaken
-spells_taken words None e = tt
-spells_taken words (Some c) e = numbers_taken words c (spells words c (sym e))

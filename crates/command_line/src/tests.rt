@@ -13,23 +13,16 @@ fn command(alloc: Global, words: &[&str]) -> Result<Option<Command>, Fail> {
 
 #[test]
 fn words_that_spell_a_command(rt: HostRuntime) -> Result<(), Fail> {
-    let cases: [(&[&str], u32, u64); 9] = [
-        (&["all"], 1, 1_000_000),
-        (&["all", "--budget", "5"], 1, 5),
-        (&["all", "--budget=5", "--workers", "1"], 1, 5),
-        (&["all", "--workers=1"], 1, 1_000_000),
-        (&["all", "--workers", "2"], 2, 1_000_000),
-        (&["all", "--workers=64", "--budget", "7"], 64, 7),
-        (&["all", "--workers", "0008"], 8, 1_000_000),
-        (&["all", "--budget", "000000000000000000000000000005"], 1, 5),
-        (
-            &["all", "--budget", "281474976710656"],
-            1,
-            281_474_976_710_656,
-        ),
+    let cases: [(&[&str], u64); 6] = [
+        (&["all"], 1_000_000),
+        (&["all", "--budget", "5"], 5),
+        (&["all", "--budget=5", "--workers", "1"], 5),
+        (&["all", "--workers=1"], 1_000_000),
+        (&["all", "--budget", "000000000000000000000000000005"], 5),
+        (&["all", "--budget", "281474976710656"], 281_474_976_710_656),
     ];
-    for (words, workers, budget) in cases {
-        let expected = Some(Command::All { workers, budget });
+    for (words, budget) in cases {
+        let expected = Some(Command::All { workers: 1, budget });
         assert_eq!(rt; command(rt.alloc(), words)?, expected);
     }
     Ok(())
@@ -51,7 +44,7 @@ fn words_that_spell_a_run(rt: HostRuntime) -> Result<(), Fail> {
 
 #[test]
 fn words_that_spell_none(rt: HostRuntime) -> Result<(), Fail> {
-    let cases: [&[&str]; 26] = [
+    let cases: [&[&str]; 22] = [
         &[],
         &[""],
         &["All"],
@@ -64,11 +57,7 @@ fn words_that_spell_none(rt: HostRuntime) -> Result<(), Fail> {
         &["all", "--budget", "5", "--budget", "5"],
         &["all", "--budget", "281474976710657"],
         &["all", "--budg", "5"],
-        &["all", "--workers", "0"],
-        &["all", "--workers", "65"],
-        &["all", "--workers=4294967297"],
-        &["all", "--workers", "two"],
-        &["all", "--workers", ""],
+        &["all", "--workers", "2"],
         &["all", "-budget", "5"],
         &["all", "--budget", "--workers", "1"],
         &["all", "--help"],

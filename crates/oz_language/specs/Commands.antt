@@ -1,6 +1,6 @@
 -- The command line: the name of a command, and then its options in any order, each at most once, as two words `--name NUMBER`
 -- or as one word `--name=NUMBER`.
-use Rattle.std.specs.Prelude.{ℕ, ◌≡◌, ◌≤◌, ◌&&◌, Bool, true, false, not, nat_lt, nat_le, List, [], ◌∷◌, ◌++◌, length, codes, Some, None, Option, option_map, unwrap_or, find}
+use Rattle.std.specs.Prelude.{ℕ, ◌≡◌, ◌&&◌, Bool, true, false, not, nat_lt, nat_le, List, [], ◌∷◌, ◌++◌, length, codes, Some, None, Option, option_map, unwrap_or, find}
 use Rattle.std.specs.List.{list_all, list_any, flat_map}
 use Rattle.std.specs.Str.Parse.{digits_value}
 use Rattle.std.specs.Char.{is_digit}
@@ -45,7 +45,7 @@ takes kernel name = false
 
 -- the greatest number that an option takes
 abbrev pub most : OptionName → ℕ
-most workers = 64
+most workers = 1
 most budget = 281474976710656
 
 -- the number where the option is not given
@@ -58,16 +58,6 @@ abbrev pub is_number : OptionName → Word → Bool
 is_number name word =
     nat_lt 0 (length word) && list_all (λ d. is_digit d 10) word
     && nat_le 1 (digits_value 10 word) && nat_le (digits_value 10 word) (most name)
-
--- a number that the option takes
-abbrev pub IsTaken : OptionName → ℕ → Type 0
-IsTaken name n = (1 ≤ n) × (n ≤ most name)
-
--- the numbers of a command are such as its options take
-abbrev pub HasTaken : Command → Type 0
-HasTaken (command.All n steps) = IsTaken workers n × IsTaken budget steps
-HasTaken (command.Run steps) = IsTaken budget steps
-HasTaken command.Kernel = Unit {0}
 
 -- Options as they stand in the words
 

@@ -31,8 +31,7 @@ use Rattle.oz_machine.specs.Courses.{Loaded}
 use Rattle.oz_machine.specs.Answers.{IsRun, IsScript}
 use Rattle.machine_search.specs.Visits.{found_below}
 use Rattle.oz_base.specs.declared.names.Ident.{Ident}
-use Rattle.search_all.specs.Answers.{leaves_of}
-use Rattle.oz_top.specs.Searching.{answer_of_leaves}
+use Rattle.oz_top.specs.Searching.{leaves_of, answer_of_leaves}
 use Rattle.oz_top.proofs.Visiting.{script_answer}
 use Rattle.oz_machine.specs.declared.runs.Ran.TheVariants as ran
 use Rattle.oz_top.specs.Call.{Reading, Writing, answered, minded, answer_of, HasRead, ProgramGives, TextGives, ReadGives, AsText, IsCommand, Plans, IsDue, IsRead, IsBounded, Ends, IsExcused}

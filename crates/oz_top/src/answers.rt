@@ -1,6 +1,5 @@
 //! What a command answers for a program.
-ghost use Rattle.std.specs.Prelude.{◌≡◌, ◌≤◌, ◌^◌, ◌++◌, [], IfOk, OnOk, codes};
-ghost use Rattle.oz_language.specs.Commands.{HasTaken};
+ghost use Rattle.std.specs.Prelude.{◌≡◌, ◌++◌, [], IfOk, OnOk, codes};
 ghost use Rattle.oz_language.specs.Refusals.{Program};
 ghost use Rattle.oz_language.specs.Translation.{kernel_of};
 ghost use Rattle.oz_semantics.specs.Configurations.{view};
@@ -10,24 +9,18 @@ ghost use Rattle.oz_semantics.specs.Texts.{term_text};
 ghost use Rattle.machine_search.specs.Visits.{found_below};
 ghost use Rattle.oz_replies.specs.Replies.{shown_lines, spent, answer_of_raise, searched, all_answer, run_answer, kernel_answer};
 ghost use Rattle.oz_machine.specs.Answers.{IsRun};
-ghost use Rattle.search_all.specs.Answers.{leaves_of};
-ghost use Rattle.oz_top.specs.Searching.{answer_of_leaves};
+ghost use Rattle.oz_top.specs.Searching.{leaves_of, answer_of_leaves};
 ghost use Rattle.oz_top.specs.Call.{answered};
 
 use crate::reply::{add_decimal, add_leaves_reply, lines};
 use crate::search::depth_first;
 use kernel_form::kernel_text;
-use oz_base::{Ident, Sequence, SpaceName};
+use oz_base::{Ident, SpaceName};
 use oz_language::{Command, Kernel};
 use oz_machine::{Machine, Ran};
 use oz_outside::Gate;
 use oz_replies::Cause;
-use oz_search::Outcome;
-use recompute::Frozen;
-use search_all::search_all;
 use std::alloc::{AllocError, Global};
-use std::sync::Wait;
-use std::thread::Threads;
 
 /// A cause, and what is to be written for it.
 #[derive(Drop)]
@@ -95,40 +88,22 @@ fn raised(
     }
 }
 
-/// The leaves of the tree of a script, from left to right, by so many workers. `None` exactly where the tree takes more steps
-/// than the fuel. One worker moves and copies machines, and makes no node twice; many go to their nodes by paths.
-fn search<R: Threads + Wait + Sync, G: Gate>(
-    rt: &R,
+/// Searches the tree of a script, with so many steps left.
+fn search<G: Gate>(
     alloc: Global,
     mut machine: Machine,
     script: Ident,
-    workers: u32,
-    fuel: u64,
-    gate: &G,
-) -> Result<Option<Sequence<Outcome>>, AllocError>
-    requires workers { (1 ≤ workers) × (workers ≤ 64) }
-    requires fuel { fuel ≤ 2 ^ 48 }
-    ensures { IfOk result (λ found. found
-        ≡ leaves_of (found_below machine.kernel (search_space machine.config) (with_root machine.kernel.statements script machine.config) fuel)) }
-{
-    let space = machine.root(alloc, script)?;
-    if workers == 1 {
-        return depth_first(alloc, machine, &space, fuel, gate);
-    }
-    let frozen = Frozen::new(machine, space, fuel);
-    search_all(rt, alloc, &frozen, workers, gate)
-}
-
-/// The leaves that were found, behind what was shown; or the budget was exceeded.
-fn leaves_answer(
-    alloc: Global,
-    mut reply: Vec<u8>,
     budget: u64,
-    found: Option<Sequence<Outcome>>,
+    left: u64,
+    gate: &G,
 ) -> Result<Plan, AllocError>
-    ensures { IfOk result (λ plan. (plan.cause, plan.reply.items) ≡ answer_of_leaves reply.items budget found) }
+    ensures { IfOk result (λ plan. (plan.cause, plan.reply.items)
+        ≡ answer_of_leaves (shown_lines machine.config) budget
+        (leaves_of (found_below machine.kernel (search_space machine.config) (with_root machine.kernel.statements script machine.config) left))) }
 {
-    match found {
+    let mut reply = shown_lines(alloc, &machine)?;
+    let space = machine.root(alloc, script)?;
+    match depth_first(alloc, machine, &space, left, gate)? {
         None => spent(alloc, reply, budget),
         Some(leaves) => {
             add_leaves_reply(alloc, leaves.as_slice(), &mut reply)?;
@@ -151,26 +126,20 @@ fn no_script(alloc: Global, machine: &Machine) -> Result<Plan, AllocError>
     })
 }
 
-/// What `all` answers where the top has come to rest, with so many steps left of the budget.
-fn searched<R: Threads + Wait + Sync, G: Gate>(
-    rt: &R,
+/// What `all` answers where the top has come to rest.
+fn searched<G: Gate>(
     alloc: Global,
     machine: Machine,
-    workers: u32,
     budget: u64,
     left: u64,
     gate: &G,
 ) -> Result<Plan, AllocError>
-    requires workers { (1 ≤ workers) × (workers ≤ 64) }
-    requires left { left ≤ 2 ^ 48 }
     ensures { IfOk result (λ plan. (plan.cause, plan.reply.items) ≡ searched machine.kernel budget machine.config left) }
 {
-    let Some(script) = machine.script() else {
-        return no_script(alloc, &machine);
-    };
-    let reply = shown_lines(alloc, &machine)?;
-    let found = search(rt, alloc, machine, script, workers, left, gate)?;
-    leaves_answer(alloc, reply, budget, found)
+    match machine.script() {
+        None => no_script(alloc, &machine),
+        Some(script) => search(alloc, machine, script, budget, left, gate),
+    }
 }
 
 /// What `run` answers where the top has come to rest.
@@ -194,16 +163,12 @@ fn run_top(alloc: Global, kernel: Kernel, budget: u64) -> Result<(Machine, Ran),
 }
 
 /// What `all` answers for a kernel.
-fn all_answer<R: Threads + Wait + Sync, G: Gate>(
-    rt: &R,
+fn all_answer<G: Gate>(
     alloc: Global,
     kernel: Kernel,
-    workers: u32,
     budget: u64,
     gate: &G,
 ) -> Result<Plan, AllocError>
-    requires workers { (1 ≤ workers) × (workers ≤ 64) }
-    requires budget { budget ≤ 2 ^ 48 }
     ensures { IfOk result (λ plan. (plan.cause, plan.reply.items) ≡ all_answer kernel budget) }
 {
     let (machine, ran) = run_top(alloc, kernel, budget)?;
@@ -216,10 +181,7 @@ fn all_answer<R: Threads + Wait + Sync, G: Gate>(
             budget,
             budget - steps,
         ),
-        Ran::Ended { steps, .. } => {
-            let left = budget - steps;
-            searched(rt, alloc, machine, workers, budget, left, gate)
-        }
+        Ran::Ended { steps, .. } => searched(alloc, machine, budget, budget - steps, gate),
     }
 }
 
@@ -253,18 +215,16 @@ fn kernel_answer(alloc: Global, kernel: &Kernel) -> Result<Plan, AllocError>
 }
 
 /// What a command answers for the kernel of a program that may have all its tokens.
-pub fn answered<R: Threads + Wait + Sync, G: Gate>(
-    rt: &R,
+pub fn answered<G: Gate>(
     alloc: Global,
     command: Command,
     kernel: Kernel,
     gate: &G,
 ) -> Result<Plan, AllocError>
-    requires { HasTaken command }
     ensures { (p : Program) → kernel ≡ kernel_of p → IfOk result (λ plan. (plan.cause, plan.reply.items) ≡ answered command p) }
 {
     match command {
-        Command::All { workers, budget } => all_answer(rt, alloc, kernel, workers, budget, gate),
+        Command::All { budget, .. } => all_answer(alloc, kernel, budget, gate),
         Command::Run { budget } => run_answer(alloc, kernel, budget),
         Command::Kernel => kernel_answer(alloc, &kernel),
     }

@@ -8,7 +8,7 @@ ghost use Rattle.oz_language.specs.Refusals.{Program, Accepts, IsRefused};
 ghost use Rattle.oz_replies.specs.Served.{IsServed, unserved_in};
 ghost use Rattle.oz_language.specs.Translation.{statements_of, kernel_of};
 ghost use Rattle.oz_language.specs.KernelTexts.{kernel_text};
-ghost use Rattle.oz_language.specs.Commands.{HasTaken, Spells, IsUsage, AsksAll, AsksRun, AsksKernel};
+ghost use Rattle.oz_language.specs.Commands.{Spells, IsUsage, AsksAll, AsksRun, AsksKernel};
 ghost use Rattle.oz_semantics.specs.Runs.{Ended, run, opening};
 ghost use Rattle.oz_replies.specs.Replies.{IsReply, Searches, status_of, text_limit, usage_reply, too_large_reply, shown_lines, leaves_reply, kind_text, refused_reply, refused_answer, unless_unserved, all_answer, run_answer};
 ghost use Rattle.oz_language.specs.declared.command.Command.{Command};
@@ -31,8 +31,6 @@ use oz_outside::{Gate, READ_LIMIT, ReadError as SourceError, Sink, Source, read_
 use oz_reader::{Program, ReadError, read_program};
 use oz_replies::Cause;
 use std::alloc::{AllocError, Global};
-use std::sync::Wait;
-use std::thread::Threads;
 
 fn make_plan(alloc: Global, cause: Cause, reply: &[u8]) -> Result<Plan, AllocError>
     ensures { IfOk result (λ plan. (plan.cause ≡ cause) × (plan.reply.items ≡ reply.now)) }
@@ -80,35 +78,31 @@ fn minded(alloc: Global, command: Command, text: &[u8]) -> Result<Option<usize>,
 }
 
 /// What a command answers for a program that may have all its tokens.
-fn answer_served<R: Threads + Wait + Sync, G: Gate>(
-    rt: &R,
+fn answer_served<G: Gate>(
     alloc: Global,
     command: Command,
     program: Program,
     gate: &G,
 ) -> Result<Plan, AllocError>
-    requires { HasTaken command }
     ensures { IfOk result (λ plan. (plan.cause, plan.reply.items) ≡ answered command program) }
 {
     let (words, phrase) = program.into_parts();
     let kernel = translate(alloc, words, &phrase)?;
-    answered(rt, alloc, command, kernel, gate)
+    answered(alloc, command, kernel, gate)
 }
 
 /// What a command answers for a program with a token that is not served yet at this place, if there is one.
-fn answer_unless<R: Threads + Wait + Sync, G: Gate>(
-    rt: &R,
+fn answer_unless<G: Gate>(
     alloc: Global,
     command: Command,
     unserved: Option<usize>,
     program: Program,
     gate: &G,
 ) -> Result<Plan, AllocError>
-    requires { HasTaken command }
     ensures { IfOk result (λ plan. (plan.cause, plan.reply.items) ≡ unless_unserved unserved (answered command program)) }
 {
     match unserved {
-        None => answer_served(rt, alloc, command, program, gate),
+        None => answer_served(alloc, command, program, gate),
         Some(at) => refused(
             alloc,
             Fault {
@@ -120,37 +114,33 @@ fn answer_unless<R: Threads + Wait + Sync, G: Gate>(
 }
 
 /// What a command answers for the program of a text.
-fn answer_for<R: Threads + Wait + Sync, G: Gate>(
-    rt: &R,
+fn answer_for<G: Gate>(
     alloc: Global,
     command: Command,
     text: &[u8],
     program: Program,
     gate: &G,
 ) -> Result<Plan, AllocError>
-    requires { HasTaken command }
     ensures { (a : Accepts text.now program) → IfOk result (λ plan. (plan.cause, plan.reply.items) ≡ answer_of command (unserved_in text.now a.lexemes) program) }
 {
     let unserved = minded(alloc, command, text)?;
-    answer_unless(rt, alloc, command, unserved, program, gate)
+    answer_unless(alloc, command, unserved, program, gate)
 }
 
 /// What a command answers for a text.
-fn answer<R: Threads + Wait + Sync, G: Gate>(
-    rt: &R,
+fn answer<G: Gate>(
     alloc: Global,
     command: Command,
     text: &[u8],
     gate: &G,
 ) -> Result<Plan, AllocError>
-    requires length { length text.now ≤ text_limit }
-    requires taken { HasTaken command }
+    requires { length text.now ≤ text_limit }
     ensures gives { IfOk result (λ plan. TextGives text.now command plan.cause plan.reply.items) }
     ensures due { IfOk result (λ plan. AsText text.now command (plan.cause, plan.reply.items)) }
 {
     one_reading();
     match read_program(alloc, text) {
-        Ok(program) => answer_for(rt, alloc, command, text, program, gate),
+        Ok(program) => answer_for(alloc, command, text, program, gate),
         Err(ReadError::Refused(fault)) => refused(alloc, fault),
         Err(ReadError::Memory) => Err(AllocError),
     }
@@ -168,19 +158,12 @@ fn silent(alloc: Global, cause: Cause) -> Plan
 }
 
 /// What a command answers for a text. Where memory is refused, that is the answer.
-fn plan_text<R: Threads + Wait + Sync, G: Gate>(
-    rt: &R,
-    alloc: Global,
-    command: Command,
-    text: &[u8],
-    gate: &G,
-) -> Plan
-    requires length { length text.now ≤ text_limit }
-    requires taken { HasTaken command }
+fn plan_text<G: Gate>(alloc: Global, command: Command, text: &[u8], gate: &G) -> Plan
+    requires { length text.now ≤ text_limit }
     ensures gives { TextGives text.now command result.cause result.reply.items }
     ensures due { AsText text.now command (result.cause, result.reply.items) }
 {
-    match answer(rt, alloc, command, text, gate) {
+    match answer(alloc, command, text, gate) {
         Ok(plan) => plan,
         Err(_) => silent(alloc, Cause::NoMemory),
     }
@@ -199,14 +182,12 @@ fn plan_too_large(alloc: Global) -> Plan
 }
 
 /// What a command answers for the text of a source, before anything is written.
-fn plan_command<R: Threads + Wait + Sync, S: Source, G: Gate>(
-    rt: &R,
+fn plan_command<S: Source, G: Gate>(
     alloc: Global,
     command: Command,
     source: &mut S,
     gate: &G,
 ) -> Plan
-    requires { HasTaken command }
     ensures plans { (words : List (List ℕ)) → IsCommand words command → Plans words
         (record { left = S.left source.old; faults = S.faults source.old })
         (record { left = S.left source.new; faults = S.faults source.new }) result.cause result.reply.items }
@@ -215,7 +196,7 @@ fn plan_command<R: Threads + Wait + Sync, S: Source, G: Gate>(
     ensures bounded { IsBounded (S.left source.old) (S.left source.new) }
 {
     match read_all(alloc, source) {
-        Ok(text) => plan_text(rt, alloc, command, text.as_slice(), gate),
+        Ok(text) => plan_text(alloc, command, text.as_slice(), gate),
         Err(SourceError::TooLarge) => plan_too_large(alloc),
         Err(SourceError::Fault) => silent(alloc, Cause::ReadFault),
         Err(SourceError::Memory) => silent(alloc, Cause::NoMemory),
@@ -234,13 +215,7 @@ fn plan_usage(alloc: Global) -> Plan
 }
 
 /// What the words ask for, before anything is written.
-fn plan_words<R: Threads + Wait + Sync, S: Source, G: Gate>(
-    rt: &R,
-    alloc: Global,
-    words: &[String],
-    source: &mut S,
-    gate: &G,
-) -> Plan
+fn plan_words<S: Source, G: Gate>(alloc: Global, words: &[String], source: &mut S, gate: &G) -> Plan
     ensures plans { Plans (map string_bytes words.now)
         (record { left = S.left source.old; faults = S.faults source.old })
         (record { left = S.left source.new; faults = S.faults source.new }) result.cause result.reply.items }
@@ -250,7 +225,7 @@ fn plan_words<R: Threads + Wait + Sync, S: Source, G: Gate>(
     ensures bounded { IsBounded (S.left source.old) (S.left source.new) }
 {
     match read_command(alloc, words) {
-        Ok(Some(command)) => plan_command(rt, alloc, command, source, gate),
+        Ok(Some(command)) => plan_command(alloc, command, source, gate),
         Ok(None) => plan_usage(alloc),
         Err(_) => silent(alloc, Cause::NoMemory),
     }
@@ -304,13 +279,9 @@ fn finish<K: Sink>(cause: Cause, reply: &[u8], sink: &mut K) -> Outcome
 /// Does what the words ask: reads a program from the source, and writes to the sink what it shows, and for `all` then the leaves
 /// of its search; or, for `kernel`, the program's kernel. The words are those after the program's name.
 ///
-/// The search is by as many workers as the words ask for. What is answered does not depend on their number, so no clause tells
-/// it. Several workers wait for one another: then the clauses are of a call that returns.
-///
 /// A fault of the source or of the sink comes only where its count rose in this call. Want of memory may be answered at any
 /// time before the writing, and then nothing is written.
-pub fn oz_call<R: Threads + Wait + Sync, S: Source, K: Sink, G: Gate>(
-    rt: &R,
+pub fn oz_call<S: Source, K: Sink, G: Gate>(
     alloc: Global,
     words: &[String],
     source: &mut S,
@@ -390,6 +361,6 @@ pub fn oz_call<R: Threads + Wait + Sync, S: Source, K: Sink, G: Gate>(
     ensures write_fault { result.cause ≡ Cause.WriteFault → Rose (K.faults sink.old) (K.faults sink.new) }
     ensures silent { (result.cause ≡ Cause.ReadFault) ⊎ (result.cause ≡ Cause.NoMemory) → Appends (K.written sink.old) (K.written sink.new) [] }
 {
-    let Plan { cause, reply } = plan_words(rt, alloc, words, source, gate);
+    let Plan { cause, reply } = plan_words(alloc, words, source, gate);
     finish(cause, reply.as_slice(), sink)
 }

@@ -12,5 +12,3 @@ pub use call::{Outcome, oz_call};
 
 #[cfg(test)]
 mod tests;
-#[cfg(test)]
-mod workers_tests;

@@ -3,16 +3,15 @@
 ghost use Rattle.std.specs.Prelude.{◌≡◌, ◌+◌, ◌<◌, ◌++◌, ◌∷◌, [], ℕ, List, None, IfOk, OnOk, MatchOption};
 ghost use Rattle.oz_language.specs.declared.kernel.Kernel.{Kernel};
 ghost use Rattle.oz_semantics.specs.Search.{node_at};
-ghost use Rattle.machine_search.specs.Visits.{Visits, found_below, leaf_of, children_of};
-ghost use Rattle.search_all.specs.Answers.{leaves_of};
-ghost use Rattle.oz_top.specs.Searching.{waiting, AreOf, OpensNext};
+ghost use Rattle.machine_search.specs.Visits.{Visits, found_below};
+ghost use Rattle.oz_top.specs.Searching.{waiting, AreOf, OpensNext, is_running, RestsBy, children_by, leaf_by, leaves_of};
 
-use crate::open::Open;
+use crate::open::{Open, Rest};
 use oz_base::{Sequence, SpaceName, Stack};
-use oz_machine::Machine;
+use oz_machine::{Machine, Ran, Text};
 use oz_outside::Gate;
-use oz_search::{Kind, Outcome, Report};
-use recompute::{NodeAtRest, run_to_rest};
+use oz_search::Outcome;
+use oz_semantics::State;
 use std::alloc::{AllocError, Global};
 
 /// Opens the next alternative of a node.
@@ -64,34 +63,60 @@ fn take_next(
     Ok(None)
 }
 
-/// Keeps a leaf, unless it has failed.
-fn keep_leaf(leaf: Outcome, leaves: &mut Sequence<Outcome>) -> Result<(), AllocError>
-    ensures { OnOk result (leaves.new ≡ leaves.old ++ leaf_of (Kind.End leaf)) }
-{
-    if leaf.is_failed() {
-        return Ok(());
-    }
-    leaves.push(leaf)
-}
-
 /// Keeps what a node adds: its alternatives wait, or it is a leaf, or it has failed.
 fn keep(
     machine: Machine,
-    kind: Kind<Outcome>,
+    state: State,
+    text: Text,
     opened: &mut Stack<Open>,
     leaves: &mut Sequence<Outcome>,
 ) -> Result<(), AllocError>
-    ensures opened { (space : List ℕ) → OnOk result (waiting space opened.new ≡ children_of machine.kernel space machine.config kind ++ waiting space opened.old) }
-    ensures leaves { OnOk result (leaves.new ≡ leaves.old ++ leaf_of kind) }
+    ensures opened { (space : List ℕ) → OnOk result (waiting space opened.new ≡ children_by machine.kernel space machine.config state ++ waiting space opened.old) }
+    ensures leaves { OnOk result (leaves.new ≡ leaves.old ++ leaf_by state text.bytes) }
     ensures kernel { (k : Kernel) → AreOf k opened.old → machine.kernel ≡ k → OnOk result (AreOf k opened.new) }
 {
-    match kind {
-        Kind::End(leaf) => keep_leaf(leaf, leaves),
-        Kind::Alternatives(count) => opened.push(Open {
+    match state {
+        State::Failed | State::Running => Ok(()),
+        State::Alternatives(count) => opened.push(Open {
             machine,
             taken: 0,
-            left: u64::from(count),
+            left: count,
         }),
+        State::Solved => leaves.push(Outcome::Solved(text.bytes)),
+        State::Stuck => leaves.push(Outcome::Stuck(text.bytes)),
+        State::Raised(_) => leaves.push(Outcome::Raised(text.bytes)),
+        State::Suspended => leaves.push(Outcome::Suspended),
+    }
+}
+
+fn is_running(state: &State) -> bool
+    ensures { result ≡ is_running state.now }
+{
+    matches!(state, State::Running)
+}
+
+fn in_state(state: Option<State>, steps: u64) -> Option<Rest>
+    ensures { RestsBy (Ran.Ended state steps) result }
+{
+    match state {
+        None => None,
+        Some(state) => {
+            if is_running(&state) {
+                return None;
+            }
+            Some(Rest { state, steps })
+        }
+    }
+}
+
+/// How a space has come to rest by a run, if it has.
+fn at_rest(ran: Ran) -> Option<Rest>
+    ensures { RestsBy ran result }
+{
+    match ran {
+        Ran::OutOfFuel => None,
+        Ran::TopEnded { .. } => None,
+        Ran::Ended { state, steps } => in_state(state, steps),
     }
 }
 
@@ -100,7 +125,7 @@ fn keep(
 fn visit(
     alloc: Global,
     space: &SpaceName,
-    machine: Machine,
+    mut machine: Machine,
     fuel: u64,
     opened: &mut Stack<Open>,
     leaves: &mut Sequence<Outcome>,
@@ -109,13 +134,21 @@ fn visit(
         (λ left. Visits machine.kernel space.now machine.config fuel left (waiting space.now opened.old) (waiting space.now opened.new) leaves.old leaves.new)) }
     ensures kernel { (k : Kernel) → AreOf k opened.old → machine.kernel ≡ k → OnOk result (AreOf k opened.new) }
 {
-    let Some(node) = run_to_rest(alloc, space, machine, fuel)? else {
+    if fuel == 0 {
+        return Ok(None);
+    }
+    let ran = machine.run(alloc, space, fuel - 1)?;
+    let Some(rest) = at_rest(ran) else {
         return Ok(None);
     };
-    let NodeAtRest { machine, report } = node;
-    let Report { kind, steps } = report;
-    keep(machine, kind, opened, leaves)?;
-    Ok(Some(fuel - steps))
+    let Rest { state, steps } = rest;
+    let left = fuel - 1 - steps;
+    let Some(text) = machine.leaf_text(alloc, space, &state, left)? else {
+        return Ok(None);
+    };
+    let left = left - text.steps;
+    keep(machine, state, text, opened, leaves)?;
+    Ok(Some(left))
 }
 
 /// The leaves of the tree below a node that was just created, from left to right. `None` exactly where the tree takes more

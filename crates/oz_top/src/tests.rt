@@ -4,9 +4,7 @@ use oz_outside::{Gate, HoldGate, MemSink, MemSource, OpenGate, READ_LIMIT};
 use oz_replies::Cause;
 use std::alloc::{AllocError, Global};
 use std::process::Abort;
-use std::sync::Wait;
 use std::test::Fail;
-use std::thread::Threads;
 
 const TWO: &[u8] = b"proc {Script R} choice R=a [] R=b end end";
 
@@ -44,8 +42,7 @@ const RAISE_LEAVES: &str =
 
 const ENDLESS: &[u8] = b"proc {Script R} choice R=a [] {Script R} end end";
 
-fn call<R: Threads + Wait + Sync, G: Gate>(
-    rt: &R,
+fn call<G: Gate>(
     alloc: Global,
     words: &[&str],
     source: &mut MemSource,
@@ -56,21 +53,17 @@ fn call<R: Threads + Wait + Sync, G: Gate>(
     for word in words {
         list.push(word.to_string(alloc)?)?;
     }
-    Ok(oz_call(rt, alloc, list.as_slice(), source, sink, gate))
+    Ok(oz_call(alloc, list.as_slice(), source, sink, gate))
 }
 
 /// Words and a text, what is written for them, and the status.
 type Row<'a> = (&'a [&'a str], &'a [u8], &'a str, u8);
 
-fn check<R: Abort + Threads + Wait + Sync>(
-    rt: &R,
-    alloc: Global,
-    rows: &[Row<'_>],
-) -> Result<(), Fail> {
+fn check(rt: &impl Abort, alloc: Global, rows: &[Row<'_>]) -> Result<(), Fail> {
     for (words, text, reply, status) in rows {
         let mut source = MemSource::new(alloc, text, 7, &[])?;
         let mut sink = MemSink::new(alloc, 1000, 5, &[])?;
-        let outcome = call(rt, alloc, words, &mut source, &mut sink, &OpenGate)?;
+        let outcome = call(alloc, words, &mut source, &mut sink, &OpenGate)?;
         assert_eq!(rt; sink.written(), reply.as_bytes());
         assert_eq!(rt; outcome.status, *status);
     }
@@ -88,7 +81,7 @@ fn answers_each_text(rt: HostRuntime) -> Result<(), Fail> {
         (&["all"], b"Script=1 Script=2", "raised failure(tell)\n", 1),
         (&["all"], b"", "no script\n", 9),
         (&["all"], b"Script=1.5", "refused byte 8\n", 3),
-        (&["all", "--workers", "2"], TWO, TWO_LEAVES, 0),
+        (&["all", "--workers", "2"], TWO, "usage\n", 2),
     ];
     check(&rt, rt.alloc(), &rows)
 }
@@ -199,7 +192,7 @@ fn what_was_shown_stands_in_front(rt: HostRuntime) -> Result<(), Fail> {
 fn a_refusal_names_its_place(rt: HostRuntime) -> Result<(), Fail> {
     let mut source = MemSource::new(rt.alloc(), b"proc {Script R} X=1 end", 5, &[])?;
     let mut sink = MemSink::new(rt.alloc(), 1000, 1000, &[])?;
-    let outcome = call(&rt, rt.alloc(), &["all"], &mut source, &mut sink, &OpenGate)?;
+    let outcome = call(rt.alloc(), &["all"], &mut source, &mut sink, &OpenGate)?;
     let fault = Fault {
         kind: RefusalKind::Unbound,
         at: 16,
@@ -213,7 +206,7 @@ fn a_failing_source_gives_no_reply(rt: HostRuntime) -> Result<(), Fail> {
     for at in [1, 2, 6] {
         let mut source = MemSource::new(rt.alloc(), TWO, 9, &[at])?;
         let mut sink = MemSink::new(rt.alloc(), 1000, 1000, &[])?;
-        let outcome = call(&rt, rt.alloc(), &["all"], &mut source, &mut sink, &OpenGate)?;
+        let outcome = call(rt.alloc(), &["all"], &mut source, &mut sink, &OpenGate)?;
         assert_eq!(rt; sink.written(), b"".as_slice());
         assert_eq!(rt; outcome.status, 4);
         assert!(rt; matches!(outcome.cause, Cause::ReadFault));
@@ -231,7 +224,7 @@ fn a_failing_sink_cuts_the_reply_short(rt: HostRuntime) -> Result<(), Fail> {
     ] {
         let mut source = MemSource::new(rt.alloc(), TWO, 100, &[])?;
         let mut sink = MemSink::new(rt.alloc(), room, chunk, &[at])?;
-        let outcome = call(&rt, rt.alloc(), &["all"], &mut source, &mut sink, &OpenGate)?;
+        let outcome = call(rt.alloc(), &["all"], &mut source, &mut sink, &OpenGate)?;
         assert_eq!(rt; sink.written(), written.as_bytes());
         assert_eq!(rt; outcome.status, 5);
         assert!(rt; matches!(outcome.cause, Cause::WriteFault));
@@ -243,16 +236,9 @@ fn a_failing_sink_cuts_the_reply_short(rt: HostRuntime) -> Result<(), Fail> {
 fn other_words_read_nothing(rt: HostRuntime) -> Result<(), Fail> {
     let mut source = MemSource::new(rt.alloc(), TWO, 100, &[1])?;
     let mut sink = MemSink::new(rt.alloc(), 1000, 1000, &[])?;
-    let outcome = call(
-        &rt,
-        rt.alloc(),
-        &["walk"],
-        &mut source,
-        &mut sink,
-        &OpenGate,
-    )?;
+    let outcome = call(rt.alloc(), &["walk"], &mut source, &mut sink, &OpenGate)?;
     assert_eq!(rt; outcome.status, 2);
-    let outcome = call(&rt, rt.alloc(), &["all"], &mut source, &mut sink, &OpenGate)?;
+    let outcome = call(rt.alloc(), &["all"], &mut source, &mut sink, &OpenGate)?;
     assert_eq!(rt; outcome.status, 4);
     assert_eq!(rt; sink.written(), b"usage\n".as_slice());
     Ok(())
@@ -268,7 +254,7 @@ fn one_byte_too_many(rt: HostRuntime) -> Result<(), Fail> {
         let bytes = Vec::from_elem(rt.alloc(), b' ', many)?;
         let mut source = MemSource::new(rt.alloc(), bytes.as_slice(), 100_000, &[])?;
         let mut sink = MemSink::new(rt.alloc(), 1000, 1000, &[])?;
-        let outcome = call(&rt, rt.alloc(), &["all"], &mut source, &mut sink, &OpenGate)?;
+        let outcome = call(rt.alloc(), &["all"], &mut source, &mut sink, &OpenGate)?;
         assert_eq!(rt; sink.written(), reply.as_bytes());
         assert_eq!(rt; outcome.status, status);
     }
@@ -280,7 +266,7 @@ fn a_gate_changes_no_answer(rt: HostRuntime) -> Result<(), Fail> {
     let gate = HoldGate::new(3);
     let mut source = MemSource::new(rt.alloc(), TWO, 100, &[])?;
     let mut sink = MemSink::new(rt.alloc(), 1000, 1000, &[])?;
-    let outcome = call(&rt, rt.alloc(), &["all"], &mut source, &mut sink, &gate)?;
+    let outcome = call(rt.alloc(), &["all"], &mut source, &mut sink, &gate)?;
     assert_eq!(rt; sink.written(), TWO_LEAVES.as_bytes());
     assert_eq!(rt; outcome.status, 0);
     assert!(rt; !gate.met());

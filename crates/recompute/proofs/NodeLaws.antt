@@ -1,5 +1,5 @@
 -- The node of a machine that was run until its space came to rest.
-use Rattle.std.proofs.Common.{◌≡◌, ◌≢◌, ℕ, zero, suc, ◌+◌, ◌-◌, ◌≤◌, List, Some, refl, sym, subst, ap, arith, ◌∙◌}
+use Rattle.std.proofs.Common.{◌≡◌, ◌≢◌, ℕ, zero, suc, ◌+◌, ◌-◌, ◌≤◌, List, Option, Some, refl, sym, subst, ap, arith, ◌∙◌}
 use Rattle.oz_language.specs.declared.kernel.Kernel.{Kernel}
 use Rattle.oz_search.specs.Trees.{report}
 use Rattle.oz_search.specs.Nodes.{Reached}
@@ -16,7 +16,7 @@ use Rattle.oz_machine.specs.Answers.{IsRun, PrintsWithin}
 use Rattle.oz_machine.specs.declared.runs.Ran.{Ran}
 use Rattle.oz_machine.specs.declared.runs.Ran.TheVariants.{Ended}
 use Rattle.oz_machine.specs.declared.texts.Text.{Text}
-use Rattle.recompute.specs.declared.node.Rest.{Rest}
+use Rattle.recompute.specs.declared.waypoint.Rest.{Rest}
 
 -- the node in this configuration
 abbrev pub node_in : Configuration → Kind Outcome → ℕ → Reached Configuration Outcome

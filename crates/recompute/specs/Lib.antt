@@ -1,3 +1,2 @@
 pub mod Origins
-pub mod Rests
 pub mod Ways

@@ -1,6 +1,7 @@
 -- The way to a node: the nodes on it, from the root on.
-use Rattle.std.specs.Prelude.{◌≡◌, ℕ, suc, ◌==◌, ◌&&◌, Bool, true, false, if◌then◌else◌, List, [], ◌∷◌, Option, Some, None, length}
+use Rattle.std.specs.Prelude.{◌≡◌, ℕ, zero, suc, ◌==◌, ◌&&◌, Bool, true, false, if◌then◌else◌, List, [], ◌∷◌, Option, Some, None, length}
 use lib.Dec.{leb}
+use Rattle.oz_language.specs.declared.kernel.Kernel.{Kernel}
 use Rattle.oz_search.specs.Paths.{is_among}
 use Rattle.oz_search.specs.Nodes.{Reached, Met, Node, OutOfFuel, NotANode, met_by_kind, met_from}
 use Rattle.oz_search.specs.Plain.{outcomes}
@@ -10,7 +11,10 @@ use Rattle.oz_search.specs.declared.tree.Kind.TheVariants.{Alternatives, End}
 use Rattle.oz_semantics.specs.Search.{node_at, chosen_in, maker}
 use Rattle.oz_semantics.specs.declared.configuration.Configuration.{Configuration}
 use Rattle.oz_machine.specs.Courses.{Loaded}
+use Rattle.oz_machine.specs.declared.runs.Ran.{Ran}
+use Rattle.oz_machine.specs.declared.runs.Ran.TheVariants as ran
 use Rattle.recompute.specs.Origins.{Origin, met_at}
+use Rattle.recompute.specs.declared.waypoint.Rest.{Rest}
 use Rattle.recompute.specs.declared.waypoint.Waypoint.{Waypoint}
 use Rattle.recompute.specs.declared.explorer.Solved.{Solved}
 use Rattle.recompute.specs.declared.explorer.Solved.TheVariants as solved
@@ -25,6 +29,18 @@ reached x = record { config = x.machine.config; report = x.report }
 abbrev pub offers : Kind Outcome → ℕ → Bool
 offers (Alternatives n) b = is_among outcomes n b
 offers (End l) b = false
+
+-- in a run that ends so the space has not come to rest
+abbrev pub Restless : Ran → Type 0
+Restless ran.OutOfFuel = Unit {0}
+Restless (ran.TopEnded exception steps) = Unit {0}
+Restless (ran.Ended None steps) = Unit {0}
+Restless (ran.Ended (Some s) steps) = ⊥
+
+-- how a space came to rest by a run, if it did
+abbrev pub RestsBy : Ran → Option Rest → Type 0
+RestsBy r None = Restless r
+RestsBy r (Some rest) = r ≡ ran.Ended (Some rest.state) rest.steps
 
 -- the node of a machine whose space was just made, or committed to this branch, with this fuel
 abbrev pub MakesNode : List ℕ → ℕ → ℕ → Loaded → Option Waypoint → Type 0

@@ -3,12 +3,10 @@
 
 mod explorer;
 mod frozen;
-mod node;
 mod waypoint;
 
 pub use explorer::{Explorer, Solved};
 pub use frozen::Frozen;
-pub use node::{NodeAtRest, run_to_rest};
 
 #[cfg(test)]
 mod tests;

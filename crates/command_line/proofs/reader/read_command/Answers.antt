@@ -1,7 +1,5 @@
-use Rattle.std.proofs.Common.{map}
-use Rattle.std.specs.String.{string_bytes}
 use Rattle.std.proofs.lemmas.Result.{IfOk-weaker}
-use Rattle.command_line.proofs.SpellingLaws.{is_spelled, spells_only, spells_taken}
+use Rattle.command_line.proofs.SpellingLaws.{is_spelled, spells_only}
 use Rattle.command_line.proofs.reader.read_command.Goals as goal
 
 pub returns-clause-spelled : goal.returns-clause-spelled
@@ -9,6 +7,3 @@ returns-clause-spelled c = IfOk-weaker c.read.result _ _ (λ r e. is_spelled _ r
 
 pub returns-clause-only : goal.returns-clause-only
 returns-clause-only c = IfOk-weaker c.read.result _ _ (λ r e. spells_only _ r e) c.read.ensures
-
-pub returns-clause-taken : goal.returns-clause-taken
-returns-clause-taken c = IfOk-weaker c.read.result _ _ (λ r e. spells_taken (map string_bytes c.args.words.now) r e) c.read.ensures

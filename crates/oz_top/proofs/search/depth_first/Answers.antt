@@ -6,8 +6,7 @@ use Rattle.oz_semantics.specs.declared.configuration.Configuration.{Configuratio
 use Rattle.machine_search.specs.Visits.{Visits, found_from}
 use Rattle.machine_search.proofs.VisitLaws.{begins_law, visits_law, stops_law}
 use Rattle.oz_top.specs.declared.open.Open.{Open}
-use Rattle.search_all.specs.Answers.{leaves_of}
-use Rattle.oz_top.specs.Searching.{waiting, AreOf}
+use Rattle.oz_top.specs.Searching.{waiting, AreOf, leaves_of}
 use Rattle.oz_top.proofs.search.depth_first.Goals as goal
 
 pub returns-in_default : goal.returns-in_default
