@@ -104,6 +104,14 @@ fn give_list(
     levels.tell_by(alloc, id, &tells, Given::Variables(count))
 }
 
+/// The same environment, with room for the new variables of a procedure that keeps it.
+fn gathered(alloc: Global, mut environment: Environment) -> Result<Environment, AllocError>
+    ensures { IfOk result (λ gathered. gathered ≡ environment) }
+{
+    environment.gather(alloc)?;
+    Ok(environment)
+}
+
 /// The variable is a new procedure.
 fn make_procedure(
     alloc: Global,
@@ -126,7 +134,7 @@ fn make_procedure(
         },
         parameters,
         body,
-        environment,
+        environment: gathered(alloc, environment)?,
     };
     let value = Value::Procedure(Shared::new(alloc, procedure)?);
     levels.tell_by(alloc, id, &[Tell::Is { variable, value }], Given::Procedure)
