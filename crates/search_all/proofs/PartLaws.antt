@@ -47,7 +47,7 @@ pub levels_sync : IsSync name.the_row → IsSync status.the_row → IsSync store
 levels_sync s t u i h n = view_sync _ _ _ _ _ (declared_sync levels.TheInside.the_type (Vec-sync level.the_row (level_sync s t u i h n), tt))
 
 pub machine_send : IsSend (shared.the_row kernel.the_row) → IsSend levels.the_row → IsSend queue.the_row → IsSend (list.the_row (sequence.the_row u8)) → IsSend machine.the_row
-machine_send k l q s = view_send _ _ _ _ _ (declared_send machine.TheInside.the_type (k, (declared_send course.the_type (l, (q, (s, tt))), (search sendable, tt))))
+machine_send k l q s = view_send _ _ _ _ _ (declared_send machine.TheInside.the_type (k, (declared_send course.the_type (l, (q, (search sendable, (s, tt)))), (search sendable, tt))))
 
 pub machine_sync : IsSync (shared.the_row kernel.the_row) → IsSync levels.the_row → IsSync queue.the_row → IsSync (list.the_row (sequence.the_row u8)) → IsSync machine.the_row
-machine_sync k l q s = view_sync _ _ _ _ _ (declared_sync machine.TheInside.the_type (k, (declared_sync course.the_type (l, (q, (s, tt))), (search sendable, tt))))
+machine_sync k l q s = view_sync _ _ _ _ _ (declared_sync machine.TheInside.the_type (k, (declared_sync course.the_type (l, (q, (search sendable, (s, tt)))), (search sendable, tt))))
