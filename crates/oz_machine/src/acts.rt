@@ -127,6 +127,7 @@ fn make_procedure(
     ensures err { OnErr result (levels.new ≡ levels.old) }
 {
     let next = next_of(levels, &id.space);
+    let environment = gathered(alloc, environment)?;
     let procedure = Procedure {
         name: Ident {
             space: id.space.copied(alloc)?,
@@ -134,7 +135,7 @@ fn make_procedure(
         },
         parameters,
         body,
-        environment: gathered(alloc, environment)?,
+        environment,
     };
     let value = Value::Procedure(Shared::new(alloc, procedure)?);
     levels.tell_by(alloc, id, &[Tell::Is { variable, value }], Given::Procedure)

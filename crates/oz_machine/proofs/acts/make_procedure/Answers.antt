@@ -14,10 +14,10 @@ returns-clause-ok c =
     let old = c.args.levels.now in
     let x = c.args.variable in
     let made = procedure_made (layer_of old space) c.args.parameters c.args.body c.args.environment in
-    let gathered = c.in_ok-gathered.field-0 in
+    let gathered = c.in_ok-environment.environment in
     let same =
     made_procedure old space c.in_ok-copied.field-0 c.next_of-next.result c.args.parameters c.args.body gathered c.next_of-next.ensures c.in_ok-copied.ensures
-    ∙ ap (procedure_made (layer_of old space) c.args.parameters c.args.body) c.in_ok-gathered.ensures in
+    ∙ ap (procedure_made (layer_of old space) c.args.parameters c.args.body) c.in_ok-environment.ensures in
     let p = c.in_ok-new.field-0 in
     let ts = Is x (value.Procedure p) ∷ [] in
     let us = Is x (value.Procedure made) ∷ [] in
