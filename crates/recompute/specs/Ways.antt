@@ -6,6 +6,7 @@ use Rattle.oz_search.specs.Paths.{is_among}
 use Rattle.oz_search.specs.Nodes.{Reached, Met, Node, OutOfFuel, NotANode, met_by_kind, met_from}
 use Rattle.oz_search.specs.Plain.{outcomes}
 use Rattle.oz_search.specs.declared.leaf.Outcome.{Outcome}
+use Rattle.oz_search.specs.declared.tree.Report.{Report}
 use Rattle.oz_search.specs.declared.tree.Kind.{Kind}
 use Rattle.oz_search.specs.declared.tree.Kind.TheVariants.{Alternatives, End}
 use Rattle.oz_semantics.specs.Search.{node_at, chosen_in, maker}
@@ -41,6 +42,11 @@ Restless (ran.Ended (Some s) steps) = ⊥
 abbrev pub RestsBy : Ran → Option Rest → Type 0
 RestsBy r None = Restless r
 RestsBy r (Some rest) = r ≡ ran.Ended (Some rest.state) rest.steps
+
+-- a machine whose space was just made, or committed, was run with this fuel, and stands at the node that is reported
+abbrev pub ComesToRest : List ℕ → ℕ → Loaded → Loaded → Option (Report Outcome) → Type 0
+ComesToRest space fuel old new None = node_at old.kernel space fuel old.config ≡ None
+ComesToRest space fuel old new (Some r) = (node_at old.kernel space fuel old.config ≡ Some (record { config = new.config; report = r })) × (new.kernel ≡ old.kernel)
 
 -- the node of a machine whose space was just made, or committed to this branch, with this fuel
 abbrev pub MakesNode : List ℕ → ℕ → ℕ → Loaded → Option Waypoint → Type 0

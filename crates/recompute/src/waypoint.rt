@@ -1,7 +1,7 @@
 //! Nodes that were solved, on the way to others.
 ghost use Rattle.std.specs.Prelude.{◌≡◌, IfOk};
 ghost use Rattle.oz_semantics.specs.Search.{kind_of};
-ghost use Rattle.recompute.specs.Ways.{offers, RestsBy, MakesNode, Opens};
+ghost use Rattle.recompute.specs.Ways.{offers, RestsBy, ComesToRest, MakesNode, Opens};
 
 use oz_base::{Sequence, SpaceName};
 use oz_machine::{Machine, Ran};
@@ -71,16 +71,15 @@ fn kind_of(state: State, text: Sequence<u8>) -> Result<Option<Kind<Outcome>>, Al
     Ok(Some(Kind::End(outcome)))
 }
 
-/// The node of a space that was just made, or committed to this alternative. None exactly where it has more own steps than the
-/// fuel.
-pub fn solved(
+/// Runs a space that was just made, or committed, until it rests, and says what its node is. None exactly where the node has more own
+/// steps than the fuel.
+fn run_to_rest(
     alloc: Global,
     space: &SpaceName,
-    branch: u32,
-    mut machine: Machine,
+    machine: &mut Machine,
     fuel: u64,
-) -> Result<Option<Waypoint>, AllocError>
-    ensures { IfOk result (MakesNode space.now branch fuel machine) }
+) -> Result<Option<Report<Outcome>>, AllocError>
+    ensures { IfOk result (ComesToRest space.now fuel machine.old machine.new) }
 {
     if fuel == 0 {
         return Ok(None);
@@ -98,11 +97,28 @@ pub fn solved(
     let Some(kind) = kind_of(state, text.bytes)? else {
         return Ok(None);
     };
-    Ok(Some(Waypoint {
-        branch,
-        machine,
-        report: Report { kind, steps },
-    }))
+    Ok(Some(Report { kind, steps }))
+}
+
+/// The node of a space that was just made, or committed to this alternative. None exactly where it has more own steps than the
+/// fuel.
+pub fn solved(
+    alloc: Global,
+    space: &SpaceName,
+    branch: u32,
+    mut machine: Machine,
+    fuel: u64,
+) -> Result<Option<Waypoint>, AllocError>
+    ensures { IfOk result (MakesNode space.now branch fuel machine) }
+{
+    match run_to_rest(alloc, space, &mut machine, fuel)? {
+        None => Ok(None),
+        Some(report) => Ok(Some(Waypoint {
+            branch,
+            machine,
+            report,
+        })),
+    }
 }
 
 /// Whether the node is a choice of which this is an alternative.
