@@ -1,12 +1,14 @@
 -- Types that may cross threads, since their parts may.
-use denote.Param.SendFields.{declared_send, declared_sync}
+use denote.Param.SendFields.{declared_send, declared_sync, variants_send, variants_sync}
 use denote.Param.Send.{IsSend, IsSync, sendable, view_send, view_sync}
 use Rattle.std.proofs.Crossing.{Vec-send, Vec-sync}
 use Rattle.oz_base.specs.contracts.names.SpaceName as name
+use Rattle.std.specs.contracts.option.Option as option
 use Rattle.oz_base.specs.contracts.names.Ident as ident
 use Rattle.oz_base.specs.contracts.sequence.Sequence as sequence
 use Rattle.oz_base.specs.contracts.shared.Shared as shared
 use Rattle.oz_language.specs.contracts.kernel.Kernel as kernel
+use Rattle.oz_semantics.specs.contracts.value.Value as value
 use Rattle.oz_semantics.specs.contracts.value.Tell as told
 use Rattle.oz_semantics.specs.contracts.configuration.Status as status
 use Rattle.oz_semantics.specs.contracts.configuration.Thread as thread
@@ -18,9 +20,22 @@ use Rattle.term_store.specs.contracts.store.Store as store
 use Rattle.space_core.specs.contracts.level.Level as level
 use Rattle.space_core.specs.contracts.levels.Levels as levels
 use Rattle.oz_threads.specs.contracts.queue.Queue as queue
+use Rattle.oz_machine.specs.contracts.course.Due as due
 use Rattle.oz_machine.specs.contracts.course.Course as course
 use Rattle.oz_machine.specs.contracts.machine.Machine as machine
 use denote.Builtin.{u8}
+
+pub tell_send : IsSend ident.the_row → IsSend value.the_row → IsSend told.the_row
+tell_send i v = variants_send told.enum ((i, (i, tt)), ((i, (v, tt)), tt))
+
+pub tell_sync : IsSync ident.the_row → IsSync value.the_row → IsSync told.the_row
+tell_sync i v = variants_sync told.enum ((i, (i, tt)), ((i, (v, tt)), tt))
+
+due_send : IsSend ident.the_row → IsSend (option.the_row ident.the_row) → IsSend due.the_row
+due_send i o = variants_send due.enum (tt, ((i, (o, tt)), ((o, tt), tt)))
+
+due_sync : IsSync ident.the_row → IsSync (option.the_row ident.the_row) → IsSync due.the_row
+due_sync i o = variants_sync due.enum (tt, ((i, (o, tt)), ((o, tt), tt)))
 
 log_send : IsSend (list.the_row (shared.the_row (sequence.the_row told.the_row))) → IsSend told.the_row → IsSend log.the_row
 log_send l t = view_send _ _ _ _ _ (declared_send log.TheInside.the_type (l, (Vec-send told.the_row t, tt)))
@@ -46,8 +61,8 @@ levels_send s t u i h n = view_send _ _ _ _ _ (declared_send levels.TheInside.th
 pub levels_sync : IsSync name.the_row → IsSync status.the_row → IsSync store.the_row → IsSync (sequence.the_row ident.the_row) → IsSync (sequence.the_row thread.the_row) → IsSync next.the_row → IsSync levels.the_row
 levels_sync s t u i h n = view_sync _ _ _ _ _ (declared_sync levels.TheInside.the_type (Vec-sync level.the_row (level_sync s t u i h n), tt))
 
-pub machine_send : IsSend (shared.the_row kernel.the_row) → IsSend levels.the_row → IsSend queue.the_row → IsSend (list.the_row (sequence.the_row u8)) → IsSend machine.the_row
-machine_send k l q s = view_send _ _ _ _ _ (declared_send machine.TheInside.the_type (k, (declared_send course.the_type (l, (q, (search sendable, (s, tt)))), (search sendable, tt))))
+pub machine_send : IsSend (shared.the_row kernel.the_row) → IsSend levels.the_row → IsSend queue.the_row → IsSend ident.the_row → IsSend (option.the_row ident.the_row) → IsSend (list.the_row (sequence.the_row u8)) → IsSend machine.the_row
+machine_send k l q i o s = view_send _ _ _ _ _ (declared_send machine.TheInside.the_type (k, (declared_send course.the_type (l, (q, (due_send i o, (s, tt)))), (search sendable, tt))))
 
-pub machine_sync : IsSync (shared.the_row kernel.the_row) → IsSync levels.the_row → IsSync queue.the_row → IsSync (list.the_row (sequence.the_row u8)) → IsSync machine.the_row
-machine_sync k l q s = view_sync _ _ _ _ _ (declared_sync machine.TheInside.the_type (k, (declared_sync course.the_type (l, (q, (search sendable, (s, tt)))), (search sendable, tt))))
+pub machine_sync : IsSync (shared.the_row kernel.the_row) → IsSync levels.the_row → IsSync queue.the_row → IsSync ident.the_row → IsSync (option.the_row ident.the_row) → IsSync (list.the_row (sequence.the_row u8)) → IsSync machine.the_row
+machine_sync k l q i o s = view_sync _ _ _ _ _ (declared_sync machine.TheInside.the_type (k, (declared_sync course.the_type (l, (q, (due_sync i o, (s, tt)))), (search sendable, tt))))

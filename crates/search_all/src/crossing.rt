@@ -1,11 +1,15 @@
 //! What may cross threads, from its parts up.
 ghost use denote.Builtin.{u8};
 ghost use Rattle.std.specs.Thread.{IsSend, IsSync};
+ghost use Rattle.std.specs.contracts.option.Option as option;
 ghost use Rattle.oz_base.specs.contracts.names.SpaceName as name;
 ghost use Rattle.oz_base.specs.contracts.names.Ident as ident;
 ghost use Rattle.oz_base.specs.contracts.sequence.Sequence as sequence;
 ghost use Rattle.oz_base.specs.contracts.shared.Shared as shared;
 ghost use Rattle.oz_language.specs.contracts.kernel.Kernel as kernel;
+ghost use Rattle.environments.specs.contracts.environment.Environment as environment;
+ghost use Rattle.oz_semantics.specs.contracts.value.Procedure as procedure;
+ghost use Rattle.oz_semantics.specs.contracts.value.Value as value;
 ghost use Rattle.oz_semantics.specs.contracts.value.Tell as told;
 ghost use Rattle.oz_semantics.specs.contracts.configuration.Status as status;
 ghost use Rattle.oz_semantics.specs.contracts.configuration.Thread as thread;
@@ -18,9 +22,10 @@ ghost use Rattle.oz_threads.specs.contracts.queue.Queue as queue;
 ghost use Rattle.oz_machine.specs.contracts.machine.Machine as machine;
 ghost use Rattle.recompute.specs.contracts.frozen.Frozen as frozen;
 
+use environments::Environment;
 use oz_base::{Ident, Sequence, Shared, SpaceName};
 use oz_language::Kernel;
-use oz_semantics::{Next, Status, Tell, Thread};
+use oz_semantics::{Next, Procedure, Status, Tell, Thread, Value};
 use oz_threads::Queue;
 use recompute::Frozen;
 use shared_list::SharedList;
@@ -48,15 +53,58 @@ fn chunks_cross()
     ensures send { IsSend (list.the_row (shared.the_row (sequence.the_row told.the_row))) }
     ensures sync { IsSync (list.the_row (shared.the_row (sequence.the_row told.the_row))) }
 {
+    tells_cross();
     list_crosses::<Shared<Sequence<Tell>>>();
+}
+
+fn ident_crosses()
+    ensures send { IsSend ident.the_row }
+    ensures sync { IsSync ident.the_row }
+{
+    sends::<Ident>();
+    shares::<Ident>();
+}
+
+fn optional_idents_cross()
+    ensures send { IsSend (option.the_row ident.the_row) }
+    ensures sync { IsSync (option.the_row ident.the_row) }
+{
+    sends::<Option<Ident>>();
+    shares::<Option<Ident>>();
+}
+
+fn environments_cross()
+    ensures send { IsSend environment.the_row }
+    ensures sync { IsSync environment.the_row }
+{
+    sends::<Environment>();
+    shares::<Environment>();
+}
+
+fn procedures_cross()
+    ensures send { IsSend procedure.the_row }
+    ensures sync { IsSync procedure.the_row }
+{
+    environments_cross();
+    sends::<Procedure>();
+    shares::<Procedure>();
+}
+
+fn values_cross()
+    ensures send { IsSend value.the_row }
+    ensures sync { IsSync value.the_row }
+{
+    procedures_cross();
+    sends::<Value>();
+    shares::<Value>();
 }
 
 fn tells_cross()
     ensures send { IsSend told.the_row }
     ensures sync { IsSync told.the_row }
 {
-    sends::<Tell>();
-    shares::<Tell>();
+    ident_crosses();
+    values_cross();
 }
 
 fn classes_cross()
@@ -159,6 +207,8 @@ fn machine_crosses()
     levels_cross();
     kernel_crosses();
     queue_crosses();
+    ident_crosses();
+    optional_idents_cross();
     shown_crosses();
 }
 
