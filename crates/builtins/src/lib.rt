@@ -17,7 +17,7 @@ mod table;
 pub use answer::{Act, Answer, Readiness};
 pub use calls::{answer_call, answer_given, arguments_of};
 pub use readiness::{ready_by, ready_call, ready_given, ready_one};
-pub use table::{Row, rows};
+pub use table::{Row, lookup, rows};
 
 #[cfg(test)]
 mod tests;

@@ -1,7 +1,9 @@
 //! The table of built-ins (CTM appendix B).
 ghost use Rattle.std.specs.Prelude.{◌≡◌, map};
+ghost use Rattle.std.specs.List.{filter_map};
+ghost use Rattle.oz_base.specs.Lists.{first, list_eq};
 ghost use Rattle.oz_semantics.specs.Builtins.{rows};
-ghost use Rattle.builtins.specs.Tables.{row_of};
+ghost use Rattle.builtins.specs.Tables.{row_of, worded, word_of, called, named_builtin};
 
 use oz_language::Operation;
 use oz_semantics::Builtin;
@@ -11,8 +13,12 @@ use oz_semantics::Builtin;
 pub enum Row {
     /// What an operator calls.
     Operator(Operation),
-    /// A built-in with a name.
-    Named(&'static [u8], Builtin),
+    /// A built-in with a name, which is the word of this number in each text.
+    Named {
+        word: u32,
+        name: &'static [u8],
+        builtin: Builtin,
+    },
     /// One that no program can call yet.
     Unserved,
 }
@@ -30,11 +36,27 @@ static ROWS: [Row; 36] = [
     Row::Operator(Operation::Same),
     Row::Operator(Operation::Differs),
     Row::Operator(Operation::Select),
-    Row::Named(b"Label", Builtin::Label),
-    Row::Named(b"Width", Builtin::Width),
-    Row::Named(b"Arity", Builtin::Arity),
+    Row::Named {
+        word: 3,
+        name: b"Label",
+        builtin: Builtin::Label,
+    },
+    Row::Named {
+        word: 4,
+        name: b"Width",
+        builtin: Builtin::Width,
+    },
+    Row::Named {
+        word: 5,
+        name: b"Arity",
+        builtin: Builtin::Arity,
+    },
     Row::Unserved,
-    Row::Named(b"Wait", Builtin::Wait),
+    Row::Named {
+        word: 7,
+        name: b"Wait",
+        builtin: Builtin::Wait,
+    },
     Row::Unserved,
     Row::Unserved,
     Row::Unserved,
@@ -42,7 +64,11 @@ static ROWS: [Row; 36] = [
     Row::Unserved,
     Row::Unserved,
     Row::Unserved,
-    Row::Named(b"Show", Builtin::Show),
+    Row::Named {
+        word: 1,
+        name: b"Show",
+        builtin: Builtin::Show,
+    },
     Row::Unserved,
     Row::Unserved,
     Row::Unserved,
@@ -58,7 +84,52 @@ static ROWS: [Row; 36] = [
 
 /// The rows of the table.
 pub fn rows() -> &'static [Row]
-    ensures { map row_of result.now ≡ rows }
+    ensures rows { map row_of result.now ≡ rows }
+    ensures words { map worded result.now ≡ map word_of rows }
 {
     &ROWS
+}
+
+fn same_name(left: &[u8], right: &[u8]) -> bool
+    ensures { result ≡ list_eq left.now right.now }
+{
+    left == right
+}
+
+/// The built-in of a row that has this name.
+fn called(row: &Row, name: &[u8]) -> Option<Builtin>
+    ensures { result ≡ called name.now (row_of row.now) }
+{
+    match row {
+        Row::Named {
+            name: own,
+            builtin,
+            ..
+        } => {
+            if same_name(own, name) {
+                Some(*builtin)
+            } else {
+                None
+            }
+        }
+        Row::Operator(_) | Row::Unserved => None,
+    }
+}
+
+fn first_called(rows: &[Row], name: &[u8]) -> Option<Builtin>
+    ensures { result ≡ first (filter_map (λ r. called name.now (row_of r)) rows.now) }
+{
+    for row in rows {
+        if let Some(builtin) = called(row, name) {
+            return Some(builtin);
+        }
+    }
+    None
+}
+
+/// The built-in with this name. None exactly where the table has none.
+pub fn lookup(name: &[u8]) -> Option<Builtin>
+    ensures { result ≡ named_builtin name.now }
+{
+    first_called(rows(), name)
 }

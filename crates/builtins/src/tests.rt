@@ -1,4 +1,4 @@
-use super::{Act, Answer, Readiness, Row, answer_call, ready_call, rows};
+use super::{Act, Answer, Readiness, Row, answer_call, lookup, ready_call, rows};
 use oz_base::{Ident, SpaceName};
 use oz_language::{Constant, Operation};
 use oz_semantics::{Builtin, RaiseKind, Tell, Value};
@@ -98,9 +98,17 @@ fn waits_for_its_input(rt: HostRuntime) -> Result<(), Fail> {
 #[test]
 fn has_a_row_for_each(rt: HostRuntime) -> Result<(), Fail> {
     let named = match rows()[24] {
-        Row::Named(name, _) => name == b"Show".as_slice(),
+        Row::Named { name, .. } => name == b"Show".as_slice(),
         _ => false,
     };
     assert!(rt; named);
+    Ok(())
+}
+
+#[test]
+fn finds_a_built_in_by_its_name(rt: HostRuntime) -> Result<(), Fail> {
+    assert!(rt; matches!(lookup(b"Arity"), Some(Builtin::Arity)));
+    assert!(rt; lookup(b"arity").is_none());
+    assert!(rt; lookup(b"").is_none());
     Ok(())
 }
