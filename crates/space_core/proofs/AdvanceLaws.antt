@@ -1,12 +1,12 @@
 -- One edit of a space after another, at the place that was looked up.
 use Rattle.std.proofs.Common.{◌≡◌, ℕ, ◌+◌, ◌<◌, ◌≤◌, arith, length, true, false, List, [], ◌∷◌, ◌++◌, slice_set, slice_index_or, refl, sym, ap, subst, ◌∙◌, drop, Option, Some, unwrap_or}
 use Rattle.std.specs.List.{list_all}
-use Rattle.std.proofs.lemmas.List.{get_or-set_same, get_or_default, get_or_append_left, set-set, set-get_or, set-append_left, length-set}
+use Rattle.std.proofs.lemmas.List.{get_or-set_same, get_or_default, set-set, set-get_or, length-set}
 use Rattle.oz_base.specs.Lists.{list_eq}
 use Rattle.oz_base.specs.declared.names.Ident.{Ident}
 use Rattle.oz_semantics.specs.Names.{is_properly_below}
 use Rattle.oz_semantics.specs.Store.{named_by, is_consistent}
-use Rattle.oz_semantics.specs.Configurations.{is_of, is_numbered, in_layer, in_thread, view, telling, with_frames, thread_at, frames_in, stack_of, new_layer}
+use Rattle.oz_semantics.specs.Configurations.{is_of, is_numbered, in_layer, view, telling, with_frames, thread_at, frames_in, stack_of, new_layer}
 use Rattle.oz_semantics.specs.Changes.{GivesOut, done}
 use Rattle.oz_semantics.specs.Exceptions.{unwound}
 use Rattle.oz_semantics.specs.Steps.{without_top}
@@ -16,19 +16,19 @@ use Rattle.oz_semantics.specs.declared.configuration.Thread.{Thread}
 use Rattle.oz_semantics.specs.declared.configuration.Layer.{Layer}
 use Rattle.settle_laws.specs.Settles.{Settles}
 use Rattle.settle_laws.proofs.SettleLaws.{nothing_fails}
-use Rattle.settle_laws.proofs.EditLaws.{edits_join, edits_agree}
 use Rattle.view_laws.proofs.SightLaws.{space_of}
 use Rattle.space_core.specs.Advances.{given_out, IsAdvanced, IsRaised, taken_on}
 use Rattle.space_core.specs.Giving.{giving, after_giving}
 use Rattle.space_core.specs.Places.{IsFirst}
-use Rattle.space_core.specs.Shown.{shown_all, is_home, IsSound, IsQuiet}
+use Rattle.space_core.specs.Shown.{shown, shown_all, is_home, IsSound, IsQuiet}
 use Rattle.space_core.specs.Stacks.{cut_out}
-use Rattle.space_core.specs.Telling.{has_below, after_giving_at, ToldAt, ClashesAt}
+use Rattle.space_core.specs.Telling.{has_below, after_giving_at, ToldAt, ClashesAt, HasThread}
 use Rattle.space_core.specs.declared.given.Given.{Given}
 use Rattle.space_core.specs.declared.given.Given.TheVariants.{Nothing, Variables, Procedure}
 use Rattle.space_core.specs.declared.level.Level.{Level}
-use Rattle.space_core.proofs.AnswerLaws.{PlaceIn}
-use Rattle.space_core.proofs.CatchLaws.{room_to_cut, room_to_undo}
+use Rattle.space_core.specs.Threads.{Running}
+use Rattle.space_core.proofs.AnswerLaws.{PlaceIn, unchanged}
+use Rattle.space_core.proofs.CatchLaws.{quiet_twice, quiet_as, quiet_same, room_for, room_to_cut}
 use Rattle.space_core.proofs.Firsts.{first_edited, edit_same, any_edited}
 use Rattle.space_core.proofs.LayerLaws.{frames_twice, uncut_handler, told_by, told_by_is, raised_is}
 use Rattle.space_core.proofs.SoundLaws.{Edited, quiet_edit, read_shown, place_within, place_member, none_inconsistent}
@@ -145,31 +145,6 @@ module _ (levels : List Level) (value : List Layer) (viewed : shown_all levels �
   pushing_step : Reached levels pushed id.space place (with_frames id.number (λ stack. handler ++ stack))
   pushing_step = quiet_step levels id.space place s h l l1 e (with_frames id.number (λ stack. handler ++ stack)) (λ k. refl) q
 
-  -- it is refused or clashes, and the handler is cut off
-  module _ (news : List Level) (none_told : news ≡ pushed) (l2 m : Level) (e2 : l2 ≡ slice_index_or news place l2) (q2 : IsQuiet (with_frames id.number (cut_out 0 height)) l2 m) where
-    undoing_step : Reached pushed (slice_set news place m) id.space place (with_frames id.number (cut_out 0 height))
-    undoing_step =
-        subst (λ (ls : List Level). Reached pushed (slice_set ls place m) id.space place (with_frames id.number (cut_out 0 height))) (sym none_told)
-        (quiet_step pushed id.space place pushing_step.edited.sound pushing_step.here l2 m (subst (λ (ls : List Level). l2 ≡ slice_index_or ls place l2) none_told e2)
-        (with_frames id.number (cut_out 0 height)) (λ k. refl) q2)
-
-    pub undone_sound : IsSound (slice_set news place m)
-    undone_sound = undoing_step.edited.sound
-
-    same_layer : (k : Layer) → with_frames id.number (cut_out 0 height) (with_frames id.number (λ stack. handler ++ stack) k) ≡ k
-    same_layer k =
-        frames_twice id.number (cut_out 0 height) (λ stack. handler ++ stack) k
-        ∙ ap (λ (f : List Frame → List Frame). with_frames id.number f k) (λ i s. uncut_handler handler s height high i)
-        ∙ ap (λ (us : List Thread). record k { threads = us }) (edit_same (is_numbered id.number) k.threads)
-
-    pub undone_shows : shown_all (slice_set news place m) ≡ value
-    undone_shows =
-        undoing_step.edited.shows ∙ ap (in_layer id.space (with_frames id.number (cut_out 0 height))) pushing_step.edited.shows
-        ∙ edits_join id.space (with_frames id.number (cut_out 0 height)) (with_frames id.number (λ stack. handler ++ stack)) (shown_all levels) (λ k. refl)
-        ∙ edits_agree id.space (λ k. with_frames id.number (cut_out 0 height) (with_frames id.number (λ stack. handler ++ stack) k)) (λ k. k) (shown_all levels) (λ k at. same_layer k)
-        ∙ edit_same (is_of id.space) (shown_all levels)
-        ∙ viewed
-
   -- it is told, and what stands below the handler is cut out
   module _ (ts : List Tell) (count : ℕ) (news : List Level) (t : ToldAt place ts (Variables count) pushed news) (below : ℕ)
       (l2 m : Level) (e2 : l2 ≡ slice_index_or news place l2) (q2 : IsQuiet (with_frames id.number (cut_out height below)) l2 m) where
@@ -201,10 +176,10 @@ module _ (levels : List Level) (value : List Layer) (viewed : shown_all levels �
 
   -- where the exception goes was looked for in the same stack
   module _ (x : Ident) (l0 : Level) (r0 : l0 ≡ slice_index_or levels place l0) (below : ℕ)
-      (lands : unwound x (drop 1 (frames_in (thread_at l0.threads id.number))) ≡ Some (handler ++ drop below (frames_in (thread_at l0.threads id.number))))
-      (within : below ≤ length (frames_in (thread_at l0.threads id.number))) where
+      (lands : unwound x (drop 1 (frames_in (thread_at l0.threads.list id.number))) ≡ Some (handler ++ drop below (frames_in (thread_at l0.threads.list id.number))))
+      (within : below ≤ length (frames_in (thread_at l0.threads.list id.number))) where
     abbrev stack_in : Level → List Frame
-    stack_in k = frames_in (thread_at k.threads id.number)
+    stack_in k = frames_in (thread_at k.threads.list id.number)
 
     same_stack : stack_in l0 ≡ stack_in l
     same_stack = ap stack_in (r0 ∙ get_or_default levels place l0 l (place_within levels id.space place h.0 h.1) ∙ sym e)
@@ -221,19 +196,38 @@ module _ (levels : List Level) (value : List Layer) (viewed : shown_all levels �
     lands_there : unwound x (drop 1 (stack_in l)) ≡ Some (handler ++ drop below (stack_in l))
     lands_there = subst (λ (fs : List Frame). unwound x (drop 1 fs) ≡ Some (handler ++ drop below fs)) same_stack lands
 
-    pub room_above : (news : List Level) → news ≡ pushed → (l2 : Level) → l2 ≡ slice_index_or news place l2 → 0 + height ≤ length (stack_in l2)
-    room_above news k l2 e2 =
-        let same : l2 ≡ l1 = read_set levels place l1 l2 (place_within levels id.space place h.0 h.1) (subst (λ (ls : List Level). l2 ≡ slice_index_or ls place l2) k e2) in
-        subst (λ (j : Level). 0 + height ≤ length (stack_in j)) (sym same)
-        (room_to_undo id.number handler l l1 q x (handler ++ drop below (stack_in l)) height lands_there high)
-
     pub room_below : (ts : List Tell) (count : ℕ) (news : List Level) → ToldAt place ts (Variables count) pushed news → (l2 : Level) → l2 ≡ slice_index_or news place l2 → height + below ≤ length (stack_in l2)
     room_below ts count news t l2 e2 =
         let told : l2 ≡ t.told = told_level pushed id place pushing_step.edited.sound pushing_step.here (pushing_step.below ∙ none) ts (Variables count) news t l2 e2 in
         let before : t.before ≡ l1 = read_set levels place l1 t.before (place_within levels id.space place h.0 h.1) t.read in
-        let threads : l2.threads ≡ l1.threads = ap (λ (k : Level). k.threads) told ∙ t.tells.threads ∙ ap (λ (k : Level). k.threads) before in
+        let threads : l2.threads.list ≡ l1.threads.list = ap (λ (k : Level). k.threads.list) told ∙ ap (λ (r : Running). r.list) t.tells.threads ∙ ap (λ (k : Level). k.threads.list) before in
         subst (λ (us : List Thread). height + below ≤ length (frames_in (thread_at us id.number))) (sym threads)
         (room_to_cut id.number handler l l1 q x (handler ++ drop below (stack_in l)) height below lands_there high (subst (λ (fs : List Frame). below ≤ length fs) same_stack within))
+
+-- A handler that is put on a stack and taken off again leaves what was there
+module _ (levels : List Level) (place n : ℕ) (within : place < length levels) (there : HasThread place n levels) (handler : List Frame) (height : ℕ) (high : height ≡ length handler)
+    (l l1 : Level) (e : l ≡ slice_index_or levels place l) (q : IsQuiet (with_frames n (λ stack. handler ++ stack)) l l1)
+    (news : List Level) (none_told : news ≡ slice_set levels place l1) (l2 : Level) (e2 : l2 ≡ slice_index_or news place l2) where
+  read_again : l2 ≡ l1
+  read_again = read_set levels place l1 l2 within (subst (λ (ls : List Level). l2 ≡ slice_index_or ls place l2) none_told e2)
+
+  pub room_to_undo : 0 + height ≤ length (frames_in (thread_at l2.threads.list n))
+  room_to_undo =
+      let room : height + 0 ≤ length (frames_in (thread_at l1.threads.list n)) = room_for n handler l l1 q (there l e) height 0 high (omega arith) in
+      subst (λ (j : Level). 0 + height ≤ length (frames_in (thread_at j.threads.list n))) (sym read_again) (omega (arith, room))
+
+  same_layer : (k : Layer) → with_frames n (cut_out 0 height) (with_frames n (λ stack. handler ++ stack) k) ≡ k
+  same_layer k =
+      frames_twice n (cut_out 0 height) (λ stack. handler ++ stack) k
+      ∙ ap (λ (f : List Frame → List Frame). with_frames n f k) (λ i s. uncut_handler handler s height high i)
+      ∙ ap (λ (us : List Thread). record k { threads = us }) (edit_same (is_numbered n) k.threads)
+
+  pub undone : (m : Level) → IsQuiet (with_frames n (cut_out 0 height)) l2 m → slice_set news place m ≡ levels
+  undone m q2 =
+      let p : IsQuiet (with_frames n (cut_out 0 height)) l1 m = subst (λ (j : Level). IsQuiet (with_frames n (cut_out 0 height)) j m) read_again q2 in
+      let both : IsQuiet (λ k. with_frames n (cut_out 0 height) (with_frames n (λ stack. handler ++ stack) k)) l m = quiet_twice (with_frames n (λ stack. handler ++ stack)) (with_frames n (cut_out 0 height)) l l1 m q p in
+      let same : m ≡ l = quiet_same l m (quiet_as (λ k. with_frames n (cut_out 0 height) (with_frames n (λ stack. handler ++ stack) k)) (λ k. k) l m both (same_layer (shown l))) in
+      ap (λ (ls : List Level). slice_set ls place m) none_told ∙ set-set levels place l1 m ∙ unchanged levels place l m e same
 
 -- What was told clashes, and nothing was done
 pub clash_shows : (levels : List Level) (value : List Layer) → shown_all levels ≡ value → IsSound levels → (space : List ℕ) (place : ℕ) → PlaceIn levels space place → (ts : List Tell) (news : List Level) → ClashesAt place ts levels news
@@ -254,28 +248,15 @@ module _ (levels : List Level) (place : ℕ) (within : place < length levels) (g
   pub given_level : l2 ≡ after_giving given l0
   given_level = read_set levels place g l2 within r2 ∙ e ∙ ap (after_giving given) (r1 ∙ get_or_default levels place l1 l0 within ∙ sym r0)
 
-  pub restored : slice_set (slice_set (slice_set levels place g) place t) place (record l3 { next = l0.next }) ≡ levels
+  pub restored : slice_set (slice_set (slice_set levels place g) place t) place (record l3 { numbers = l0.numbers }) ≡ levels
   restored =
       let inside : place < length (slice_set levels place g) = omega (arith, within, length-set levels place g) in
       let same : l3 ≡ after_giving given l0 = read_set (slice_set levels place g) place t l3 inside r3 ∙ k ∙ given_level in
-      set-set (slice_set levels place g) place t (record l3 { next = l0.next })
-      ∙ set-set levels place g (record l3 { next = l0.next })
-      ∙ ap (λ (m : Level). slice_set levels place (record m { next = l0.next })) same
+      set-set (slice_set levels place g) place t (record l3 { numbers = l0.numbers })
+      ∙ set-set levels place g (record l3 { numbers = l0.numbers })
+      ∙ ap (λ (m : Level). slice_set levels place (record m { numbers = l0.numbers })) same
       ∙ ap (slice_set levels place) r0
       ∙ set-get_or levels place l0
-
--- A thread that is added while the statement of another is taken off
-pub added : (threads : List Thread) (place n : ℕ) (x : Thread) → IsFirst (is_numbered n) threads place x → (new : Thread) (pushed : List Thread) → pushed ≡ threads ++ new ∷ []
-    → (t : Thread) → t ≡ slice_index_or pushed place t → (fs : List Frame) → fs ≡ drop 1 t.frames
-    → slice_set pushed place (record { number = t.number; frames = fs }) ≡ in_thread n (λ t. record t { frames = drop 1 t.frames }) threads ++ new ∷ []
-added threads place n x h new pushed p t r fs f =
-    let same : t ≡ x = r ∙ ap (λ (ts : List Thread). slice_index_or ts place t) p ∙ get_or_append_left threads (new ∷ []) t place h.within ∙ get_or_default threads place t x h.within ∙ h.item in
-    ap (λ (ts : List Thread). slice_set ts place (record { number = t.number; frames = fs })) p
-    ∙ set-append_left threads (new ∷ []) place (record { number = t.number; frames = fs }) h.within
-    ∙ ap (λ (ts : List Thread). ts ++ new ∷ [])
-    (ap (λ (gs : List Frame). slice_set threads place (record { number = t.number; frames = gs })) f
-    ∙ ap (λ (u : Thread). slice_set threads place (record u { frames = drop 1 u.frames })) same
-    ∙ sym (h.edited (λ t. record t { frames = drop 1 t.frames })))
 
 -- the place in what is kept is that in what it is read as
 pub place_by : {now levels : List Level} → now ≡ levels → (space : List ℕ) (place : ℕ) → PlaceIn now space place → PlaceIn levels space place

@@ -54,7 +54,7 @@ module _ (levels now : List Level) (value : List Layer) (seen : now ≡ levels) 
   found_here : PlaceIn levels id.space place
   found_here = subst (λ (ls : List Level). PlaceIn ls id.space place) seen h
 
-  stack_here : stack_of value id ≡ frames_in (thread_at l.threads id.number)
+  stack_here : stack_of value id ≡ frames_in (thread_at l.threads.list id.number)
   stack_here =
       ap (λ (ls : List Layer). stack_of ls id) (sym viewed)
       ∙ ap (λ (o : Option Layer). frames_in (thread_at (unwrap_or o (new_layer id.space)).threads id.number)) found_here.1.found

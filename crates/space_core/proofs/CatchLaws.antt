@@ -1,5 +1,5 @@
 -- A handler that goes on a thread's stack, and what stands below it that is cut out.
-use Rattle.std.proofs.Common.{◌≡◌, ℕ, ◌+◌, ◌≤◌, arith, List, ◌++◌, length, drop, refl, ap, ◌∙◌, Option, Some, None, length-append}
+use Rattle.std.proofs.Common.{◌≡◌, ℕ, ◌+◌, ◌≤◌, arith, List, ◌++◌, length, drop, refl, ap, ◌∙◌, Option, Some, None, is_some, true, length-append}
 use Rattle.oz_base.specs.declared.names.Ident.{Ident}
 use Rattle.oz_semantics.specs.Configurations.{is_numbered, thread_at, frames_in, in_thread, with_frames}
 use Rattle.oz_semantics.specs.Exceptions.{unwound}
@@ -39,30 +39,46 @@ quiet_as f g l m q e = record {
   children = q.children;
 }
 
+-- a stack that an exception leaves is one of a thread that is there
+pub there_by : (x : Ident) (o : Option Thread) (left : List Frame) → unwound x (drop 1 (frames_in o)) ≡ Some left → is_some o ≡ true
+there_by x None left u = absurd (cc)
+there_by x (Some t) left u = refl
+
+-- or as none at all
+pub quiet_same : (l m : Level) → IsQuiet (λ k. k) l m → m ≡ l
+quiet_same l m q = λ i. record {
+  space = q.space i;
+  status = (q.becomes i).status;
+  store = q.store i;
+  told_from = q.told_from i;
+  touched = q.touched i;
+  threads = record { list = (q.becomes i).threads; next = (q.becomes i).next.thread };
+  numbers = record { variable = (q.becomes i).next.variable; procedure = (q.becomes i).next.procedure; child = (q.becomes i).next.child };
+  traced = q.traced i;
+}
+
 module _ (n : ℕ) (handler : List Frame) (l l1 : Level) (q : IsQuiet (with_frames n (λ stack. handler ++ stack)) l l1) where
   abbrev stack : List Frame
-  stack = frames_in (thread_at l.threads n)
+  stack = frames_in (thread_at l.threads.list n)
 
   abbrev pushing : Thread → Thread
   pushing t = record t { frames = handler ++ t.frames }
 
-  -- a stack that an exception leaves is one of a thread that is there
-  pub pushed_frames : (x : Ident) (left : List Frame) → unwound x (drop 1 stack) ≡ Some left → frames_in (thread_at l1.threads n) ≡ handler ++ stack
-  pushed_frames x left u = ap (λ (k : Layer). frames_in (thread_at k.threads n)) q.becomes ∙ by (thread_at l.threads n) refl u
+  pushed_frames : is_some (thread_at l.threads.list n) ≡ true → frames_in (thread_at l1.threads.list n) ≡ handler ++ stack
+  pushed_frames there = ap (λ (k : Layer). frames_in (thread_at k.threads n)) q.becomes ∙ by (thread_at l.threads.list n) refl there
     where
-      by : (o : Option Thread) → thread_at l.threads n ≡ o → unwound x (drop 1 (frames_in o)) ≡ Some left → frames_in (thread_at (in_thread n pushing l.threads) n) ≡ handler ++ frames_in o
+      by : (o : Option Thread) → thread_at l.threads.list n ≡ o → is_some o ≡ true → frames_in (thread_at (in_thread n pushing l.threads.list) n) ≡ handler ++ frames_in o
       by None e v = absurd (cc)
-      by (Some t) e v = ap frames_in (found_edited (is_numbered n) pushing l.threads t e (found_in (is_numbered n) pushing l.threads t e).1)
+      by (Some t) e v = ap frames_in (found_edited (is_numbered n) pushing l.threads.list t e (found_in (is_numbered n) pushing l.threads.list t e).1)
 
-  pub room_to_cut : (x : Ident) (left : List Frame) (h c : ℕ) → unwound x (drop 1 stack) ≡ Some left → h ≡ length handler → c ≤ length stack → h + c ≤ length (frames_in (thread_at l1.threads n))
-  room_to_cut x left h c u e within =
-      let whole : length (frames_in (thread_at l1.threads n)) ≡ length handler + length stack = ap length (pushed_frames x left u) ∙ length-append handler stack in
+  -- there is room for what is cut out
+  pub room_for : is_some (thread_at l.threads.list n) ≡ true → (h c : ℕ) → h ≡ length handler → c ≤ length stack → h + c ≤ length (frames_in (thread_at l1.threads.list n))
+  room_for there h c e within =
+      let whole : length (frames_in (thread_at l1.threads.list n)) ≡ length handler + length stack = ap length (pushed_frames there) ∙ length-append handler stack in
       omega (arith, whole, e, within)
 
-  pub room_to_undo : (x : Ident) (left : List Frame) (h : ℕ) → unwound x (drop 1 stack) ≡ Some left → h ≡ length handler → 0 + h ≤ length (frames_in (thread_at l1.threads n))
-  room_to_undo x left h u e =
-      let whole : length (frames_in (thread_at l1.threads n)) ≡ length handler + length stack = ap length (pushed_frames x left u) ∙ length-append handler stack in
-      omega (arith, whole, e)
+  pub room_to_cut : (x : Ident) (left : List Frame) (h c : ℕ) → unwound x (drop 1 stack) ≡ Some left → h ≡ length handler → c ≤ length stack → h + c ≤ length (frames_in (thread_at l1.threads.list n))
+  room_to_cut x left h c u = room_for (there_by x (thread_at l.threads.list n) left u) h c
 
   pub caught_quietly : (m : Level) (h c : ℕ) → IsQuiet (with_frames n (cut_out h c)) l1 m → h ≡ length handler → IsQuiet (with_frames n (λ rest. handler ++ drop c stack)) l m
   caught_quietly m h c r e =

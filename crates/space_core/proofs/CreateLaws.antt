@@ -17,7 +17,7 @@ use Rattle.view_laws.proofs.SightLaws.{creation_unseen, space_of}
 use Rattle.view_laws.proofs.TreeLaws.{put_in, not_top_child, fresh_before, tree_created}
 use Rattle.space_core.specs.Ending.{IsChild, IsAdded}
 use Rattle.space_core.specs.Places.{IsFirst}
-use Rattle.space_core.specs.Shown.{shown, shown_all, seen_above, is_home, Traces, Fits, IsSound}
+use Rattle.space_core.specs.Shown.{next_of, shown, shown_all, seen_above, is_home, Traces, Fits, IsSound}
 use Rattle.space_core.specs.declared.level.Level.{Level}
 use Rattle.space_core.proofs.MemberLaws.{elsewhere_in, set_member}
 use Rattle.space_core.proofs.TraceLaws.{traces_nothing}
@@ -91,10 +91,10 @@ module _ (levels : List Level) (s : IsSound levels) (parent : List ℕ) (place :
   own_name = ap (λ (k : Layer). k.space) (read_shown levels parent place x h l e) ∙ space_of layers parent x h.found
 
   child_parent : parent_of name ≡ parent
-  child_parent = parent_child l.space l.next.child ∙ own_name
+  child_parent = parent_child l.space l.numbers.child ∙ own_name
 
   not_parent : is_of parent new ≡ false
-  not_parent = subst (λ (p : List ℕ). list_eq (child_name l.space l.next.child) p ≡ false) own_name (not_own_child l.space l.next.child)
+  not_parent = subst (λ (p : List ℕ). list_eq (child_name l.space l.numbers.child) p ≡ false) own_name (not_own_child l.space l.numbers.child)
 
   abbrev before_new : Layer → Bool
   before_new other = space_lt new.space other.space
@@ -145,7 +145,7 @@ module _ (levels : List Level) (s : IsSound levels) (parent : List ℕ) (place :
   sees_parent = sym (own_fits.seen ∙ ap (view layers) own_name)
 
   above_child : seen_above after name ≡ l.store
-  above_child = above_is after name (not_top_child l.space l.next.child) ∙ after_view (parent_of name) ∙ ap (view layers) child_parent ∙ sees_parent
+  above_child = above_is after name (not_top_child l.space l.numbers.child) ∙ after_view (parent_of name) ∙ ap (view layers) child_parent ∙ sees_parent
 
   no_tells : (shown m).tells ≡ []
   no_tells = ap (λ (k : Layer). k.tells) child.shows
@@ -165,10 +165,10 @@ module _ (levels : List Level) (s : IsSound levels) (parent : List ℕ) (place :
   fits_new n c = elim (added.member n c) [ inl q ↦ subst (Fits after) (sym q) fits_child | inr d ↦ fits_old n d ]
 
   -- the parent counts it
-  module _ (counted : Level) (count : ℕ) (counts : count ≡ l.next.child + 1) (is : counted ≡ record l2 { next = record l2.next { child = count } }) where
+  module _ (counted : Level) (count : ℕ) (counts : count ≡ l.numbers.child + 1) (is : counted ≡ record l2 { numbers = record l2.numbers { child = count } }) where
     counted_shown : shown counted ≡ counting_child (shown l2)
     counted_shown =
-        ap shown is ∙ ap (λ (n : ℕ). record (shown l2) { next = record l2.next { child = n } }) (counts ∙ ap (λ (k : Layer). k.next.child + 1) (sym found_again))
+        ap shown is ∙ ap (λ (n : ℕ). record (shown l2) { next = record (next_of l2) { child = n } }) (counts ∙ ap (λ (k : Layer). k.next.child + 1) (sym found_again))
 
     created_shown : shown_all (slice_set news place2 counted) ≡ after
     created_shown = set_shown news parent place2 x2 h2 l2 counted e2 counting_child counted_shown ∙ ap (in_layer parent counting_child) news_shown ∙ created_is
@@ -176,7 +176,7 @@ module _ (levels : List Level) (s : IsSound levels) (parent : List ℕ) (place :
     fits_counted : Fits after counted
     fits_counted =
         subst (Fits after) (sym is)
-        (fits_alike after l2 (record l2 { next = record l2.next { child = count } }) (record { space = refl; store = refl; told_from = refl; touched = refl; traced = refl })
+        (fits_alike after l2 (record l2 { numbers = record l2.numbers { child = count } }) (record { space = refl; store = refl; told_from = refl; touched = refl; traced = refl })
         (fits_new l2 (place_member news parent place2 x2 h2 l2 e2)))
 
     pub create_shows : shown_all (slice_set news place2 counted) ≡ created parent procedure (shown_all levels)

@@ -18,7 +18,7 @@ use Rattle.view_laws.proofs.SightLaws.{quiet_unseen, raise_unseen, parent_above}
 use Rattle.view_laws.proofs.TreeLaws.{tree_left}
 use Rattle.space_core.specs.Ending.{IsAbove, IsFailure}
 use Rattle.space_core.specs.Places.{IsFirst}
-use Rattle.space_core.specs.Shown.{shown, shown_all, seen_above, is_home, Traces, Fits, IsSound}
+use Rattle.space_core.specs.Shown.{next_with, shown, shown_all, seen_above, is_home, Traces, Fits, IsSound}
 use Rattle.space_core.specs.Telling.{has_below}
 use Rattle.space_core.specs.declared.level.Level.{Level}
 use Rattle.space_core.proofs.MemberLaws.{filter_member, map_filter}
@@ -103,10 +103,10 @@ module _ (levels : List Level) (space : List ℕ) (place : ℕ) (x : Layer) (h :
   no_tells = ap₂ (λ (n : ℕ) (ts : List Tell). drop n ts) f.bare.told_from f.bare.store ∙ drop-length tells
 
   shows_failed : shown m ≡ failed (shown l)
-  shows_failed = λ i. record { space = f.space i; status = f.status i; tells = no_tells i; threads = f.threads i; next = f.next i }
+  shows_failed = λ i. record { space = f.space i; status = f.status i; tells = no_tells i; threads = (f.threads i).list; next = next_with (f.threads i).next (f.numbers i) }
 
   pub fail_edit : Edited levels (slice_set levels place m) space failed
-  fail_edit = edit_above levels space place x h l m e failed shows_failed f.space f.next s none (record {
+  fail_edit = edit_above levels space place x h l m e failed shows_failed f.space f.numbers s none (record {
     store = f.bare.store ∙ sees ∙ sym (append-nil (seen_above (shown_all levels) space)) ∙ ap (λ (ts : List Tell). seen_above (shown_all levels) space ++ ts) (sym no_tells);
     from = f.bare.told_from ∙ ap length sees;
     consistent = ap is_consistent f.bare.store ∙ consistent;

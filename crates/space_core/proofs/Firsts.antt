@@ -10,10 +10,10 @@ use Rattle.space_core.specs.Places.{IsAbsent, IsFirst}
 abbrev pub Found : {A : Type 0} → (A → Bool) → List A → Option ℕ → Type 0
 Found {A} test xs at = MatchOption at (IsAbsent test xs) (λ place. (x : A) × IsFirst test xs place x)
 
-position_here : {A : Type 0} (test : A → Bool) (x : A) (xs : List A) → test x ≡ true → position test (x ∷ xs) ≡ Some 0
+pub position_here : {A : Type 0} (test : A → Bool) (x : A) (xs : List A) → test x ≡ true → position test (x ∷ xs) ≡ Some 0
 position_here test x xs e = rw e (grind arith)
 
-position_later : {A : Type 0} (test : A → Bool) (x : A) (xs : List A) → test x ≡ false → position test (x ∷ xs) ≡ option_map (λ n. suc n) (position test xs)
+pub position_later : {A : Type 0} (test : A → Bool) (x : A) (xs : List A) → test x ≡ false → position test (x ∷ xs) ≡ option_map (λ n. suc n) (position test xs)
 position_later test x xs e = rw e (grind (arith, common_steps))
 
 here : {A : Type 0} (test : A → Bool) (x : A) (xs : List A) → test x ≡ true → IsFirst test (x ∷ xs) 0 x

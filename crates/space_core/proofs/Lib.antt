@@ -1,4 +1,5 @@
 pub mod Firsts
+pub mod ThreadLaws
 pub mod MemberLaws
 pub mod TraceLaws
 pub mod SoundLaws

@@ -61,7 +61,7 @@ pub record IsAlike (old new : Level) : Type 0 where
 
 pub fits_alike : (layers : List Layer) (l m : Level) → IsAlike l m → Fits layers l → Fits layers m
 fits_alike layers l m e f =
-    let l' : Level = record l { status = m.status; threads = m.threads; next = m.next } in
+    let l' : Level = record l { status = m.status; threads = m.threads; numbers = m.numbers } in
     let f' : Fits layers l' = record { seen = f.seen; from = f.from; consistent = f.consistent; home = f.home; touches = f.touches } in
     let same : l' ≡ m = λ i. record {
       space = sym e.space i;
@@ -70,7 +70,7 @@ fits_alike layers l m e f =
       told_from = sym e.told_from i;
       touched = sym e.touched i;
       threads = m.threads;
-      next = m.next;
+      numbers = m.numbers;
       traced = sym e.traced i;
     } in
     subst (Fits layers) same f'
@@ -153,14 +153,14 @@ module _ (levels : List Level) (space : List ℕ) (place : ℕ) (x : Layer) (h :
 
   keeps_variables : (k : Layer) → layer_at layers space ≡ Some k → k.next.variable ≤ (change k).next.variable
   keeps_variables k at =
-      let a : k.next.variable ≡ l.next.variable = ap (λ (n : Layer). n.next.variable) (found_is k at) in
-      let b : (change k).next.variable ≡ m.next.variable = ap (λ (n : Layer). n.next.variable) (changed_is k at) in
+      let a : k.next.variable ≡ l.numbers.variable = ap (λ (n : Layer). n.next.variable) (found_is k at) in
+      let b : (change k).next.variable ≡ m.numbers.variable = ap (λ (n : Layer). n.next.variable) (changed_is k at) in
       omega (arith, a, b, q.variables)
 
   keeps_children : (k : Layer) → layer_at layers space ≡ Some k → k.next.child ≤ (change k).next.child
   keeps_children k at =
-      let a : k.next.child ≡ l.next.child = ap (λ (n : Layer). n.next.child) (found_is k at) in
-      let b : (change k).next.child ≡ m.next.child = ap (λ (n : Layer). n.next.child) (changed_is k at) in
+      let a : k.next.child ≡ l.numbers.child = ap (λ (n : Layer). n.next.child) (found_is k at) in
+      let b : (change k).next.child ≡ m.numbers.child = ap (λ (n : Layer). n.next.child) (changed_is k at) in
       omega (arith, a, b, q.children)
 
   same_views : (other : List ℕ) → view after other ≡ view layers other

@@ -12,7 +12,6 @@ use Rattle.oz_semantics.specs.Store.{named_by, is_consistent}
 use Rattle.oz_semantics.specs.Configurations.{is_of, layer_at, view, in_layer, telling}
 use Rattle.oz_semantics.specs.declared.value.Tell.{Tell}
 use Rattle.oz_semantics.specs.declared.configuration.Layer.{Layer}
-use Rattle.oz_semantics.specs.declared.configuration.Next.{Next}
 use Rattle.oz_laws.proofs.SameLaws.{In, In-from_contains, and-left, and-right}
 use Rattle.view_laws.specs.Sights.{KeepsSpace, is_led}
 use Rattle.view_laws.specs.Trees.{IsTree, is_ascending, names_of}
@@ -21,9 +20,10 @@ use Rattle.view_laws.proofs.NameLaws.{equal_names, names_equal, not_above_parent
 use Rattle.view_laws.proofs.SightLaws.{of_space, space_of, change_unseen, later_silent, view_splits, parent_above}
 use Rattle.view_laws.proofs.TreeLaws.{one_of_name, trees_lead, change_tree}
 use Rattle.space_core.specs.Places.{IsFirst}
-use Rattle.space_core.specs.Shown.{shown, shown_all, seen_above, is_home, Traces, Fits, IsSound}
+use Rattle.space_core.specs.Shown.{next_with, shown, shown_all, seen_above, is_home, Traces, Fits, IsSound}
 use Rattle.space_core.specs.Telling.{IsToldMore, has_below}
 use Rattle.space_core.specs.declared.level.Level.{Level}
+use Rattle.space_core.specs.declared.level.Numbers.{Numbers}
 use Rattle.space_core.proofs.Firsts.{found_edited}
 use Rattle.space_core.proofs.MemberLaws.{IsElsewhere, elsewhere_in, set_member, all_flat}
 use Rattle.space_core.proofs.TraceLaws.{traces_twice}
@@ -85,7 +85,7 @@ layer_found levels s l c = found_by (shown_all levels) (shown l) s.tree.ordered 
 -- The edit of a space that has none below it
 
 module _ (levels : List Level) (space : List ℕ) (place : ℕ) (x : Layer) (h : IsFirst (is_of space) (shown_all levels) place x) (l m : Level) (e : l ≡ slice_index_or levels place l)
-    (change : Layer → Layer) (becomes : shown m ≡ change (shown l)) (names : m.space ≡ l.space) (numbers : m.next ≡ l.next) (s : IsSound levels) (none : has_below (shown_all levels) space ≡ false) where
+    (change : Layer → Layer) (becomes : shown m ≡ change (shown l)) (names : m.space ≡ l.space) (numbers : m.numbers ≡ l.numbers) (s : IsSound levels) (none : has_below (shown_all levels) space ≡ false) where
   abbrev layers : List Layer
   layers = shown_all levels
 
@@ -103,16 +103,16 @@ module _ (levels : List Level) (space : List ℕ) (place : ℕ) (x : Layer) (h :
 
   keeps_variables : (k : Layer) → layer_at layers space ≡ Some k → k.next.variable ≤ (change k).next.variable
   keeps_variables k at =
-      let a : k.next.variable ≡ l.next.variable = ap (λ (n : Layer). n.next.variable) (found_is k at) in
-      let b : (change k).next.variable ≡ m.next.variable = ap (λ (n : Layer). n.next.variable) (changed_is k at) in
-      let d : m.next.variable ≡ l.next.variable = ap (λ (n : Next). n.variable) numbers in
+      let a : k.next.variable ≡ l.numbers.variable = ap (λ (n : Layer). n.next.variable) (found_is k at) in
+      let b : (change k).next.variable ≡ m.numbers.variable = ap (λ (n : Layer). n.next.variable) (changed_is k at) in
+      let d : m.numbers.variable ≡ l.numbers.variable = ap (λ (n : Numbers). n.variable) numbers in
       omega (arith, a, b, d)
 
   keeps_children : (k : Layer) → layer_at layers space ≡ Some k → k.next.child ≤ (change k).next.child
   keeps_children k at =
-      let a : k.next.child ≡ l.next.child = ap (λ (n : Layer). n.next.child) (found_is k at) in
-      let b : (change k).next.child ≡ m.next.child = ap (λ (n : Layer). n.next.child) (changed_is k at) in
-      let d : m.next.child ≡ l.next.child = ap (λ (n : Next). n.child) numbers in
+      let a : k.next.child ≡ l.numbers.child = ap (λ (n : Layer). n.next.child) (found_is k at) in
+      let b : (change k).next.child ≡ m.numbers.child = ap (λ (n : Layer). n.next.child) (changed_is k at) in
+      let d : m.numbers.child ≡ l.numbers.child = ap (λ (n : Numbers). n.child) numbers in
       omega (arith, a, b, d)
 
   pub own_space : l.space ≡ space
@@ -209,7 +209,7 @@ pub record FitsAbove (layers : List Layer) (space : List ℕ) (m : Level) : Type
   pub touches : m.traced ≡ true → is_top space ≡ false → Traces space (seen_above layers space) (shown m).tells m.touched
 
 module _ (levels : List Level) (space : List ℕ) (place : ℕ) (x : Layer) (h : IsFirst (is_of space) (shown_all levels) place x) (l m : Level) (e : l ≡ slice_index_or levels place l)
-    (change : Layer → Layer) (becomes : shown m ≡ change (shown l)) (names : m.space ≡ l.space) (numbers : m.next ≡ l.next) (s : IsSound levels) (none : has_below (shown_all levels) space ≡ false) where
+    (change : Layer → Layer) (becomes : shown m ≡ change (shown l)) (names : m.space ≡ l.space) (numbers : m.numbers ≡ l.numbers) (s : IsSound levels) (none : has_below (shown_all levels) space ≡ false) where
   pub edit_above : FitsAbove (shown_all levels) space m → Edited levels (slice_set levels place m) space change
   edit_above f =
       own_edit levels space place x h l m e change becomes names numbers s none
@@ -243,7 +243,7 @@ module _ (levels : List Level) (space : List ℕ) (place : ℕ) (x : Layer) (h :
   more_tells = ap₂ (λ (n : ℕ) (us : List Tell). drop n us) told.told_from told.store ∙ drop-append-le l.told_from l.store ts told_within
 
   shows_more : shown m ≡ telling ts (shown l)
-  shows_more = λ i. record { space = told.space i; status = told.status i; tells = more_tells i; threads = told.threads i; next = told.next i }
+  shows_more = λ i. record { space = told.space i; status = told.status i; tells = more_tells i; threads = (told.threads i).list; next = next_with (told.threads i).next (told.numbers i) }
 
   all_named_home : l.traced ≡ true → home ≡ true → list_all (is_home (shown_all levels) space) (flat_map named_by (shown m).tells) ≡ true
   all_named_home t k =
@@ -253,7 +253,7 @@ module _ (levels : List Level) (space : List ℕ) (place : ℕ) (x : Layer) (h :
       ∙ and_both _ _ (fitted.home t) (all_flat (is_home (shown_all levels) space) named_by ts ∙ homes k)
 
   pub tell_edit : Edited levels (slice_set levels place m) space (telling ts)
-  tell_edit = edit_above levels space place x h l m e (telling ts) shows_more told.space told.next s none (record {
+  tell_edit = edit_above levels space place x h l m e (telling ts) shows_more told.space told.numbers s none (record {
     store = told.store ∙ ap (λ (us : List Tell). us ++ ts) parts ∙ append_assoc (seen_above (shown_all levels) space) (shown l).tells ts ∙ ap (λ (us : List Tell). seen_above (shown_all levels) space ++ us) (sym more_tells);
     from = told.told_from ∙ fitted.from;
     consistent = ap is_consistent told.store ∙ told.consistent;

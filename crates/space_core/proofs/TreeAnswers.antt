@@ -160,7 +160,7 @@ pub parent_stays : (levels : List Level) (parent : List ℕ) (place : ℕ) (x : 
     (m : Level) → IsChild (next_child (shown l)) procedure l.store m → (news : List Level) → IsAdded levels news m → IsAbsent (is_of parent) (shown_all news) → ⊥
 parent_stays levels parent place x h l e procedure m child news added a =
     let own : l.space ≡ parent = ap (λ (k : Layer). k.space) (read_shown levels parent place x h l e) ∙ space_of (shown_all levels) parent x h.found in
-    let other : is_of parent (shown m) ≡ false = ap (is_of parent) child.shows ∙ subst (λ (p : List ℕ). list_eq (next_child (shown l)) p ≡ false) own (not_own_child l.space l.next.child) in
+    let other : is_of parent (shown m) ≡ false = ap (is_of parent) child.shows ∙ subst (λ (p : List ℕ). list_eq (next_child (shown l)) p ≡ false) own (not_own_child l.space l.numbers.child) in
     let b : find (is_of parent) (shown_all news) ≡ Some x = ap (find (is_of parent)) added.shows ∙ find_put (is_of parent) (λ (k : Layer). space_lt (shown m).space k.space) counting_child (shown m) other (λ k. refl) (shown_all levels) ∙ h.found in
     let n : find (is_of parent) (shown_all news) ≡ None = a.none in
     let c : Some x ≡ None = sym b ∙ n in cc
@@ -199,15 +199,15 @@ module _ (levels now : List Level) (value : List Layer) (seen : now ≡ levels) 
       ∙ ap next_child (read_shown levels parent place at_parent.0 at_parent.1 l e)
       ∙ sym (ap (λ (ls : List Layer). next_child (layer_of ls parent)) (sym viewed) ∙ ap (λ (o : Option Layer). next_child (unwrap_or o (new_layer parent))) at_parent.1.found)
 
-  module _ (place2 : ℕ) (h2 : PlaceIn now2 parent place2) (l2 : Level) (e2 : l2 ≡ slice_index_or news place2 l2) (count : ℕ) (counts : count ≡ l.next.child + 1) where
+  module _ (place2 : ℕ) (h2 : PlaceIn now2 parent place2) (l2 : Level) (e2 : l2 ≡ slice_index_or news place2 l2) (count : ℕ) (counts : count ≡ l.numbers.child + 1) where
     again : PlaceIn news parent place2
     again = subst (λ (ls : List Level). PlaceIn ls parent place2) seen2 h2
 
-    pub created_sound : IsSound (slice_set news place2 (record l2 { next = record l2.next { child = count } }))
+    pub created_sound : IsSound (slice_set news place2 (record l2 { numbers = record l2.numbers { child = count } }))
     created_sound =
-        create_sound levels s parent place at_parent.0 at_parent.1 l e procedure m child news added place2 again.0 again.1 l2 e2 (record l2 { next = record l2.next { child = count } }) count counts refl
+        create_sound levels s parent place at_parent.0 at_parent.1 l e procedure m child news added place2 again.0 again.1 l2 e2 (record l2 { numbers = record l2.numbers { child = count } }) count counts refl
 
-    pub created_shows : shown_all (slice_set news place2 (record l2 { next = record l2.next { child = count } })) ≡ created parent procedure value
+    pub created_shows : shown_all (slice_set news place2 (record l2 { numbers = record l2.numbers { child = count } })) ≡ created parent procedure value
     created_shows =
-        create_shows levels s parent place at_parent.0 at_parent.1 l e procedure m child news added place2 again.0 again.1 l2 e2 (record l2 { next = record l2.next { child = count } }) count counts refl
+        create_shows levels s parent place at_parent.0 at_parent.1 l e procedure m child news added place2 again.0 again.1 l2 e2 (record l2 { numbers = record l2.numbers { child = count } }) count counts refl
         ∙ ap (created parent procedure) viewed

@@ -25,8 +25,8 @@ pub record IsFailure (tells : List Tell) (old new : Level) : Type 0 where
   pub bare : IsBare tells new
   pub space : new.space ≡ old.space
   pub status : new.status ≡ Failed
-  pub threads : new.threads ≡ []
-  pub next : new.next ≡ old.next
+  pub threads : new.threads ≡ record old.threads { list = [] }
+  pub numbers : new.numbers ≡ old.numbers
 
 -- a child in which a thread applies the procedure to the root variable
 pub record IsChild (space : List ℕ) (procedure : Ident) (tells : List Tell) (l : Level) : Type 0 where

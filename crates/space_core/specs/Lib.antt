@@ -1,5 +1,6 @@
 pub mod Levels
 pub mod Places
+pub mod Threads
 pub mod Shown
 pub mod Stacks
 pub mod Unwinding

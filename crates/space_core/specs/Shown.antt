@@ -8,13 +8,22 @@ use Rattle.oz_semantics.specs.Store.{named_by, is_consistent}
 use Rattle.oz_semantics.specs.Configurations.{view}
 use Rattle.oz_semantics.specs.declared.value.Tell.{Tell}
 use Rattle.oz_semantics.specs.declared.configuration.Layer.{Layer}
+use Rattle.oz_semantics.specs.declared.configuration.Next.{Next}
 use Rattle.oz_laws.specs.Touched.{Touches}
 use Rattle.view_laws.specs.Trees.{IsTree}
 use Rattle.space_core.specs.declared.level.Level.{Level}
+use Rattle.space_core.specs.declared.level.Numbers.{Numbers}
+
+-- the numbers that a space gives out next, a thread's among them
+abbrev pub next_with : ℕ → Numbers → Next
+next_with thread numbers = record { variable = numbers.variable; thread = thread; procedure = numbers.procedure; child = numbers.child }
+
+abbrev pub next_of : Level → Next
+next_of l = next_with l.threads.next l.numbers
 
 -- a space was told what its store has from its place on
 abbrev pub shown : Level → Layer
-shown l = record { space = l.space; status = l.status; tells = drop l.told_from l.store; threads = l.threads; next = l.next }
+shown l = record { space = l.space; status = l.status; tells = drop l.told_from l.store; threads = l.threads.list; next = next_of l }
 
 abbrev pub shown_all : List Level → List Layer
 shown_all = map shown
@@ -73,5 +82,5 @@ pub record IsQuiet (change : Layer → Layer) (old new : Level) : Type 0 where
   pub told_from : new.told_from ≡ old.told_from
   pub touched : new.touched ≡ old.touched
   pub traced : new.traced ≡ old.traced
-  pub variables : old.next.variable ≤ new.next.variable
-  pub children : old.next.child ≤ new.next.child
+  pub variables : old.numbers.variable ≤ new.numbers.variable
+  pub children : old.numbers.child ≤ new.numbers.child

@@ -1,13 +1,15 @@
 -- What is kept of a space that is told more.
-use Rattle.std.specs.Prelude.{ℕ, ◌≡◌, Bool, true, false, List, ◌++◌, slice_index_or, slice_set}
+use Rattle.std.specs.Prelude.{ℕ, ◌≡◌, Bool, true, false, List, ◌++◌, is_some, slice_index_or, slice_set}
 use Rattle.std.specs.List.{list_any, list_all}
 use Rattle.oz_base.specs.declared.names.Ident.{Ident}
 use Rattle.oz_semantics.specs.Names.{is_properly_below, is_top}
 use Rattle.oz_semantics.specs.Store.{is_consistent, named_by}
+use Rattle.oz_semantics.specs.Configurations.{thread_at, with_frames}
 use Rattle.oz_semantics.specs.declared.value.Tell.{Tell}
+use Rattle.oz_semantics.specs.declared.configuration.Frame.{Frame}
 use Rattle.oz_semantics.specs.declared.configuration.Layer.{Layer}
 use Rattle.space_core.specs.Giving.{after_giving}
-use Rattle.space_core.specs.Shown.{shown_all, is_home, Traces}
+use Rattle.space_core.specs.Shown.{shown_all, is_home, Traces, IsQuiet}
 use Rattle.space_core.specs.declared.given.Given.{Given}
 use Rattle.space_core.specs.declared.level.Level.{Level}
 
@@ -29,7 +31,7 @@ pub record IsToldMore (home : Bool) (ts : List Tell) (old new : Level) : Type 0 
   pub status : new.status ≡ old.status
   pub told_from : new.told_from ≡ old.told_from
   pub threads : new.threads ≡ old.threads
-  pub next : new.next ≡ old.next
+  pub numbers : new.numbers ≡ old.numbers
   pub traced : new.traced ≡ true → (old.traced ≡ true) × (home ≡ true)
   pub notes : new.traced ≡ true → is_top old.space ≡ false → IsNoted ts old new
 
@@ -62,3 +64,15 @@ pub record ClashesAt (place : ℕ) (ts : List Tell) (old new : List Level) : Typ
 abbrev pub IsToldAt : ℕ → List Tell → Given → List Level → List Level → Bool → Type 0
 IsToldAt place ts given old new true = ToldAt place ts given old new
 IsToldAt place ts given old new false = ClashesAt place ts old new
+
+-- the space at a place has this thread
+abbrev pub HasThread : ℕ → ℕ → List Level → Type 0
+HasThread place number levels = (l : Level) → l ≡ slice_index_or levels place l → is_some (thread_at l.threads.list number) ≡ true
+
+-- a handler was put on the stack of its thread, and then it gave this out and was told these
+pub record ToldUnder (place number : ℕ) (handler : List Frame) (ts : List Tell) (given : Given) (old new : List Level) : Type 0 where
+  pub before : Level
+  pub pushed : Level
+  pub read : before ≡ slice_index_or old place before
+  pub quiet : IsQuiet (with_frames number (λ stack. handler ++ stack)) before pushed
+  pub told : ToldAt place ts given (slice_set old place pushed) new

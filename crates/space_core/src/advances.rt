@@ -1,13 +1,14 @@
 //! Tells of one space among the layers, with what it gives out.
-ghost use Rattle.std.specs.Prelude.{◌≡◌, ◌<◌, length, IfOk, OnErr};
-ghost use Rattle.space_core.specs.Telling.{IsToldAt};
+ghost use Rattle.std.specs.Prelude.{◌≡◌, ◌<◌, length, IfOk, OnOk, OnErr};
+ghost use Rattle.space_core.specs.Telling.{IsToldAt, HasThread, ToldUnder};
 
-use crate::edits::give;
+use crate::edits::{self, give};
 use crate::given::Given;
 use crate::homes::all_home;
 use crate::level::Level;
 use crate::telling::tell;
-use oz_semantics::Tell;
+use oz_base::Sequence;
+use oz_semantics::{Frame, Tell};
 use std::alloc::{AllocError, Global};
 
 /// Tells the space at a place, which gives out what comes with that. False exactly where it is inconsistent with what the space sees:
@@ -25,17 +26,48 @@ pub fn tell_at(
     ensures told { IfOk result (IsToldAt place tells.now given.now levels.old.items levels.new.items) }
     ensures err { OnErr result (levels.new.items ≡ levels.old.items) }
 {
-    let before = levels[place].next;
+    let before = levels[place].numbers;
     give(&mut levels[place], given)?;
     let home = all_home(levels.as_slice(), &levels[place].space, tells);
     match tell(alloc, &mut levels[place], home, tells) {
         Ok(true) => Ok(true),
         Ok(false) => {
-            levels[place].next = before;
+            levels[place].numbers = before;
             Ok(false)
         }
         Err(refused) => {
-            levels[place].next = before;
+            levels[place].numbers = before;
+            Err(refused)
+        }
+    }
+}
+
+/// Puts a handler on the stack of a thread of the space at a place, and tells the space. Where that is refused, or is inconsistent with
+/// what the space sees, the handler is taken off again.
+pub fn tell_under(
+    alloc: Global,
+    levels: &mut Vec<Level>,
+    place: usize,
+    number: u64,
+    handler: Sequence<Frame>,
+    tells: &[Tell],
+    given: &Given,
+) -> Result<(), AllocError>
+    requires within { place < length levels.old.items }
+    requires there { HasThread place number levels.old.items }
+    ensures ok { OnOk result (ToldUnder place number handler tells.now given.now levels.old.items levels.new.items) }
+    ensures err { OnErr result (levels.new.items ≡ levels.old.items) }
+{
+    let height = handler.len();
+    edits::push(&mut levels[place], number, handler.into_vec())?;
+    match tell_at(alloc, levels, place, tells, given) {
+        Ok(true) => Ok(()),
+        Ok(false) => {
+            edits::cut(&mut levels[place], number, 0, height);
+            Err(AllocError)
+        }
+        Err(refused) => {
+            edits::cut(&mut levels[place], number, 0, height);
             Err(refused)
         }
     }

@@ -1,37 +1,26 @@
 //! Edits of what is kept of one space, which tell nothing.
-ghost use Rattle.std.specs.Prelude.{◌≡◌, ◌++◌, ◌∷◌, [], ◌+◌, ◌≤◌, List, not, filter, drop, length, IfOk, OnOk, OnErr};
-ghost use Rattle.oz_base.specs.Lists.{first, is_empty};
-ghost use Rattle.oz_semantics.specs.Configurations.{thread_at, frames_in, in_thread, with_frames, without_terminated, spawning, giving_out};
-ghost use Rattle.oz_semantics.specs.declared.configuration.Thread.{Thread};
+ghost use Rattle.std.specs.Prelude.{◌≡◌, ◌++◌, [], ◌+◌, ◌≤◌, drop, length, IfOk, OnOk, OnErr};
+ghost use Rattle.oz_base.specs.Lists.{first};
+ghost use Rattle.oz_semantics.specs.Configurations.{thread_at, frames_in, with_frames, without_terminated, spawning, giving_out};
 ghost use Rattle.space_core.specs.Levels.{replacing};
 ghost use Rattle.space_core.specs.Shown.{IsQuiet};
-ghost use Rattle.space_core.specs.Giving.{next_after, after_giving, declaring, spawning_by};
-ghost use Rattle.space_core.specs.Stacks.{IsLanding, cut_out};
+ghost use Rattle.space_core.specs.Giving.{numbers_after, after_giving, declaring, spawning_by};
+ghost use Rattle.space_core.specs.Stacks.{cut_out};
 ghost use Rattle.space_core.specs.Unwinding.{IsLevelCaught};
 
 use crate::given::Given;
-use crate::level::Level;
-use crate::looking::thread_place;
-use crate::stacks::{Landing, nearest_mark};
-use oz_base::{Ident, Sequence, Stack};
-use oz_semantics::{Frame, Next, Thread};
+use crate::level::{Level, Numbers};
+use crate::stacks::Landing;
+use oz_base::Ident;
+use oz_semantics::Frame;
 use std::alloc::{AllocError, Global};
-use std::mem;
-
-fn take_frame(threads: &mut Sequence<Thread>, number: u64) -> Option<Frame>
-    ensures frame { result ≡ first (frames_in (thread_at threads.old number)) }
-    ensures taken { threads.new ≡ in_thread number (λ t. record t { frames = drop 1 t.frames }) threads.old }
-{
-    let place = thread_place(threads, number)?;
-    threads.get_mut(place).frames.pop()
-}
 
 /// Takes the statement off the top of a thread's stack.
 pub fn pop(level: &mut Level, number: u64) -> Option<Frame>
-    ensures frame { result ≡ first (frames_in (thread_at level.old.threads number)) }
+    ensures frame { result ≡ first (frames_in (thread_at level.old.threads.list number)) }
     ensures popped { IsQuiet (with_frames number (λ stack. drop 1 stack)) level.old level.new }
 {
-    take_frame(&mut level.threads, number)
+    level.threads.pop(number)
 }
 
 /// Takes the statement off the top of a thread's stack, if there is one, and drops it.
@@ -41,40 +30,12 @@ pub fn drop_top(level: &mut Level, number: u64)
     let _statement = pop(level, number);
 }
 
-fn put_frames(
-    threads: &mut Sequence<Thread>,
-    number: u64,
-    frames: Vec<Frame>,
-) -> Result<(), AllocError>
-    ensures ok { OnOk result (threads.new ≡ in_thread number (λ t. record t { frames = frames.items ++ t.frames }) threads.old) }
-    ensures err { OnErr result (threads.new ≡ threads.old) }
-{
-    let Some(place) = thread_place(threads, number) else {
-        return Ok(());
-    };
-    threads.get_mut(place).frames.push_all(frames)
-}
-
 /// Puts statements on top of a thread's stack, the first of them uppermost.
 pub fn push(level: &mut Level, number: u64, frames: Vec<Frame>) -> Result<(), AllocError>
     ensures ok { OnOk result (IsQuiet (with_frames number (λ stack. frames.items ++ stack)) level.old level.new) }
     ensures err { OnErr result (level.new ≡ level.old) }
 {
-    put_frames(&mut level.threads, number, frames)
-}
-
-fn exchange_frames(
-    threads: &mut Sequence<Thread>,
-    number: u64,
-    frames: Vec<Frame>,
-) -> Result<(), AllocError>
-    ensures ok { OnOk result (threads.new ≡ in_thread number (λ t. record t { frames = replacing frames.items t.frames }) threads.old) }
-    ensures err { OnErr result (threads.new ≡ threads.old) }
-{
-    let Some(place) = thread_place(threads, number) else {
-        return Ok(());
-    };
-    threads.get_mut(place).frames.replace_top(frames)
+    level.threads.push(number, frames)
 }
 
 /// Puts statements in the place of the one on top of a thread's stack.
@@ -82,68 +43,38 @@ pub fn replace_top(level: &mut Level, number: u64, frames: Vec<Frame>) -> Result
     ensures ok { OnOk result (IsQuiet (with_frames number (replacing frames.items)) level.old level.new) }
     ensures err { OnErr result (level.new ≡ level.old) }
 {
-    exchange_frames(&mut level.threads, number, frames)
-}
-
-fn clear_frames(threads: &mut Sequence<Thread>, number: u64)
-    ensures { threads.new ≡ in_thread number (λ t. record t { frames = [] }) threads.old }
-{
-    if let Some(place) = thread_place(threads, number) {
-        threads.get_mut(place).frames.clear();
-    }
+    level.threads.replace_top(number, frames)
 }
 
 /// Takes all statements off a thread's stack.
 pub fn clear(level: &mut Level, number: u64)
     ensures { IsQuiet (with_frames number (λ stack. [])) level.old level.new }
 {
-    clear_frames(&mut level.threads, number);
-}
-
-fn is_terminated(thread: &Thread) -> bool
-    ensures { result ≡ is_empty thread.now.frames }
-{
-    thread.frames.top().is_none()
-}
-
-fn retain_others(threads: &mut Vec<Thread>)
-    ensures { threads.new.items ≡ filter (λ (t : Thread). not (is_empty t.frames)) threads.old.items }
-{
-    threads.retain(|thread| !is_terminated(thread));
-}
-
-fn drop_terminated_of(alloc: Global, threads: &mut Sequence<Thread>)
-    ensures { threads.new ≡ filter (λ (t : Thread). not (is_empty t.frames)) threads.old }
-{
-    let mut kept = mem::replace(threads, Sequence::new(alloc)).into_vec();
-    retain_others(&mut kept);
-    *threads = Sequence::from_vec(kept);
+    level.threads.clear(number);
 }
 
 /// Threads without statements are terminated.
 pub fn drop_terminated(alloc: Global, level: &mut Level)
     ensures { IsQuiet without_terminated level.old level.new }
 {
-    drop_terminated_of(alloc, &mut level.threads);
+    level.threads.drop_terminated(alloc);
 }
 
 /// The numbers of a space after it gave out what comes with a tell.
-fn next_after(next: Next, given: &Given) -> Result<Next, AllocError>
-    ensures { IfOk result (λ after. after ≡ next_after given.now next) }
+fn numbers_after(numbers: Numbers, given: &Given) -> Result<Numbers, AllocError>
+    ensures { IfOk result (λ after. after ≡ numbers_after given.now numbers) }
 {
     match given {
-        Given::Nothing => Ok(next),
-        Given::Variables(count) => Ok(Next {
-            variable: next.variable.checked_add(*count).ok_or(AllocError)?,
-            thread: next.thread,
-            procedure: next.procedure,
-            child: next.child,
+        Given::Nothing => Ok(numbers),
+        Given::Variables(count) => Ok(Numbers {
+            variable: numbers.variable.checked_add(*count).ok_or(AllocError)?,
+            procedure: numbers.procedure,
+            child: numbers.child,
         }),
-        Given::Procedure => Ok(Next {
-            variable: next.variable,
-            thread: next.thread,
-            procedure: next.procedure.checked_add(1).ok_or(AllocError)?,
-            child: next.child,
+        Given::Procedure => Ok(Numbers {
+            variable: numbers.variable,
+            procedure: numbers.procedure.checked_add(1).ok_or(AllocError)?,
+            child: numbers.child,
         }),
     }
 }
@@ -153,7 +84,7 @@ pub fn give(level: &mut Level, given: &Given) -> Result<(), AllocError>
     ensures ok { OnOk result (level.new ≡ after_giving given.now level.old) }
     ensures err { OnErr result (level.new ≡ level.old) }
 {
-    level.next = next_after(level.next, given)?;
+    level.numbers = numbers_after(level.numbers, given)?;
     Ok(())
 }
 
@@ -162,16 +93,7 @@ pub fn spawn(alloc: Global, level: &mut Level, frames: Vec<Frame>) -> Result<(),
     ensures ok { OnOk result (IsQuiet (spawning frames.items) level.old level.new) }
     ensures err { OnErr result (level.new ≡ level.old) }
 {
-    let number = level.next.thread;
-    let next = number.checked_add(1).ok_or(AllocError)?;
-    let mut stack = Stack::new(alloc);
-    stack.push_all(frames)?;
-    level.threads.push(Thread {
-        number,
-        frames: stack,
-    })?;
-    level.next.thread = next;
-    Ok(())
+    level.threads.spawn(alloc, frames)
 }
 
 /// The space gives out so many variables.
@@ -179,7 +101,8 @@ pub fn give_out(level: &mut Level, count: u64) -> Result<(), AllocError>
     ensures ok { OnOk result (IsQuiet (giving_out count) level.old level.new) }
     ensures err { OnErr result (level.new ≡ level.old) }
 {
-    level.next.variable = level.next.variable.checked_add(count).ok_or(AllocError)?;
+    let variable = level.numbers.variable;
+    level.numbers.variable = variable.checked_add(count).ok_or(AllocError)?;
     Ok(())
 }
 
@@ -193,28 +116,9 @@ pub fn declare(
     ensures ok { OnOk result (IsQuiet (declaring number frames.items count) level.old level.new) }
     ensures err { OnErr result (level.new ≡ level.old) }
 {
-    let next = level.next.variable.checked_add(count).ok_or(AllocError)?;
-    exchange_frames(&mut level.threads, number, frames)?;
-    level.next.variable = next;
-    Ok(())
-}
-
-fn drop_first(stack: &mut Stack<Frame>)
-    ensures { stack.new ≡ drop 1 stack.old }
-{
-    let _statement = stack.pop();
-}
-
-/// Adds a thread, and takes the statement off the top of another's stack.
-fn add_thread(threads: &mut Sequence<Thread>, number: u64, new: Thread) -> Result<(), AllocError>
-    ensures ok { OnOk result (threads.new ≡ in_thread number (λ t. record t { frames = drop 1 t.frames }) threads.old ++ new ∷ []) }
-    ensures err { OnErr result (threads.new ≡ threads.old) }
-{
-    let Some(place) = thread_place(threads, number) else {
-        return threads.push(new);
-    };
-    threads.push(new)?;
-    drop_first(&mut threads.get_mut(place).frames);
+    let next = level.numbers.variable.checked_add(count).ok_or(AllocError)?;
+    level.threads.replace_top(number, frames)?;
+    level.numbers.variable = next;
     Ok(())
 }
 
@@ -228,49 +132,15 @@ pub fn start(
     ensures ok { OnOk result (IsQuiet (spawning_by number frames.items) level.old level.new) }
     ensures err { OnErr result (level.new ≡ level.old) }
 {
-    let new = level.next.thread;
-    let next = new.checked_add(1).ok_or(AllocError)?;
-    let mut stack = Stack::new(alloc);
-    stack.push_all(frames)?;
-    let thread = Thread {
-        number: new,
-        frames: stack,
-    };
-    add_thread(&mut level.threads, number, thread)?;
-    level.next.thread = next;
-    Ok(())
-}
-
-fn cut_frames(threads: &mut Sequence<Thread>, number: u64, uppermost: usize, count: usize)
-    requires { uppermost + count ≤ length (frames_in (thread_at threads.old number)) }
-    ensures { threads.new ≡ in_thread number (λ t. record t { frames = cut_out uppermost count t.frames }) threads.old }
-{
-    if let Some(place) = thread_place(threads, number) {
-        threads.get_mut(place).frames.cut(uppermost, count);
-    }
+    level.threads.start(alloc, number, frames)
 }
 
 /// Takes so many statements off a thread's stack that stand below the uppermost ones.
 pub fn cut(level: &mut Level, number: u64, uppermost: usize, count: usize)
-    requires { uppermost + count ≤ length (frames_in (thread_at level.old.threads number)) }
+    requires { uppermost + count ≤ length (frames_in (thread_at level.old.threads.list number)) }
     ensures { IsQuiet (with_frames number (cut_out uppermost count)) level.old level.new }
 {
-    cut_frames(&mut level.threads, number, uppermost, count);
-}
-
-/// Where an exception of the statement on top of a thread's stack goes, if there is a mark below it.
-pub fn landing_of(
-    alloc: Global,
-    threads: &Sequence<Thread>,
-    number: u64,
-    exception: &Ident,
-) -> Result<Option<Landing>, AllocError>
-    ensures { IfOk result (IsLanding exception.now (frames_in (thread_at threads.now number))) }
-{
-    let Some(place) = thread_place(threads, number) else {
-        return Ok(None);
-    };
-    nearest_mark(alloc, &threads.get(place).frames, exception)
+    level.threads.cut(number, uppermost, count);
 }
 
 /// An exception of the statement on top of a thread's stack goes to the nearest mark below it. False exactly where there is none: then
@@ -284,7 +154,7 @@ pub fn unwind_from(
     ensures unwound { IfOk result (IsLevelCaught exception.now number level.old level.new) }
     ensures err { OnErr result (level.new ≡ level.old) }
 {
-    let Some(landing) = landing_of(alloc, &level.threads, number, exception)? else {
+    let Some(landing) = level.threads.landing_of(alloc, number, exception)? else {
         return Ok(false);
     };
     let Landing { count, frames } = landing;

@@ -16,7 +16,7 @@ use term_store::fields_of;
 fn gave_out(level: &Level, variable: &Ident) -> bool
     ensures { result ≡ gave_out variable.now (shown level.now) }
 {
-    variable.number < level.next.variable && same_space(&level.space, &variable.space)
+    variable.number < level.numbers.variable && same_space(&level.space, &variable.space)
 }
 
 /// Whether another space is properly below this one.

@@ -1,10 +1,21 @@
 //! What is kept of one space.
+ghost use Rattle.std.specs.Prelude.{◌≡◌};
 ghost use Rattle.space_core.specs.Beginnings.{IsTopLevel};
+ghost use Rattle.space_core.specs.Shown.{next_of};
 
+use crate::threads::Threads;
 use oz_base::{Copies, Ident, Sequence, SpaceName};
-use oz_semantics::{Next, Status, Thread};
+use oz_semantics::{Next, Status};
 use std::alloc::{AllocError, Global};
 use term_store::Store;
+
+/// The next number that a space gives out, by kind. A thread's is kept with the threads.
+#[derive(Clone, Copy)]
+pub struct Numbers {
+    pub variable: u64,
+    pub procedure: u64,
+    pub child: u64,
+}
 
 /// What is kept of one space.
 #[derive(Drop)]
@@ -18,12 +29,26 @@ pub struct Level {
     /// Variables of the classes of its parent's view that are touched by what the space was told, but for the space's own. The
     /// top's are not noted.
     pub touched: Sequence<Ident>,
-    pub threads: Sequence<Thread>,
-    pub next: Next,
+    pub threads: Threads,
+    pub numbers: Numbers,
     /// Whether all variables that were told of are those of the space and of spaces above it, and all of other spaces that is touched
     /// was noted.
     /// So it is in the runs of programs.
     pub traced: bool,
+}
+
+impl Level {
+    /// The numbers that the space gives out next.
+    pub fn next(&self) -> Next
+        ensures { result ≡ next_of self.now }
+    {
+        Next {
+            variable: self.numbers.variable,
+            thread: self.threads.next(),
+            procedure: self.numbers.procedure,
+            child: self.numbers.child,
+        }
+    }
 }
 
 impl Copies for Level {
@@ -35,7 +60,7 @@ impl Copies for Level {
             told_from: self.told_from,
             touched: self.touched.copied(alloc)?,
             threads: self.threads.copied(alloc)?,
-            next: self.next,
+            numbers: self.numbers,
             traced: self.traced,
         })
     }
@@ -51,10 +76,9 @@ pub fn top_level(alloc: Global) -> Level
         store: Store::new(alloc),
         told_from: 0,
         touched: Sequence::new(alloc),
-        threads: Sequence::new(alloc),
-        next: Next {
+        threads: Threads::new(alloc),
+        numbers: Numbers {
             variable: 1,
-            thread: 1,
             procedure: 1,
             child: 1,
         },

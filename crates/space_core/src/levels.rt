@@ -13,12 +13,11 @@ ghost use Rattle.space_core.specs.Telling.{has_below};
 ghost use Rattle.space_core.specs.Advances.{given_out, IsAdvanced, IsCaught, IsRaised};
 ghost use Rattle.space_core.specs.Shown.{seen_above};
 
-use crate::advances::tell_at;
-use crate::edits::landing_of;
+use crate::advances::{tell_at, tell_under};
 use crate::given::Given;
 use crate::homes::{all_home, has_below};
 use crate::level::{Level, top_level};
-use crate::looking::{level_place, level_position, top_frame};
+use crate::looking::{level_place, level_position};
 use crate::stacks::Landing;
 use crate::tree::{self, add_level, child_count, child_of, drop_below, store_above};
 use crate::{edits, silence, telling};
@@ -102,7 +101,7 @@ impl Levels {
         requires { place < length self.now }
         ensures { OfLayer self.now place (λ l. result ≡ l.next) }
     {
-        self.levels[place].next
+        self.levels[place].next()
     }
 
     /// What the space sees.
@@ -118,7 +117,7 @@ impl Levels {
         ensures { option_copied result ≡ first (stack_of self.now id.now) }
     {
         let place = level_place(self.levels.as_slice(), &id.space)?;
-        top_frame(&self.levels[place].threads, id.number)
+        self.levels[place].threads.top_frame(id.number)
     }
 
     /// Whether the space at a place tells its ancestors nothing: it sees the same values and equalities of their variables as its
@@ -272,7 +271,7 @@ impl Levels {
         let Some(place) = level_place(self.levels.as_slice(), parent) else {
             return Ok(child);
         };
-        self.levels[place].next.child = count;
+        self.levels[place].numbers.child = count;
         Ok(child)
     }
 
@@ -378,27 +377,23 @@ impl Levels {
             return Err(AllocError);
         }
         let threads = &self.levels[place].threads;
-        let Some(landing) = landing_of(alloc, threads, id.number, exception)? else {
+        let Some(landing) = threads.landing_of(alloc, id.number, exception)? else {
             return Ok(false);
         };
         let given = Given::Variables(count);
         let Landing { count, frames } = landing;
         let handler = frames.len();
-        edits::push(&mut self.levels[place], id.number, frames.into_vec())?;
-        match tell_at(alloc, &mut self.levels, place, tells, &given) {
-            Ok(true) => {
-                edits::cut(&mut self.levels[place], id.number, handler, count);
-                Ok(true)
-            }
-            Ok(false) => {
-                edits::cut(&mut self.levels[place], id.number, 0, handler);
-                Err(AllocError)
-            }
-            Err(refused) => {
-                edits::cut(&mut self.levels[place], id.number, 0, handler);
-                Err(refused)
-            }
-        }
+        tell_under(
+            alloc,
+            &mut self.levels,
+            place,
+            id.number,
+            frames,
+            tells,
+            &given,
+        )?;
+        edits::cut(&mut self.levels[place], id.number, handler, count);
+        Ok(true)
     }
 
     /// A store of what the parent of a space sees. The top has none. It refuses for want of memory, or where there is no parent.

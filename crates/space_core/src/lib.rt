@@ -12,7 +12,11 @@ mod looking;
 mod silence;
 mod stacks;
 mod telling;
+mod threads;
 mod tree;
 
 pub use given::Given;
 pub use levels::Levels;
+
+#[cfg(test)]
+mod tests;

@@ -11,10 +11,11 @@ ghost use Rattle.space_core.specs.Shown.{shown, shown_all, is_named, IsQuiet};
 ghost use Rattle.space_core.specs.declared.level.Level.{Level};
 
 use crate::homes::is_properly_above;
-use crate::level::Level;
+use crate::level::{Level, Numbers};
+use crate::threads::Threads;
 use environments::Environment;
-use oz_base::{Copies, Ident, Sequence, SpaceName, Stack};
-use oz_semantics::{Code, Frame, Next, Status, Thread};
+use oz_base::{Copies, Ident, Sequence, SpaceName};
+use oz_semantics::{Code, Frame, Status};
 use std::alloc::{AllocError, Global};
 use term_store::Store;
 
@@ -83,7 +84,7 @@ pub fn fail(alloc: Global, level: &mut Level, store: Store)
     level.store = store;
     level.status = Status::Failed;
     level.touched = Sequence::new(alloc);
-    level.threads = Sequence::new(alloc);
+    level.threads.stop_all(alloc);
     level.traced = true;
 }
 
@@ -92,7 +93,7 @@ pub fn raise(alloc: Global, level: &mut Level, exception: Ident)
     ensures { IsQuiet (raised_by exception) level.old level.new }
 {
     level.status = Status::Raised(exception);
-    level.threads = Sequence::new(alloc);
+    level.threads.stop_all(alloc);
 }
 
 /// `{P X}` of the procedure and the space's root variable.
@@ -115,13 +116,13 @@ fn starting_threads(
     alloc: Global,
     space: &SpaceName,
     procedure: Ident,
-) -> Result<Sequence<Thread>, AllocError>
-    ensures { IfOk result (λ threads. threads ≡ record { number = 1; frames = applying procedure (root_of space.now) ∷ [] } ∷ []) }
+) -> Result<Threads, AllocError>
+    ensures { IfOk result (λ threads. threads ≡ record { list = record { number = 1; frames = applying procedure (root_of space.now) ∷ [] } ∷ []; next = 2 }) }
 {
-    let mut frames = Stack::new(alloc);
+    let mut frames = Vec::new(alloc);
     frames.push(starting_frame(alloc, space, procedure)?)?;
-    let mut threads = Sequence::new(alloc);
-    threads.push(Thread { number: 1, frames })?;
+    let mut threads = Threads::new(alloc);
+    threads.spawn(alloc, frames)?;
     Ok(threads)
 }
 
@@ -142,9 +143,8 @@ fn child_level(
         store,
         touched: Sequence::new(alloc),
         threads,
-        next: Next {
+        numbers: Numbers {
             variable: 1,
-            thread: 2,
             procedure: 1,
             child: 1,
         },
@@ -177,16 +177,16 @@ fn greater_place(levels: &[Level], space: &SpaceName) -> Option<usize>
 
 /// The number of children of a space, with one more.
 pub fn child_count(level: &Level) -> Result<u64, AllocError>
-    ensures { IfOk result (λ count. count ≡ level.now.next.child + 1) }
+    ensures { IfOk result (λ count. count ≡ level.now.numbers.child + 1) }
 {
-    level.next.child.checked_add(1).ok_or(AllocError)
+    level.numbers.child.checked_add(1).ok_or(AllocError)
 }
 
 /// The child that a space gives out next, in which a thread applies the procedure to the root variable.
 pub fn child_of(alloc: Global, level: &Level, procedure: Ident) -> Result<Level, AllocError>
     ensures { IfOk result (IsChild (next_child (shown level.now)) procedure level.now.store) }
 {
-    let space = level.space.child(alloc, level.next.child)?;
+    let space = level.space.child(alloc, level.numbers.child)?;
     let store = level.store.copied(alloc)?;
     child_level(alloc, space, store, procedure)
 }

@@ -1,0 +1,8 @@
+use Rattle.std.proofs.Common.{refl}
+use Rattle.space_core.proofs.ThreadLaws.{kept_pushed}
+use Rattle.space_core.proofs.threads.Threads.push.Goals as goal
+
+pub invariant_of-self : goal.invariant_of-self
+invariant_of-self c =
+    kept_pushed c.self.inside.threads c.self.inside.next c.self.inside.ended c.self.invariant c.args.self.now c.self.view_is c.in-Some.place c.in-Some.ensures.1.within c.get_mut.result.now (record { number = c.get_mut.result.now.number; frames = c.push_all.new.self }) c.get_mut.ensures.value refl
+    c.push_all.result c.args.frames.items c.push_all.ensures.ok c.push_all.ensures.err
