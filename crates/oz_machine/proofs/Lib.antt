@@ -8,3 +8,4 @@ pub mod QuietLaws
 pub mod StepEdits
 pub mod RunLaws
 pub mod ToldLaws
+pub mod OpeningLaws
