@@ -12,11 +12,12 @@ use Rattle.oz_semantics.specs.contracts.value.Value as value
 use Rattle.oz_semantics.specs.contracts.value.Tell as told
 use Rattle.oz_semantics.specs.contracts.configuration.Status as status
 use Rattle.oz_semantics.specs.contracts.configuration.Thread as thread
-use Rattle.oz_semantics.specs.contracts.configuration.Next as next
 use Rattle.shared_list.specs.contracts.list.SharedList as list
 use Rattle.term_store.specs.contracts.log.Log as log
 use Rattle.term_store.specs.contracts.classes.Classes as classes
 use Rattle.term_store.specs.contracts.store.Store as store
+use Rattle.space_core.specs.contracts.threads.Threads as threads
+use Rattle.space_core.specs.contracts.level.Numbers as numbers
 use Rattle.space_core.specs.contracts.level.Level as level
 use Rattle.space_core.specs.contracts.levels.Levels as levels
 use Rattle.oz_threads.specs.contracts.queue.Queue as queue
@@ -49,17 +50,29 @@ store_send l t c = view_send _ _ _ _ _ (declared_send store.TheInside.the_type (
 pub store_sync : IsSync (list.the_row (shared.the_row (sequence.the_row told.the_row))) → IsSync told.the_row → IsSync classes.the_row → IsSync store.the_row
 store_sync l t c = view_sync _ _ _ _ _ (declared_sync store.TheInside.the_type (log_sync l t, (c, tt)))
 
-level_send : IsSend name.the_row → IsSend status.the_row → IsSend store.the_row → IsSend (sequence.the_row ident.the_row) → IsSend (sequence.the_row thread.the_row) → IsSend next.the_row → IsSend level.the_row
-level_send s t u i h n = declared_send level.the_type (s, (t, (u, (search sendable, (i, (h, (n, (search sendable, tt))))))))
+threads_send : IsSend (sequence.the_row thread.the_row) → IsSend threads.the_row
+threads_send h = view_send _ _ _ _ _ (declared_send threads.TheInside.the_type (h, (search sendable, (search sendable, tt))))
 
-level_sync : IsSync name.the_row → IsSync status.the_row → IsSync store.the_row → IsSync (sequence.the_row ident.the_row) → IsSync (sequence.the_row thread.the_row) → IsSync next.the_row → IsSync level.the_row
-level_sync s t u i h n = declared_sync level.the_type (s, (t, (u, (search sendable, (i, (h, (n, (search sendable, tt))))))))
+threads_sync : IsSync (sequence.the_row thread.the_row) → IsSync threads.the_row
+threads_sync h = view_sync _ _ _ _ _ (declared_sync threads.TheInside.the_type (h, (search sendable, (search sendable, tt))))
 
-pub levels_send : IsSend name.the_row → IsSend status.the_row → IsSend store.the_row → IsSend (sequence.the_row ident.the_row) → IsSend (sequence.the_row thread.the_row) → IsSend next.the_row → IsSend levels.the_row
-levels_send s t u i h n = view_send _ _ _ _ _ (declared_send levels.TheInside.the_type (Vec-send level.the_row (level_send s t u i h n), tt))
+numbers_send : IsSend numbers.the_row
+numbers_send = declared_send numbers.the_type (search sendable, (search sendable, (search sendable, tt)))
 
-pub levels_sync : IsSync name.the_row → IsSync status.the_row → IsSync store.the_row → IsSync (sequence.the_row ident.the_row) → IsSync (sequence.the_row thread.the_row) → IsSync next.the_row → IsSync levels.the_row
-levels_sync s t u i h n = view_sync _ _ _ _ _ (declared_sync levels.TheInside.the_type (Vec-sync level.the_row (level_sync s t u i h n), tt))
+numbers_sync : IsSync numbers.the_row
+numbers_sync = declared_sync numbers.the_type (search sendable, (search sendable, (search sendable, tt)))
+
+level_send : IsSend name.the_row → IsSend status.the_row → IsSend store.the_row → IsSend (sequence.the_row ident.the_row) → IsSend (sequence.the_row thread.the_row) → IsSend level.the_row
+level_send s t u i h = declared_send level.the_type (s, (t, (u, (search sendable, (i, (threads_send h, (numbers_send, (search sendable, tt))))))))
+
+level_sync : IsSync name.the_row → IsSync status.the_row → IsSync store.the_row → IsSync (sequence.the_row ident.the_row) → IsSync (sequence.the_row thread.the_row) → IsSync level.the_row
+level_sync s t u i h = declared_sync level.the_type (s, (t, (u, (search sendable, (i, (threads_sync h, (numbers_sync, (search sendable, tt))))))))
+
+pub levels_send : IsSend name.the_row → IsSend status.the_row → IsSend store.the_row → IsSend (sequence.the_row ident.the_row) → IsSend (sequence.the_row thread.the_row) → IsSend levels.the_row
+levels_send s t u i h = view_send _ _ _ _ _ (declared_send levels.TheInside.the_type (Vec-send level.the_row (level_send s t u i h), tt))
+
+pub levels_sync : IsSync name.the_row → IsSync status.the_row → IsSync store.the_row → IsSync (sequence.the_row ident.the_row) → IsSync (sequence.the_row thread.the_row) → IsSync levels.the_row
+levels_sync s t u i h = view_sync _ _ _ _ _ (declared_sync levels.TheInside.the_type (Vec-sync level.the_row (level_sync s t u i h), tt))
 
 pub machine_send : IsSend (shared.the_row kernel.the_row) → IsSend levels.the_row → IsSend queue.the_row → IsSend ident.the_row → IsSend (option.the_row ident.the_row) → IsSend (list.the_row (sequence.the_row u8)) → IsSend machine.the_row
 machine_send k l q i o s = view_send _ _ _ _ _ (declared_send machine.TheInside.the_type (k, (declared_send course.the_type (l, (q, (due_send i o, (s, tt)))), (search sendable, tt))))

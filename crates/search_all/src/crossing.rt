@@ -13,7 +13,6 @@ ghost use Rattle.oz_semantics.specs.contracts.value.Value as value;
 ghost use Rattle.oz_semantics.specs.contracts.value.Tell as told;
 ghost use Rattle.oz_semantics.specs.contracts.configuration.Status as status;
 ghost use Rattle.oz_semantics.specs.contracts.configuration.Thread as thread;
-ghost use Rattle.oz_semantics.specs.contracts.configuration.Next as next;
 ghost use Rattle.shared_list.specs.contracts.list.SharedList as list;
 ghost use Rattle.term_store.specs.contracts.classes.Classes as classes;
 ghost use Rattle.term_store.specs.contracts.store.Store as store;
@@ -25,7 +24,7 @@ ghost use Rattle.recompute.specs.contracts.frozen.Frozen as frozen;
 use environments::Environment;
 use oz_base::{Ident, Sequence, Shared, SpaceName};
 use oz_language::Kernel;
-use oz_semantics::{Next, Procedure, Status, Tell, Thread, Value};
+use oz_semantics::{Procedure, Status, Tell, Thread, Value};
 use oz_threads::Queue;
 use recompute::Frozen;
 use shared_list::SharedList;
@@ -147,14 +146,6 @@ fn threads_cross()
     shares::<Sequence<Thread>>();
 }
 
-fn next_crosses()
-    ensures send { IsSend (next.the_row) }
-    ensures sync { IsSync (next.the_row) }
-{
-    sends::<Next>();
-    shares::<Next>();
-}
-
 fn kernel_crosses()
     ensures send { IsSend (shared.the_row kernel.the_row) }
     ensures sync { IsSync (shared.the_row kernel.the_row) }
@@ -197,7 +188,6 @@ fn levels_cross()
     status_crosses();
     idents_cross();
     threads_cross();
-    next_crosses();
 }
 
 fn machine_crosses()
