@@ -1,11 +1,18 @@
 -- The table of built-ins, row by row.
 use Rattle.std.proofs.Common.{◌≡◌, ◌<◌, ◌≤◌, ◌+◌, ◌-◌, ◌∷◌, ◌++◌, [], ℕ, zero, suc, refl, ap, sym, ◌∙◌, List, None, length, drop, map, get_or, slice_index_or, arith}
-use Rattle.oz_semantics.specs.Builtins as builtins
+use Rattle.std.proofs.lemmas.List.{length-map}
+use Rattle.environments.specs.Environments.{Environment}
 use Rattle.oz_semantics.specs.Builtins.{rows}
-use Rattle.oz_semantics.specs.Runs.{builtin_names, builtin_tells}
+use Rattle.oz_semantics.specs.Store.{same}
+use Rattle.oz_semantics.specs.Configurations.{new_layer, in_layer, giving_out, telling, spawning, frames_of}
+use Rattle.oz_semantics.specs.Settling.{without_inconsistent}
+use Rattle.oz_semantics.specs.Runs.{opening_environment, builtin_names, builtin_tells, top_layer}
+use Rattle.oz_semantics.specs.declared.configuration.Frame.{Frame}
+use Rattle.oz_semantics.specs.declared.configuration.Layer.{Layer}
 use Rattle.oz_semantics.specs.declared.value.Tell.{Tell}
 use Rattle.builtins.specs.Tables.{row_of, worded, word_of}
 use Rattle.builtins.specs.declared.table.Row.{Row}
+use Rattle.space_core.specs.Levels.{ToldTo}
 
 words_at : (cs : List Row) (k : ℕ) (d : Row) → k < length cs → map worded cs ≡ map word_of (map row_of cs) → worded (slice_index_or cs k d) ≡ word_of (row_of (slice_index_or cs k d))
 words_at [] k d h e = absurd (omega arith)
@@ -37,3 +44,25 @@ pub tells_before : (cs : List Row) (told : List Tell) (i n : ℕ) (d : Row) → 
 tells_before cs told i n d h is =
     ap (λ m. told ++ builtin_tells (m + 1) (row_of (slice_index_or cs i d) ∷ drop (i + 1) (map row_of cs))) is
     ∙ ap (λ rs. told ++ builtin_tells (i + 1) rs) (row_at cs i (i + 1) d h (omega arith))
+
+-- how many rows there are
+pub as_many : (cs : List Row) → map row_of cs ≡ rows → length cs ≡ length rows
+as_many cs is = sym (length-map cs row_of) ∙ ap length is
+
+-- the top that was told of them, with its one thread
+pub opened : (environment : Environment) (body : List ℕ) (frames : List Frame) (top : List ℕ) (count : ℕ) (tells : List Tell) (bare numbered told new : List Layer)
+    → top ≡ [] → count ≡ length rows → tells ≡ builtin_tells 1 rows → environment ≡ opening_environment → frames ≡ frames_of environment body
+    → bare ≡ new_layer [] ∷ [] → numbered ≡ in_layer top (giving_out (count + 1)) bare → ToldTo top tells numbered told → new ≡ in_layer top (spawning frames) told
+    → new ≡ spawning (frames_of opening_environment body) top_layer ∷ []
+unfolding same
+opened environment body frames top count tells bare numbered told new is_top counted are bound made_of is_bare is_numbered is_told is_new =
+    is_new
+    ∙ ap (λ (s : List ℕ). in_layer s (spawning frames) told) is_top
+    ∙ ap (λ fs. in_layer [] (spawning fs) told) (made_of ∙ ap (λ e. frames_of e body) bound)
+    ∙ ap (in_layer [] (spawning (frames_of opening_environment body)))
+    (is_told.left
+    ∙ ap (λ (s : List ℕ). without_inconsistent (in_layer s (telling tells) numbered)) is_top
+    ∙ ap (λ ts. without_inconsistent (in_layer [] (telling ts) numbered)) are
+    ∙ ap (λ ls. without_inconsistent (in_layer [] (telling (builtin_tells 1 rows)) ls))
+    (is_numbered ∙ ap (λ (s : List ℕ). in_layer s (giving_out (count + 1)) bare) is_top
+    ∙ ap (λ n. in_layer [] (giving_out (n + 1)) bare) counted ∙ ap (in_layer [] (giving_out (length rows + 1))) is_bare))

@@ -1,4 +1,4 @@
-use Rattle.std.proofs.Common.{◌+◌, ◌++◌, ◌∙◌, ap, sym, drop, map, arith}
+use Rattle.std.proofs.Common.{◌+◌, ◌++◌, ◌∙◌, ap, sym, drop, map}
 use Rattle.oz_language.specs.declared.kernel.Operation.TheVariants.{Same}
 use Rattle.oz_semantics.specs.Runs.{builtin_tells}
 use Rattle.builtins.specs.Tables.{row_of}

@@ -1,4 +1,4 @@
-use Rattle.std.proofs.Common.{◌≡◌, ◌++◌, ◌+◌, drop, length, map}
+use Rattle.std.proofs.Common.{◌≡◌, ◌++◌, ◌+◌, drop, map}
 use Rattle.oz_semantics.specs.Builtins.{rows}
 use Rattle.oz_semantics.specs.Runs.{builtin_tells}
 use Rattle.builtins.specs.Tables.{row_of}
