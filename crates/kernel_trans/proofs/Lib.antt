@@ -1,13 +1,1 @@
-pub mod Numbering
-pub mod Writing
-pub mod OrderLaws
-pub mod Listing
-pub mod Fields
-pub mod Naming
-pub mod Laws
-pub mod Steps
 pub mod Building
-pub mod CellLaws
-pub mod ParenLaws
-pub mod PieceLaws
-pub mod RelationLaws

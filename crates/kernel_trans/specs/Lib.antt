@@ -1,9 +1,1 @@
-pub mod Outputs
-pub mod Declares
-pub mod Keys
-pub mod Nodes
-pub mod Constructs
-pub mod Goals
-pub mod Tasks
-pub mod Cells
-pub mod Relations
+pub mod Statements

@@ -1,26 +1,13 @@
 //! From the tree of a program to its kernel.
+//!
+//! `phrases` tells phrases apart by what they are, `statements` has those without bodies of their own, and `programs` the loop over
+//! what is left to be done.
 #![tactic(auto)]
 
-mod arities;
-mod cells;
-mod constructs;
-mod declarations;
-mod expressions;
-mod given;
-mod goals;
-mod lists;
-mod names;
-mod output;
-mod patterns;
+mod phrases;
 mod programs;
-mod records;
-mod relations;
 mod statements;
-mod strings;
-mod tasks;
 #[cfg(test)]
 mod tests;
-mod words;
-mod writer;
 
 pub use programs::translate;

@@ -1,7 +1,8 @@
 -- A program is accepted where nothing else is open.
 use Rattle.std.proofs.Common.{◌≡◌, ◌≢◌, ◌+◌, None, List, [], ◌∷◌, length, refl, ap, ◌∙◌, arith}
-use Rattle.oz_reader.specs.declared.frame.Frame.{Frame as FrameKept}
-use Rattle.oz_reader.specs.View.{frame_of, onto_stack, stack_of, program_of}
+use Rattle.open_constructs.specs.declared.frame.Frame.{Frame as FrameKept}
+use Rattle.open_constructs.specs.View.{frame_of, onto_stack, stack_of}
+use Rattle.oz_reader.specs.Stepping.{program_of}
 use Rattle.reader_law.specs.Machine.{Frame, Stack, accepted, accepted_of}
 
 accepted_among : (f g : Frame) (k : Stack) → accepted_of (f ∷ (g ∷ k)) ≡ None

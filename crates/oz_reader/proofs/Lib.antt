@@ -1,9 +1,3 @@
 pub mod AcceptLaws
-pub mod Counts
-pub mod DepthLaws
-pub mod HeadLaws
-pub mod ItemLaws
 pub mod Progress
-pub mod TermLaws
 pub mod Uniqueness
-pub mod Views

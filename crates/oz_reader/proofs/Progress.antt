@@ -19,7 +19,7 @@ use Rattle.oz_lex.specs.declared.lexer.LexError.TheVariants as lex
 use Rattle.oz_lex.specs.Lexing.{IsBad, IsLexeme}
 use Rattle.oz_reader.specs.declared.error.ReadError.{ReadError}
 use Rattle.oz_reader.specs.declared.error.ReadError.TheVariants.{Memory, Refused}
-use Rattle.oz_reader.specs.declared.frame.Frame.{Frame as FrameKept}
+use Rattle.open_constructs.specs.declared.frame.Frame.{Frame as FrameKept}
 use Rattle.oz_reader.specs.Reading.{Faults, IsRead, error_of, StepsAt, GivesAt}
 use Rattle.reader_law.specs.Machine.{Stack, bind, run, step, start, finish, parse}
 use Rattle.reader_law.specs.Laws.{ParsesLaw, BeginsLaw}

@@ -12,8 +12,8 @@ use Rattle.oz_lex.specs.declared.lexer.LexError.TheVariants as lex
 use Rattle.reader_law.specs.Machine.{Stack}
 use Rattle.oz_reader.specs.declared.error.ReadError.{ReadError}
 use Rattle.oz_reader.specs.declared.error.ReadError.TheVariants.{Memory, Refused}
-use Rattle.oz_reader.specs.declared.frame.Frame.{Frame as FrameKept}
-use Rattle.oz_reader.specs.View.{stack_of}
+use Rattle.open_constructs.specs.declared.frame.Frame.{Frame as FrameKept}
+use Rattle.open_constructs.specs.View.{stack_of}
 
 abbrev pub refusal : RefusalKind → ℕ → ReadError
 refusal kind at = Refused (record { kind = kind; at = at })

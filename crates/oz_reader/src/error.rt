@@ -1,37 +1,9 @@
-//! Why no step is taken, and why a text is not read.
+//! Why a text is not read.
 ghost use Rattle.std.specs.Prelude.{◌≡◌};
 
 use oz_language::{Fault, RefusalKind};
 use oz_lex::LexError;
-use std::alloc::{AllocError, AllocFailed};
-
-/// Why a token is not taken.
-#[derive(Clone, Copy, Debug, PartialEq, Eq)]
-pub enum StepError {
-    Memory,
-    /// No program goes on so.
-    Refused,
-}
-
-impl From<AllocError> for StepError {
-    ghost use Rattle.oz_reader.specs.declared.error.StepError.TheVariants.{Memory};
-
-    ghost from_gives = { λ _ e. e ≡ Memory };
-
-    fn from(_e: AllocError) -> StepError {
-        StepError::Memory
-    }
-}
-
-impl<T: Drop> From<AllocFailed<T>> for StepError {
-    ghost use Rattle.oz_reader.specs.declared.error.StepError.TheVariants.{Memory};
-
-    ghost from_gives = { λ _ e. e ≡ Memory };
-
-    fn from(_e: AllocFailed<T>) -> StepError {
-        StepError::Memory
-    }
-}
+use std::alloc::AllocError;
 
 /// Why a text is not read.
 #[derive(Clone, Copy, Debug, PartialEq, Eq)]

@@ -1,29 +1,13 @@
 //! Reads the program of a text.
 //!
-//! `frame` has the constructs that are open while a text is read, and `stack` what goes onto them. `steps` says what one more token
-//! does to them, by what is innermost: `operands` and `operators` in any expression, `records`, `lists`, `heads` and `conditions`
-//! in what stands round it, and `blocks` with `connectives` and `closing` in what holds statements. `reader` goes over the tokens
-//! of a text once, with `depth` beside it.
+//! `steps` says what one more token does to the constructs that are open, by what is innermost: those that open_constructs keeps,
+//! with the steps of each kind of construct in crates of their own. `reader` goes over the tokens of a text once, with their depth
+//! beside it.
 #![tactic(auto)]
 
-mod blocks;
-mod bodies;
-mod closing;
-mod conditions;
-mod connectives;
-mod depth;
 mod error;
-mod frame;
-mod heads;
-mod levels;
-mod lists;
-mod operands;
-mod operators;
 mod program;
 mod reader;
-mod records;
-mod sides;
-mod stack;
 mod steps;
 
 pub use error::ReadError;

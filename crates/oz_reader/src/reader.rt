@@ -6,13 +6,13 @@ ghost use Rattle.oz_language.specs.declared.fault.Fault.{Fault};
 ghost use Rattle.oz_syntax.specs.View.{view};
 ghost use Rattle.reader_law.specs.Machine.{step, finish};
 ghost use Rattle.oz_reader.specs.Reading.{Faults, Refuses, IsRead, StepsAt, GivesAt, refusal};
-ghost use Rattle.oz_reader.specs.View.{stack_of};
+ghost use Rattle.open_constructs.specs.View.{stack_of};
 
-use crate::depth::Depth;
-use crate::error::{ReadError, StepError};
-use crate::frame::Frame;
+use crate::error::ReadError;
 use crate::program::Program;
 use crate::steps;
+use open_constructs::{Frame, StepError};
+use open_depth::Depth;
 use oz_language::{Fault, Lexeme, RefusalKind, Token};
 use oz_lex::{first_words, lexemes, one_reading, token_of};
 use oz_scope::first_fault;

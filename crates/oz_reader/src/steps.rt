@@ -3,19 +3,17 @@ ghost use Rattle.std.specs.Prelude.{◌≡◌, ◌∷◌, Some, None, true, fals
 ghost use Rattle.oz_syntax.specs.View.{view};
 ghost use Rattle.reader_law.specs.Machine.{behind, settled, after, item_over, feature_begins, access_begins, accessing, next, start, accepted_of, finish};
 ghost use Rattle.oz_language.specs.Grammar.{connected, relate};
-ghost use Rattle.oz_reader.specs.View.{Steps, Gives, stack_of, frame_of, program_of, shift};
+ghost use Rattle.open_constructs.specs.View.{Steps, Gives, stack_of, frame_of};
+ghost use Rattle.oz_reader.specs.Stepping.{program_of, shift};
 
-use crate::blocks::{item, item_over};
-use crate::conditions::{caught, claused, subjected, tested};
-use crate::connectives::behind_item;
-use crate::error::StepError;
-use crate::frame::{Frame, Opener, Ways};
-use crate::heads::{next_head, open_head};
-use crate::lists::{behind_element, behind_part, close_paren, next_element, next_part, raised};
-use crate::operands::{access_begins, feature_begins, operand, operand_in};
-use crate::operators::{is_operator, reduce, shift_in};
-use crate::records::{behind_field, behind_value, next_field};
-use crate::stack::{begun, kind_of, pop, push};
+use block_steps::{behind_item, item, item_over};
+use construct_steps::{caught, claused, next_head, open_head, subjected, tested};
+use expression_steps::{
+    access_begins, behind_element, behind_field, behind_part, behind_value, close_paren,
+    feature_begins, is_operator, next_element, next_field, next_part, operand, operand_in, raised,
+    reduce, shift_in,
+};
+use open_constructs::{Frame, Opener, StepError, Ways, begun, kind_of, pop, push};
 use oz_language::{Comparison, Connective, Token};
 use oz_syntax::Phrase;
 use std::alloc::{AllocError, Global};

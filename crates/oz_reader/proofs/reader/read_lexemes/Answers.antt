@@ -9,7 +9,7 @@ use Rattle.oz_language.specs.declared.token.Sort.TheVariants as sort
 use Rattle.oz_syntax.specs.View.{view}
 use Rattle.reader_law.specs.Machine.{Stack, step, finish}
 use Rattle.oz_reader.specs.Reading.{Faults}
-use Rattle.oz_reader.specs.View.{stack_of}
+use Rattle.open_constructs.specs.View.{stack_of}
 use Rattle.oz_reader.proofs.Progress.{Goes, depth_after, is_within, goes_start, lexemes_are, words_next, words_all, deep_refused, syntax_refused, went, end_refused, all_derived, all_shallow, step_refused, value_refused, err_is}
 use Rattle.oz_reader.proofs.reader.read_lexemes.Goals as goal
 

@@ -1,7 +1,7 @@
 use Rattle.std.proofs.Common.{◌≡◌, ◌≤◌, take, fold}
 use Rattle.oz_language.specs.Refusals.{depth_limit, depth_of}
 use Rattle.oz_language.specs.Wording.{first_words, joining, tokens_in}
-use Rattle.oz_reader.specs.View.{stack_of}
+use Rattle.open_constructs.specs.View.{stack_of}
 use Rattle.oz_reader.proofs.Progress.{Goes}
 use Rattle.oz_reader.proofs.reader.read_lexemes.Given as goal
 

@@ -1,0 +1,5 @@
+pub mod CellLaws
+pub mod Listing
+pub mod Naming
+pub mod Numbering
+pub mod Writing

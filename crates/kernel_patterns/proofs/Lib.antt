@@ -1,0 +1,4 @@
+pub mod Fields
+pub mod OrderLaws
+pub mod ParenLaws
+pub mod PieceLaws

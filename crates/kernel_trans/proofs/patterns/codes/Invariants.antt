@@ -1,6 +1,0 @@
-use Rattle.std.proofs.Common.{◌≡◌, ◌++◌, drop}
-use Rattle.kernel_trans.specs.Nodes.{codes_nodes}
-use Rattle.kernel_trans.proofs.patterns.codes.Given as goal
-
-abbrev pub invariant-bytes : goal.invariant-bytes
-invariant-bytes l = codes_nodes l.bytes ≡ l.nodes ++ codes_nodes (drop l.byte-index l.bytes)

@@ -1,5 +1,0 @@
-use Rattle.kernel_trans.proofs.RelationLaws.{between_loop}
-use Rattle.kernel_trans.proofs.relations.between.Goals as goal
-
-pub numbers-preserved : goal.numbers-preserved
-numbers-preserved c = between_loop _ _ _ c.numbers.number c.args.behind.next c.numbers-test.true c.in_ok-push.ensures.ok c.numbers.invariant

@@ -1,6 +1,0 @@
-use Rattle.std.proofs.Common.{length}
-use Rattle.oz_reader.proofs.operators.+reduce.Given as goal
-
--- what is open round it
-abbrev pub decreases-reduce : goal.decreases-reduce
-decreases-reduce l = length l.stack.now.items
