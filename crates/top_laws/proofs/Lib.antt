@@ -1,0 +1,4 @@
+pub mod OutsideLaws
+pub mod StepLaws
+pub mod RestLaws
+pub mod RunLaws

@@ -1,0 +1,118 @@
+-- A step of a thread that is none of the top's leaves the top as it was.
+use Rattle.std.proofs.Common.{◌≡◌, ℕ, ◌+◌, Bool, true, false, if◌then◌else◌, List, [], ◌∷◌, ◌++◌, refl, sym, subst, Option, Some, None, drop}
+use Rattle.oz_base.specs.declared.names.Ident.{Ident}
+use Rattle.oz_language.specs.declared.kernel.Kernel.{Kernel}
+use Rattle.oz_semantics.specs.Names.{is_top}
+use Rattle.oz_semantics.specs.Store.{is_consistent}
+use Rattle.oz_semantics.specs.Configurations.{layer_of, stack_of, view, in_layer, with_frames, without_terminated, telling, giving_out, counting_procedure, spawning, failed, raised_by, ending}
+use Rattle.oz_semantics.specs.Answers.{Answer, Acts, RaisesKind, RaisesTerm, Rests}
+use Rattle.oz_semantics.specs.Statements.{stack_answer}
+use Rattle.oz_semantics.specs.Spaces.{sight}
+use Rattle.oz_semantics.specs.Changes.{Change, GivesOut, CountsProcedure, Pushes, Spawns, changed_all, done}
+use Rattle.oz_semantics.specs.Effects.{Effect, Makes, Tells, ShowsText, act_effect}
+use Rattle.oz_semantics.specs.Exceptions.{is_failure, raise_term, with_term, unwound}
+use Rattle.oz_semantics.specs.Texts.{Printed, term_text}
+use Rattle.oz_semantics.specs.Settling.{Turned, settled, top_failed, requeued, term_variable, with_raised, top_ended, without_inconsistent}
+use Rattle.oz_semantics.specs.Steps.{went_on, ended_by, uncaught, raised_to, raised, raised_kind, told, after_effect, after_answer, without_top, stepped}
+use Rattle.oz_semantics.specs.declared.value.Tell.{Tell}
+use Rattle.oz_semantics.specs.declared.configuration.Frame.{Frame}
+use Rattle.oz_semantics.specs.declared.configuration.Layer.{Layer}
+use Rattle.oz_semantics.specs.declared.configuration.Configuration.{Configuration}
+use Rattle.oz_semantics.specs.declared.outcome.RaiseKind.{RaiseKind}
+use Rattle.oz_semantics.specs.declared.outcome.RaiseKind.TheVariants.{FailureTell}
+use Rattle.oz_semantics.specs.declared.outcome.Stepped.TheVariants.{Moved, TopEnded, Quiescent}
+use Rattle.view_laws.specs.Steps.{IsSound, IsNumbered}
+use Rattle.turn_laws.proofs.NumberedLaws.{none_numbered}
+use Rattle.turn_laws.proofs.OrderlyLaws.{frames_edit, terminated_edit, tells_edit, variables_edit, procedure_edit, threads_edit, term_edit}
+use Rattle.top_laws.proofs.OutsideLaws.{LeavesTop, edit_leaves, end_leaves, left_leaves, top_fits}
+
+-- the machine moved and left the top as it was, or nothing could step
+abbrev pub MovedBelow : List Layer → Turned → Type 0
+MovedBelow before (Moved cost, d) = LeavesTop before d.layers
+MovedBelow before (TopEnded x cost, d) = ⊥
+MovedBelow before (Quiescent, d) = Unit {0}
+
+module _ (k : Kernel) (before : List Layer) (sound : IsSound before) (id : Ident) (inner : is_top id.space ≡ false) where
+  follows : (cost : ℕ) (c : Configuration) → LeavesTop before c.layers → MovedBelow before (settled k.statements (Some id) cost c)
+  follows cost c leaves =
+      let fits = top_fits before c.layers sound leaves in
+      subst (λ (b : Bool). MovedBelow before (if b then top_failed cost c else (Moved cost, requeued k.statements (Some id) c (without_inconsistent c.layers)))) (sym fits)
+      (left_leaves before c.layers fits leaves)
+
+  went_leaves : (cost : ℕ) (layers : List Layer) (c : Configuration) → LeavesTop before layers → MovedBelow before (went_on k.statements id cost layers c)
+  went_leaves cost layers c leaves = follows cost (record c { layers = in_layer id.space without_terminated layers }) (edit_leaves id.space inner without_terminated before layers terminated_edit leaves)
+
+  -- Exceptions
+
+  end_is : (x : Ident) (b : Bool) (l : Layer) → ((if b then failed l else raised_by x l).space ≡ l.space) × ((if b then failed l else raised_by x l).next ≡ l.next)
+  end_is x true l = (refl, refl)
+  end_is x false l = (refl, refl)
+
+  end_numbered : (x : Ident) (b : Bool) (l : Layer) → IsNumbered (if b then failed l else raised_by x l)
+  end_numbered x true l = none_numbered (failed l) refl
+  end_numbered x false l = none_numbered (raised_by x l) refl
+
+  uncaught_leaves : (x : Ident) (layers : List Layer) (c : Configuration) → LeavesTop before layers → MovedBelow before (uncaught k.statements id x layers c)
+  uncaught_leaves x layers c leaves =
+      let how : Layer → Layer = ended_by (view layers id.space) x in
+      subst
+      (λ (b : Bool).
+      MovedBelow before (if b
+      then top_ended 1 x (without_inconsistent (in_layer id.space (λ l. without_terminated (with_frames id.number (λ frames. []) l)) layers)) c
+      else settled k.statements (Some id) 1 (record c { layers = ending id.space how layers })))
+      (sym inner)
+      (follows 1 (record c { layers = ending id.space how layers })
+      (end_leaves id.space inner how before layers (λ l. end_is x (is_failure (view layers id.space) x) l) (λ l h. end_numbered x (is_failure (view layers id.space) x) l) leaves))
+
+  raised_to_leaves : (x : Ident) (frames : Option (List Frame)) (layers : List Layer) (c : Configuration) → LeavesTop before layers → MovedBelow before (raised_to k.statements id x frames layers c)
+  raised_to_leaves x None layers c leaves = uncaught_leaves x layers c leaves
+  raised_to_leaves x (Some frames) layers c leaves =
+      went_leaves 1 (in_layer id.space (with_frames id.number (λ rest. frames)) layers) c
+      (edit_leaves id.space inner (with_frames id.number (λ rest. frames)) before layers (frames_edit id.number (λ rest. frames)) leaves)
+
+  raised_leaves : (x : Ident) (layers : List Layer) (c : Configuration) → LeavesTop before layers → MovedBelow before (raised k.statements id x layers c)
+  raised_leaves x layers c leaves = raised_to_leaves x (unwound x (stack_of layers id)) layers c leaves
+
+  kind_leaves : (kind : RaiseKind) (layers : List Layer) (c : Configuration) → LeavesTop before layers → MovedBelow before (raised_kind k.statements id kind layers c)
+  kind_leaves kind layers c leaves =
+      raised_leaves (term_variable layers id.space) (with_raised kind id.space layers) c
+      (edit_leaves id.space inner (with_term (raise_term kind)) before layers (term_edit (raise_term kind)) leaves)
+
+  -- Effects
+
+  changes_leave : (changes : List Change) (layers : List Layer) → LeavesTop before layers → LeavesTop before (changed_all id changes layers)
+  changes_leave [] layers leaves = leaves
+  changes_leave (GivesOut n ∷ changes) layers leaves = changes_leave changes (in_layer id.space (giving_out n) layers) (edit_leaves id.space inner (giving_out n) before layers (variables_edit n) leaves)
+  changes_leave (CountsProcedure ∷ changes) layers leaves =
+      changes_leave changes (in_layer id.space counting_procedure layers) (edit_leaves id.space inner counting_procedure before layers procedure_edit leaves)
+  changes_leave (Pushes frames ∷ changes) layers leaves =
+      changes_leave changes (in_layer id.space (with_frames id.number (λ rest. frames ++ rest)) layers)
+      (edit_leaves id.space inner (with_frames id.number (λ rest. frames ++ rest)) before layers (frames_edit id.number (λ rest. frames ++ rest)) leaves)
+  changes_leave (Spawns frames ∷ changes) layers leaves = changes_leave changes (in_layer id.space (spawning frames) layers) (edit_leaves id.space inner (spawning frames) before layers (threads_edit frames) leaves)
+
+  told_leaves : (ts : List Tell) (changes : List Change) (layers : List Layer) (c : Configuration) → LeavesTop before layers → MovedBelow before (told k.statements id ts changes layers c)
+  told_leaves ts changes layers c leaves = by (is_consistent (view layers id.space ++ ts))
+    where
+      by : (b : Bool) → MovedBelow before (if b then went_on k.statements id 1 (done id ts changes layers) c else raised_kind k.statements id FailureTell layers c)
+      by true =
+          went_leaves 1 (done id ts changes layers) c
+          (changes_leave changes (in_layer id.space (telling ts) layers) (edit_leaves id.space inner (telling ts) before layers (tells_edit ts) leaves))
+      by false = kind_leaves FailureTell layers c leaves
+
+  effect_leaves : (layers : List Layer) (c : Configuration) (effect : Effect) → LeavesTop before layers → MovedBelow before (after_effect k id layers c effect)
+  effect_leaves layers c (Makes changes) leaves = went_leaves 1 (changed_all id changes layers) c (changes_leave changes layers leaves)
+  effect_leaves layers c (Tells ts changes) leaves = told_leaves ts changes layers c leaves
+  effect_leaves layers c (ShowsText x) leaves =
+      let printed : Printed = term_text k.words (view layers id.space) x in
+      went_leaves (1 + printed.nodes) layers (record c { shown = c.shown ++ printed.bytes ∷ [] }) leaves
+
+  answer_leaves : (layers : List Layer) (c : Configuration) (answer : Answer) → LeavesTop before layers → LeavesTop before c.layers → MovedBelow before (after_answer k id layers c answer)
+  answer_leaves layers c (Acts act) leaves first = effect_leaves layers c (act_effect (layer_of layers id.space) act) leaves
+  answer_leaves layers c (RaisesKind kind) leaves first = kind_leaves kind layers c leaves
+  answer_leaves layers c (RaisesTerm x) leaves first = raised_leaves x layers c leaves
+  answer_leaves layers c (Rests ready) leaves first = follows 1 c first
+
+  pub step_below : (c : Configuration) → LeavesTop before c.layers → MovedBelow before (stepped k id c)
+  step_below c leaves =
+      answer_leaves (without_top id c.layers) c (stack_answer (sight k.statements c.layers id.space) (stack_of c.layers id))
+      (edit_leaves id.space inner (with_frames id.number (λ frames. drop 1 frames)) before c.layers (frames_edit id.number (λ frames. drop 1 frames)) leaves) leaves
