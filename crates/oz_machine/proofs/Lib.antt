@@ -2,6 +2,7 @@ pub mod PlaceLaws
 pub mod ActLaws
 pub mod TopLaws
 pub mod DoingLaws
+pub mod RestLaws
 pub mod TurnLaws
 pub mod SearchLaws
 pub mod QuietLaws

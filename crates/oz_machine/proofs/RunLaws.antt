@@ -16,7 +16,7 @@ use Rattle.oz_semantics.specs.declared.outcome.Stepped.{Stepped}
 use Rattle.oz_semantics.specs.declared.outcome.Stepped.TheVariants.{Moved, Quiescent, TopEnded}
 use Rattle.settle_laws.proofs.TurnLaws.{cost_law}
 use Rattle.oz_machine.specs.Turns.{cost_of, CostsWithin, IsTurn}
-use Rattle.oz_machine.specs.Answers.{IsRun, IsAfterTurns, after_turns}
+use Rattle.oz_machine.specs.Answers.{IsRun, IsAfterTurns, IsLeftOff, after_turns}
 use Rattle.oz_machine.specs.declared.runs.Ran.{Ran}
 
 -- What a turn within a fuel was
@@ -85,7 +85,7 @@ over_by more fuel c (Moved cost, d) h = pays_not cost fuel (more d) c h
 over_by more fuel c (TopEnded x cost, d) h = pays_not cost fuel (λ left. TopRaised d left x) c h
 over_by more fuel c (Quiescent, d) h = absurd (omega (arith, h))
 
-same_quiet : (k : Kernel) (c d : Configuration) (queue : List Ident) → turn_of k c queue ≡ (Quiescent, d) → c ≡ d
+pub same_quiet : (k : Kernel) (c d : Configuration) (queue : List Ident) → turn_of k c queue ≡ (Quiescent, d) → c ≡ d
 same_quiet k c d [] e = ap (λ (t : Turned). t.1) e
 same_quiet k c d (id ∷ queue) e =
     let h : 1 ≤ 0 = subst (λ (t : Turned). 1 ≤ cost_of t.0) e (cost_law k id (record c { queue = queue })) in
@@ -153,3 +153,7 @@ turns_more k (suc n) c = turns_more k n (left_by (turn k c))
 pub turn_after : (k : Kernel) (c d e : Configuration) (s : Stepped) → turn k d ≡ (s, e) → IsAfterTurns k c d → IsAfterTurns k c e
 turn_after k c d e s t h =
     (suc h.0, sym (ap (λ (u : Turned). u.1) t) ∙ ap (λ (b : Configuration). left_by (turn k b)) h.1 ∙ sym (turns_more k h.0 c))
+
+-- so many turns were made, and what is left of the fuel leads where the whole of it did
+pub left_off : (k : Kernel) (space : List ℕ) (fuel left : ℕ) (old new : Configuration) → IsAfterTurns k old new → left ≤ fuel → run k space new left ≡ run k space old fuel → IsLeftOff k space fuel old new
+left_off k space fuel left old new after within same = (after, (left, within, same))

@@ -31,6 +31,7 @@ use Rattle.oz_semantics.specs.declared.configuration.Layer.{Layer}
 use Rattle.oz_machine.specs.Quiet.{able_in, IsHeadAnswer}
 use Rattle.oz_machine.specs.Turns.{cost_of, IsTurn}
 use Rattle.oz_machine.proofs.DoingLaws.{headed}
+use Rattle.oz_machine.proofs.RestLaws.{rest_stays}
 
 -- a thread without statements rests
 pub empty_rests : (s : Sight) (frames : List Frame) → None ≡ first frames → (r : Readiness) × (stack_answer s frames ≡ answers.Rests r)
@@ -97,3 +98,10 @@ alone_answer statements layers queue id answer e h other head =
 pub alone_joins : (statements : List Statement) (layers : List Layer) (id : Ident) (answer : Answer) → IsAnswer (stack_answer (sight statements layers id.space) (stack_of layers id)) answer → (answer ≡ Rests → ⊥)
     → id ∷ [] ≡ able_in statements layers id
 alone_joins statements layers id answer h other = sym (ap (λ (b : Bool). if b then id ∷ [] else []) (answer_steps (stack_answer (sight statements layers id.space) (stack_of layers id)) answer h other))
+
+-- and where it rests, nothing joins
+pub resting_joins : (statements : List Statement) (layers : List Layer) (id : Ident) (answer : Answer) → IsAnswer (stack_answer (sight statements layers id.space) (stack_of layers id)) answer → answer ≡ Rests
+    → [] ≡ able_in statements layers id
+resting_joins statements layers id answer h e =
+    let rests : IsAnswer (stack_answer (sight statements layers id.space) (stack_of layers id)) Rests = subst (IsAnswer (stack_answer (sight statements layers id.space) (stack_of layers id))) e h in
+    sym (ap (λ (b : Bool). if b then id ∷ [] else []) (rest_stays (sight statements layers id.space) (stack_of layers id) rests.0 rests.1))

@@ -23,6 +23,10 @@ after_turns k (suc n) c = after_turns k n (left_by (turn k c))
 abbrev pub IsAfterTurns : Kernel → Configuration → Configuration → Type 0
 IsAfterTurns k old new = (n : ℕ) × (new ≡ after_turns k n old)
 
+-- a run was left off: so many turns were made, and with the fuel that is left it goes on from there as it would have
+abbrev pub IsLeftOff : Kernel → List ℕ → ℕ → Configuration → Configuration → Type 0
+IsLeftOff k space fuel old new = IsAfterTurns k old new × ((left : ℕ) × (left ≤ fuel) × (runs.run k space new left ≡ runs.run k space old fuel))
+
 -- how a run of a space with this fuel ended, by its answer and what the machine is then
 abbrev pub IsRun : Loaded → List ℕ → ℕ → runs.Ran → Ran → Type 0
 IsRun m space fuel r (Ended state_found steps) =

@@ -20,6 +20,7 @@ use oz_semantics::{Next, Procedure, Tell, Value};
 use space_core::{Given, Levels};
 use statements::frames_of;
 use std::alloc::{AllocError, Global};
+use std::mem;
 
 /// The numbers that the space gives out next.
 pub fn next_of(levels: &Levels, space: &SpaceName) -> Next
@@ -46,8 +47,7 @@ fn number_after(from: u64, count: usize) -> Result<u64, AllocError>
     }
 }
 
-/// The identifiers stand for as many variables of the space, from this number on. It writes in place what no other environment
-/// shares.
+/// The identifiers stand for as many variables of the space, from this number on.
 fn bind_from(
     alloc: Global,
     environment: &mut Environment,
@@ -187,14 +187,19 @@ pub fn started(
     }
 }
 
-/// Takes the statement off a thread's stack and does what an act says that shows nothing. False exactly where what is told clashes:
-/// then nothing was done.
-pub fn act(alloc: Global, levels: &mut Levels, id: &Ident, act: Act) -> Result<bool, AllocError>
+/// Takes the statement off a thread's stack and does what an act says that shows nothing. The act is of no use afterwards. False
+/// exactly where what is told clashes: then nothing was done.
+pub fn act(
+    alloc: Global,
+    levels: &mut Levels,
+    id: &Ident,
+    act: &mut Act,
+) -> Result<bool, AllocError>
     requires { is_some (layer_at levels.old id.now.space) ≡ true }
-    ensures ok { IfOk result (IsDone id.now (act_effect (layer_of levels.old id.now.space) (act_of act)) levels.old levels.new) }
+    ensures ok { IfOk result (IsDone id.now (act_effect (layer_of levels.old id.now.space) (act_of act.old)) levels.old levels.new) }
     ensures err { OnErr result (levels.new ≡ levels.old) }
 {
-    match act {
+    match mem::replace(act, Act::Passes) {
         Act::Passes => {
             take_off(levels, id);
             Ok(true)

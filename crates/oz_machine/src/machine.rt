@@ -6,7 +6,7 @@ ghost use Rattle.oz_semantics.specs.Schedule.{turn};
 ghost use Rattle.oz_semantics.specs.Runs.{opening, run};
 ghost use Rattle.oz_semantics.specs.Search.{with_root, search_space, chosen_in, state_text};
 ghost use Rattle.oz_machine.specs.Turns.{CostsWithin, IsTurn};
-ghost use Rattle.oz_machine.specs.Answers.{IsAfterTurns, IsRun, IsScript, PrintsWithin};
+ghost use Rattle.oz_machine.specs.Answers.{IsLeftOff, IsRun, IsScript, PrintsWithin};
 
 use crate::course::Course;
 use crate::opening::opening;
@@ -87,11 +87,12 @@ impl Machine {
     }
 
     /// Turns while something of the space or below it can step, for no more than the fuel. A text that is shown costs a step for
-    /// each of its nodes besides. Where it is refused, the machine stands after the last turn that was made.
+    /// each of its nodes besides. Where it is refused, the machine stands after the last turn that was made, and goes on from there as
+    /// it would have.
     pub fn run(&mut self, alloc: Global, space: &SpaceName, fuel: u64) -> Result<Ran, AllocError>
         ensures run { IfOk result (IsRun self.new space.now fuel (run self.old.kernel space.now self.old.config fuel)) }
         ensures kernel { OnOk result (self.new.kernel ≡ self.old.kernel) }
-        ensures err { OnErr result ((self.new.kernel ≡ self.old.kernel) × IsAfterTurns self.old.kernel self.old.config self.new.config) }
+        ensures err { OnErr result ((self.new.kernel ≡ self.old.kernel) × IsLeftOff self.old.kernel space.now fuel self.old.config self.new.config) }
     {
         let Machine {
             kernel,

@@ -3,12 +3,13 @@ ghost use Rattle.std.specs.Prelude.{◌≡◌, ◌≤◌, IfOk, OnErr};
 ghost use Rattle.oz_semantics.specs.Spaces.{goes_on};
 ghost use Rattle.oz_semantics.specs.Runs.{run, Ended};
 ghost use Rattle.oz_machine.specs.Courses.{config_of, Keeps};
-ghost use Rattle.oz_machine.specs.Answers.{IsRun, IsAfterTurns};
+ghost use Rattle.oz_machine.specs.Answers.{IsRun, IsLeftOff};
 ghost use Rattle.oz_machine.specs.declared.course.Due.TheVariants.{Nobody};
 
 use crate::course::Course;
 use crate::settling::settle;
 use crate::turn::turn;
+use builtins::Answer;
 use oz_base::{Ident, SpaceName};
 use oz_language::{Kernel, Statement};
 use oz_semantics::{State, Stepped};
@@ -61,7 +62,45 @@ fn goes_on(
 }
 
 /// Turns while something of the space or below it can step, for no more than the fuel. Where it is refused, it stands after the last
-/// turn that was made.
+/// turn that was made, and goes on from there as it would have. What is in `answered` is of no use before, nor afterwards.
+fn run_turns(
+    alloc: Global,
+    kernel: &Kernel,
+    answered: &mut Option<Answer>,
+    course: &mut Course,
+    kept: &mut bool,
+    space: &SpaceName,
+    fuel: u64,
+) -> Result<Ran, AllocError>
+    requires { Keeps kernel.now.statements kept.old course.old }
+    ensures run { IfOk result (IsRun (record { kernel = kernel.now; config = config_of kernel.now.statements course.new }) space.now fuel (run kernel.now space.now (config_of kernel.now.statements course.old) fuel)) }
+    ensures kept { Keeps kernel.now.statements kept.new course.new }
+    ensures err { OnErr result (IsLeftOff kernel.now space.now fuel (config_of kernel.now.statements course.old) (config_of kernel.now.statements course.new)) }
+{
+    let statements = kernel.statements.as_slice();
+    let mut left = fuel;
+    settle(alloc, statements, course, answered)?;
+    'turns: while goes_on(alloc, statements, course, *kept, space)? {
+        let Some(stepped) = turn(alloc, kernel, answered, course, kept, left)? else {
+            return Ok(Ran::OutOfFuel);
+        };
+        match stepped {
+            Stepped::Moved { cost } => {
+                left -= cost;
+                settle(alloc, statements, course, answered)?;
+            }
+            Stepped::Quiescent => return ended(alloc, kernel, course, space, fuel, left),
+            Stepped::TopEnded { exception, cost } => {
+                let steps = fuel - (left - cost);
+                return Ok(Ran::TopEnded { exception, steps });
+            }
+        }
+    }
+    ended(alloc, kernel, course, space, fuel, left)
+}
+
+/// Turns while something of the space or below it can step, for no more than the fuel. Where it is refused, it stands after the last
+/// turn that was made, and goes on from there as it would have.
 pub fn run(
     alloc: Global,
     kernel: &Kernel,
@@ -73,26 +112,8 @@ pub fn run(
     requires { Keeps kernel.now.statements kept.old course.old }
     ensures run { IfOk result (IsRun (record { kernel = kernel.now; config = config_of kernel.now.statements course.new }) space.now fuel (run kernel.now space.now (config_of kernel.now.statements course.old) fuel)) }
     ensures kept { Keeps kernel.now.statements kept.new course.new }
-    ensures err { OnErr result (IsAfterTurns kernel.now (config_of kernel.now.statements course.old) (config_of kernel.now.statements course.new)) }
+    ensures err { OnErr result (IsLeftOff kernel.now space.now fuel (config_of kernel.now.statements course.old) (config_of kernel.now.statements course.new)) }
 {
-    let statements = kernel.statements.as_slice();
-    let mut left = fuel;
-    let mut answered = settle(alloc, statements, course)?;
-    'turns: while goes_on(alloc, statements, course, *kept, space)? {
-        let Some(stepped) = turn(alloc, kernel, answered, course, kept, left)? else {
-            return Ok(Ran::OutOfFuel);
-        };
-        match stepped {
-            Stepped::Moved { cost } => {
-                left -= cost;
-                answered = settle(alloc, statements, course)?;
-            }
-            Stepped::Quiescent => return ended(alloc, kernel, course, space, fuel, left),
-            Stepped::TopEnded { exception, cost } => {
-                let steps = fuel - (left - cost);
-                return Ok(Ran::TopEnded { exception, steps });
-            }
-        }
-    }
-    ended(alloc, kernel, course, space, fuel, left)
+    let mut answered = None;
+    run_turns(alloc, kernel, &mut answered, course, kept, space, fuel)
 }

@@ -1,5 +1,5 @@
 //! What comes before each step: those who are due are asked whether they can step.
-ghost use Rattle.std.specs.Prelude.{◌≡◌, ◌<◌, ◌++◌, [], Some, length, position, option_copied, option_to_list, IfOk, OnOk, OnErr};
+ghost use Rattle.std.specs.Prelude.{◌≡◌, ◌<◌, ◌++◌, [], None, Some, length, position, option_copied, option_to_list, IfOk, OnOk, OnErr};
 ghost use Rattle.oz_semantics.specs.Configurations.{is_of, stack_of};
 ghost use Rattle.oz_semantics.specs.Settling.{runnable, queue_after};
 ghost use Rattle.oz_semantics.specs.Spaces.{sight};
@@ -135,26 +135,28 @@ fn join_both(
     queue.push_both(alloc, first, second)
 }
 
-/// A thread joins the queue, in which no other is, if it can step. Its answer, where it is a step.
+/// A thread joins the queue, in which no other is, if it can step. Its answer is left in `answered`, where it is a step.
 fn join_alone(
     alloc: Global,
     statements: &[Statement],
     levels: &Levels,
     id: &Ident,
     queue: &mut Queue,
-) -> Result<Option<Answer>, AllocError>
-    requires { queue.old ≡ [] }
+    answered: &mut Option<Answer>,
+) -> Result<(), AllocError>
+    requires alone { queue.old ≡ [] }
+    requires none { answered.old ≡ None }
     ensures ok { OnOk result (queue.new ≡ queue.old ++ able_in statements.now levels.now id.now) }
-    ensures answer { IfOk result (IsHeadAnswer statements.now levels.now queue.new) }
+    ensures answer { OnOk result (IsHeadAnswer statements.now levels.now queue.new answered.new) }
     ensures err { OnErr result (queue.new ≡ queue.old) }
 {
     let answer = thread_answer(alloc, statements, levels, id)?;
     if let Answer::Rests = answer {
-        join_able(alloc, statements, levels, id, queue)?;
-        return Ok(None);
+        return Ok(());
     }
     queue.push(id.copied(alloc)?)?;
-    Ok(Some(answer))
+    *answered = Some(answer);
+    Ok(())
 }
 
 /// All threads that can step make the queue, and the one that stepped, if one did, joins before the others.
@@ -172,77 +174,78 @@ fn requeue(
     queue.requeue(alloc, &ids, mover)
 }
 
-/// A thread joins the end of the queue, if it can step. Its answer, where no other was in the queue and it is a step.
+/// A thread joins the end of the queue, if it can step. Its answer is left in `answered`, where no other was in the queue and it is a
+/// step.
 fn join_mover(
     alloc: Global,
     statements: &[Statement],
     levels: &Levels,
     id: &Ident,
     queue: &mut Queue,
-) -> Result<Option<Answer>, AllocError>
+    answered: &mut Option<Answer>,
+) -> Result<(), AllocError>
+    requires { answered.old ≡ None }
     ensures ok { OnOk result (queue.new ≡ queue.old ++ able_in statements.now levels.now id.now) }
-    ensures answer { IfOk result (IsHeadAnswer statements.now levels.now queue.new) }
+    ensures answer { OnOk result (IsHeadAnswer statements.now levels.now queue.new answered.new) }
     ensures err { OnErr result (queue.new ≡ queue.old) }
 {
     if queue.len() == 0 {
-        return join_alone(alloc, statements, levels, id, queue);
+        return join_alone(alloc, statements, levels, id, queue, answered);
     }
-    join_able(alloc, statements, levels, id, queue)?;
-    Ok(None)
+    join_able(alloc, statements, levels, id, queue)
 }
 
-/// Those who are due join the queue, as far as they can step. The answer of the head, where it was made.
+/// Those who are due join the queue, as far as they can step. The answer of the head is left in `answered`, where it was made.
 fn ask(
     alloc: Global,
     statements: &[Statement],
     levels: &Levels,
     due: &Due,
     queue: &mut Queue,
-) -> Result<Option<Answer>, AllocError>
+    answered: &mut Option<Answer>,
+) -> Result<(), AllocError>
+    requires { answered.old ≡ None }
     ensures ok { OnOk result (queue.new ≡ asked statements.now levels.now due.now queue.old) }
-    ensures answer { IfOk result (IsHeadAnswer statements.now levels.now queue.new) }
+    ensures answer { OnOk result (IsHeadAnswer statements.now levels.now queue.new answered.new) }
     ensures err { OnErr result (queue.new ≡ queue.old) }
 {
     match due {
-        Due::Nobody => Ok(None),
+        Due::Nobody => Ok(()),
         Due::Mover {
             mover,
             started: None,
-        } => join_mover(alloc, statements, levels, mover, queue),
+        } => join_mover(alloc, statements, levels, mover, queue, answered),
         Due::Mover {
             mover,
             started: Some(started),
-        } => {
-            join_both(alloc, statements, levels, mover, started, queue)?;
-            Ok(None)
-        }
-        Due::Everybody { mover } => {
-            requeue(alloc, statements, levels, mover.as_ref(), queue)?;
-            Ok(None)
-        }
+        } => join_both(alloc, statements, levels, mover, started, queue),
+        Due::Everybody { mover } => requeue(alloc, statements, levels, mover.as_ref(), queue),
     }
 }
 
-/// Asks those who are due. The answer of the head, where it was made. What contracts see of the course stays the same, also where
-/// it refuses.
+/// Asks those who are due. The answer of the head is left in `answered`, where it was made, and else nothing is. What contracts see of
+/// the course stays the same, also where it refuses.
 pub fn settle(
     alloc: Global,
     statements: &[Statement],
     course: &mut Course,
-) -> Result<Option<Answer>, AllocError>
+    answered: &mut Option<Answer>,
+) -> Result<(), AllocError>
     ensures same { config_of statements.now course.new ≡ config_of statements.now course.old }
     ensures due { OnOk result (course.new.due ≡ Nobody) }
-    ensures answer { IfOk result (IsHeadAnswer statements.now course.new.levels course.new.queue) }
+    ensures answer { OnOk result (IsHeadAnswer statements.now course.new.levels course.new.queue answered.new) }
 {
-    let answered = ask(
+    *answered = None;
+    ask(
         alloc,
         statements,
         &course.levels,
         &course.due,
         &mut course.queue,
+        answered,
     )?;
     course.due = Due::Nobody;
-    Ok(answered)
+    Ok(())
 }
 
 /// The same, where the answer is of no use.
@@ -254,6 +257,6 @@ pub fn settle_only(
     ensures same { config_of statements.now course.new ≡ config_of statements.now course.old }
     ensures due { OnOk result (course.new.due ≡ Nobody) }
 {
-    let _answered = settle(alloc, statements, course)?;
-    Ok(())
+    let mut answered = None;
+    settle(alloc, statements, course, &mut answered)
 }

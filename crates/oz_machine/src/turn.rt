@@ -1,9 +1,8 @@
 //! One turn of the machine: the head of the queue makes one step.
-ghost use Rattle.std.specs.Prelude.{◌≡◌, ◌≤◌, ◌<◌, ◌+◌, ◌&&◌, not, true, is_some, length, position, IfOk, IfSome, OnErr, Some};
+ghost use Rattle.std.specs.Prelude.{◌≡◌, ◌≤◌, ◌<◌, ◌+◌, ◌&&◌, not, true, is_some, length, position, List, IfOk, IfSome, OnErr, Some};
 ghost use Rattle.oz_base.specs.Lists.{first};
-ghost use Rattle.oz_semantics.specs.Configurations.{is_of, layer_at, stack_of};
-ghost use Rattle.oz_semantics.specs.Spaces.{sight};
-ghost use Rattle.oz_semantics.specs.Statements.{stack_answer};
+ghost use Rattle.oz_language.specs.declared.kernel.Statement.{Statement};
+ghost use Rattle.oz_semantics.specs.Configurations.{is_of, layer_at};
 ghost use Rattle.oz_semantics.specs.Answers as answers;
 ghost use Rattle.oz_semantics.specs.Steps.{without_top, after_answer, shown_by, stepped};
 ghost use Rattle.oz_semantics.specs.Schedule.{turn};
@@ -24,7 +23,7 @@ use crate::settling::{settle, top_answer};
 use crate::told::go_on_told;
 use builtins::{Act, Answer};
 use oz_base::{Copies, Ident, Sequence};
-use oz_language::{Kernel, Statement};
+use oz_language::Kernel;
 use oz_semantics::{RaiseKind, Stepped};
 use space_core::Levels;
 use std::alloc::{AllocError, Global};
@@ -44,25 +43,25 @@ fn is_known_lowest(levels: &Levels, id: &Ident, kept: bool, quiet: bool) -> bool
     kept && !quiet && !levels.has_below(&id.space)
 }
 
-/// The thread does what an act says that shows nothing.
+/// The thread does what an act says that shows nothing. The act is of no use afterwards.
 fn make_act(
     alloc: Global,
     kernel: &Kernel,
     id: &Ident,
-    what: Act,
+    what: &mut Act,
     kept: bool,
     course: &mut Course,
 ) -> Result<Stepped, AllocError>
     requires head { first course.old.queue ≡ Some id.now }
     requires there { is_some (layer_at course.old.levels id.now.space) ≡ true }
     requires kept { KeepsHead kernel.now.statements id.now kept course.old }
-    ensures turn { IfOk result (λ stepped. after_answer kernel.now id.now (without_top id.now course.old.levels) (stepping course.old) (answers.Acts (act_of what)) ≡ (stepped, config_of kernel.now.statements course.new)) }
+    ensures turn { IfOk result (λ stepped. after_answer kernel.now id.now (without_top id.now course.old.levels) (stepping course.old) (answers.Acts (act_of what.old)) ≡ (stepped, config_of kernel.now.statements course.new)) }
     ensures cost { IfOk result (λ stepped. cost_of stepped ≡ 1) }
     ensures err { OnErr result (course.new ≡ course.old) }
 {
-    let quiet = is_known_quiet(&what, kept);
+    let quiet = is_known_quiet(what, kept);
     let lowest = is_known_lowest(&course.levels, id, kept, quiet);
-    let started = started(alloc, &course.levels, id, &what)?;
+    let started = started(alloc, &course.levels, id, what)?;
     if !act(alloc, &mut course.levels, id, what)? {
         return raise_kind(alloc, id, RaiseKind::FailureTell, course);
     }
@@ -76,19 +75,19 @@ fn make_act(
     Ok(go_on(id, 1, course))
 }
 
-/// The thread steps as its statement answered, which shows nothing.
+/// The thread steps as its statement answered, which shows nothing. The answer is of no use afterwards.
 fn make_step(
     alloc: Global,
     kernel: &Kernel,
     id: &Ident,
-    answer: Answer,
+    answer: &mut Answer,
     kept: bool,
     course: &mut Course,
 ) -> Result<Stepped, AllocError>
     requires head { first course.old.queue ≡ Some id.now }
     requires there { is_some (layer_at course.old.levels id.now.space) ≡ true }
     requires kept { KeepsHead kernel.now.statements id.now kept course.old }
-    ensures turn { (a : answers.Answer) → IsAnswer a answer → IfOk result (λ stepped. after_answer kernel.now id.now (without_top id.now course.old.levels) (stepping course.old) a ≡ (stepped, config_of kernel.now.statements course.new)) }
+    ensures turn { (a : answers.Answer) → IsAnswer a answer.old → IfOk result (λ stepped. after_answer kernel.now id.now (without_top id.now course.old.levels) (stepping course.old) a ≡ (stepped, config_of kernel.now.statements course.new)) }
     ensures cost { IfOk result (λ stepped. cost_of stepped ≡ 1) }
     ensures err { OnErr result (course.new ≡ course.old) }
 {
@@ -98,8 +97,8 @@ fn make_step(
             Ok(follow(1, course))
         }
         Answer::Acts(what) => make_act(alloc, kernel, id, what, kept, course),
-        Answer::RaisesKind(kind) => raise_kind(alloc, id, kind, course),
-        Answer::RaisesTerm(exception) => raise(alloc, id, exception, kept, course),
+        Answer::RaisesKind(kind) => raise_kind(alloc, id, *kind, course),
+        Answer::RaisesTerm(exception) => raise(alloc, id, exception.copied(alloc)?, kept, course),
     }
 }
 
@@ -116,21 +115,19 @@ fn text_cost(nodes: u64) -> Result<u64, AllocError>
 /// The thread shows a text, which is made already.
 fn show_text(
     alloc: Global,
-    kernel: &Kernel,
     id: &Ident,
     text: Text,
     kept: bool,
     course: &mut Course,
 ) -> Result<Stepped, AllocError>
-    requires head { first course.old.queue ≡ Some id.now }
-    requires kept { KeepsHead kernel.now.statements id.now kept course.old }
-    ensures turn { IfOk result (λ stepped. shown_by kernel.now.statements id.now (record { bytes = text.bytes; nodes = text.nodes }) (without_top id.now course.old.levels) (stepping course.old) ≡ (stepped, config_of kernel.now.statements course.new)) }
+    requires { first course.old.queue ≡ Some id.now }
+    ensures turn { (statements : List Statement) → KeepsHead statements id.now kept course.old → IfOk result (λ stepped.
+        shown_by statements id.now (record { bytes = text.bytes; nodes = text.nodes }) (without_top id.now course.old.levels) (stepping course.old) ≡ (stepped, config_of statements course.new)) }
     ensures cost { IfOk result (λ stepped. cost_of stepped ≡ 1 + text.nodes) }
     ensures err { OnErr result (course.new ≡ course.old) }
 {
     let Text { bytes, nodes } = text;
     let cost = text_cost(nodes)?;
-    let _ = kernel;
     course.shown.push(alloc, bytes)?;
     take_off(&mut course.levels, id);
     if kept {
@@ -163,17 +160,18 @@ fn show(
     let store = course.levels.store_at(place);
     match term_text(alloc, &kernel.words, store, variable, fuel - 1)? {
         None => Ok(None),
-        Some(text) => Ok(Some(show_text(alloc, kernel, id, text, kept, course)?)),
+        Some(text) => Ok(Some(show_text(alloc, id, text, kept, course)?)),
     }
 }
 
-/// The thread steps as its statement answered, unless that costs more than the fuel: then nothing changes.
+/// The thread steps as its statement answered, unless that costs more than the fuel: then nothing changes. The answer is of no use
+/// afterwards.
 fn step_as(
     alloc: Global,
     kernel: &Kernel,
     place: usize,
     id: &Ident,
-    answer: Answer,
+    answer: &mut Answer,
     kept: bool,
     course: &mut Course,
     fuel: u64,
@@ -183,49 +181,29 @@ fn step_as(
     requires head { first course.old.queue ≡ Some id.now }
     requires kept { KeepsHead kernel.now.statements id.now kept course.old }
     requires fuel { 1 ≤ fuel }
-    ensures turn { (a : answers.Answer) → IsAnswer a answer → IfOk result (IsTurn (after_answer kernel.now id.now (without_top id.now course.old.levels) (stepping course.old) a) fuel (config_of kernel.now.statements course.old) (config_of kernel.now.statements course.new)) }
+    ensures turn { (a : answers.Answer) → IsAnswer a answer.old → IfOk result (IsTurn (after_answer kernel.now id.now (without_top id.now course.old.levels) (stepping course.old) a) fuel (config_of kernel.now.statements course.old) (config_of kernel.now.statements course.new)) }
     ensures cost { IfOk result (λ turned. IfSome turned (CostsWithin fuel)) }
     ensures err { OnErr result (course.new ≡ course.old) }
 {
-    if let Answer::Acts(Act::Shows(variable)) = &answer {
+    if let Answer::Acts(Act::Shows(variable)) = &*answer {
         return show(alloc, kernel, place, id, variable, kept, course, fuel);
     }
     Ok(Some(make_step(alloc, kernel, id, answer, kept, course)?))
 }
 
-/// What the statement on top of the thread's stack answers, of the space at a place: this was made already, or it is made now.
-fn head_answer(
-    alloc: Global,
-    statements: &[Statement],
-    course: &Course,
-    place: usize,
-    id: &Ident,
-    answered: Option<Answer>,
-) -> Result<Answer, AllocError>
-    requires within { place < length course.now.levels }
-    requires place { Some place ≡ position (is_of id.now.space) course.now.levels }
-    requires head { first course.now.queue ≡ Some id.now }
-    requires answered { IsHeadAnswer statements.now course.now.levels course.now.queue answered }
-    ensures { IfOk result (IsAnswer (stack_answer (sight statements.now course.now.levels id.now.space) (stack_of course.now.levels id.now))) }
-{
-    match answered {
-        Some(answer) => Ok(answer),
-        None => top_answer(alloc, statements, &course.levels, place, id),
-    }
-}
-
-/// A step of the thread at the head of the queue. None exactly where it costs more than the fuel: it is not made, and nothing changes.
+/// A step of the thread at the head of the queue. Its answer was made already, or it is made now. None exactly where the step costs more
+/// than the fuel: it is not made, and nothing changes.
 fn step_of(
     alloc: Global,
     kernel: &Kernel,
     id: &Ident,
-    answered: Option<Answer>,
+    answered: &mut Option<Answer>,
     kept: bool,
     course: &mut Course,
     fuel: u64,
 ) -> Result<Option<Stepped>, AllocError>
     requires head { first course.old.queue ≡ Some id.now }
-    requires answered { IsHeadAnswer kernel.now.statements course.old.levels course.old.queue answered }
+    requires answered { IsHeadAnswer kernel.now.statements course.old.levels course.old.queue answered.old }
     requires kept { KeepsHead kernel.now.statements id.now kept course.old }
     requires fuel { 1 ≤ fuel }
     ensures turn { IfOk result (IsTurn (stepped kernel.now id.now (stepping course.old)) fuel (config_of kernel.now.statements course.old) (config_of kernel.now.statements course.new)) }
@@ -236,22 +214,27 @@ fn step_of(
         course.levels.consistent();
         return Ok(Some(follow(1, course)));
     };
-    let statements = kernel.statements.as_slice();
-    let answer = head_answer(alloc, statements, course, place, id, answered)?;
-    step_as(alloc, kernel, place, id, answer, kept, course, fuel)
+    match answered {
+        Some(answer) => step_as(alloc, kernel, place, id, answer, kept, course, fuel),
+        None => {
+            let statements = kernel.statements.as_slice();
+            let mut answer = top_answer(alloc, statements, &course.levels, place, id)?;
+            step_as(alloc, kernel, place, id, &mut answer, kept, course, fuel)
+        }
+    }
 }
 
 /// The head of the queue makes a step, where nobody is due.
 fn take_turn(
     alloc: Global,
     kernel: &Kernel,
-    answered: Option<Answer>,
+    answered: &mut Option<Answer>,
     kept: bool,
     course: &mut Course,
     fuel: u64,
 ) -> Result<Option<Stepped>, AllocError>
     requires due { course.old.due ≡ Nobody }
-    requires answered { IsHeadAnswer kernel.now.statements course.old.levels course.old.queue answered }
+    requires answered { IsHeadAnswer kernel.now.statements course.old.levels course.old.queue answered.old }
     requires kept { Keeps kernel.now.statements kept course.old }
     ensures turn { IfOk result (IsTurn (turn kernel.now (config_of kernel.now.statements course.old)) fuel (config_of kernel.now.statements course.old) (config_of kernel.now.statements course.new)) }
     ensures cost { IfOk result (λ turned. IfSome turned (CostsWithin fuel)) }
@@ -279,17 +262,18 @@ fn is_still_kept(was: bool, turned: &Option<Stepped>) -> bool
 }
 
 /// A turn, where nobody is due. None exactly where it costs more than the fuel: it is not made, and nothing changes. What was known to
-/// hold from turn to turn is known after it too, unless the top has ended.
+/// hold from turn to turn is known after it too, unless the top has ended. The answer that the head made already, if it did, is of no use
+/// afterwards.
 pub fn turn(
     alloc: Global,
     kernel: &Kernel,
-    answered: Option<Answer>,
+    answered: &mut Option<Answer>,
     course: &mut Course,
     kept: &mut bool,
     fuel: u64,
 ) -> Result<Option<Stepped>, AllocError>
     requires due { course.old.due ≡ Nobody }
-    requires answered { IsHeadAnswer kernel.now.statements course.old.levels course.old.queue answered }
+    requires answered { IsHeadAnswer kernel.now.statements course.old.levels course.old.queue answered.old }
     requires kept { Keeps kernel.now.statements kept.old course.old }
     ensures turn { IfOk result (IsTurn (turn kernel.now (config_of kernel.now.statements course.old)) fuel (config_of kernel.now.statements course.old) (config_of kernel.now.statements course.new)) }
     ensures cost { IfOk result (λ turned. IfSome turned (CostsWithin fuel)) }
@@ -315,6 +299,7 @@ pub fn step(
     ensures kept { Keeps kernel.now.statements kept.new course.new }
     ensures err { OnErr result (config_of kernel.now.statements course.new ≡ config_of kernel.now.statements course.old) }
 {
-    let answered = settle(alloc, kernel.statements.as_slice(), course)?;
-    turn(alloc, kernel, answered, course, kept, fuel)
+    let mut answered = None;
+    settle(alloc, kernel.statements.as_slice(), course, &mut answered)?;
+    turn(alloc, kernel, &mut answered, course, kept, fuel)
 }

@@ -21,7 +21,7 @@ pub raise_kind-requires : goal.raise_kind-requires
 raise_kind-requires c =
     let id = c.args.id.now in
     let now = c.args.course.now in
-    let effect = act_effect (layer_of now.levels id.space) (act_of c.args.what) in
+    let effect = act_effect (layer_of now.levels id.space) (act_of c.args.what.now) in
     let d = done_clashes c.args.kernel.now id effect now.levels c.act.new.levels (stepping now) (rw c.if-not-branch.true at c.in_ok-act.ensures.ok) in
     record { head = c.requires.head; there = ap (λ (ls : List Layer). is_some (layer_at ls id.space)) d.0 ∙ c.requires.there }
 
@@ -29,7 +29,7 @@ pub returns-then-not-branch-clause-err : goal.returns-then-not-branch-clause-err
 returns-then-not-branch-clause-err c =
     let id = c.args.id.now in
     let now = c.args.course.now in
-    let effect = act_effect (layer_of now.levels id.space) (act_of c.args.what) in
+    let effect = act_effect (layer_of now.levels id.space) (act_of c.args.what.now) in
     let d = done_clashes c.args.kernel.now id effect now.levels c.act.new.levels (stepping now) (rw c.if-not-branch.true at c.in_ok-act.ensures.ok) in
     subst (λ (ls : List Layer). OnErr c.raise_kind.result (c.raise_kind.new.course ≡ record now { levels = ls })) d.0 c.raise_kind.ensures.err
 
@@ -40,7 +40,7 @@ returns-then-not-branch-clause-turn c =
     let now = c.args.course.now in
     let old = now.levels in
     let new = c.act.new.levels in
-    let act = act_of c.args.what in
+    let act = act_of c.args.what.now in
     let wt = without_top id old in
     let d = done_clashes k id (act_effect (layer_of old id.space) act) old new (stepping now) (rw c.if-not-branch.true at c.in_ok-act.ensures.ok) in
     ok_turn c.raise_kind.result (after_effect k id wt (stepping now) (act_effect (layer_of wt id.space) act))
@@ -59,7 +59,7 @@ returns-then-quiet-clause-turn c =
     let now = c.args.course.now in
     let old = now.levels in
     let new = c.act.new.levels in
-    let act = act_of c.args.what in
+    let act = act_of c.args.what.now in
     let l = layer_of old id.space in
     let wt = without_top id old in
     let both : (c.args.kept && is_quiet act) ≡ true = sym c.is_known_quiet-quiet.ensures ∙ c.if-quiet.true in
@@ -76,7 +76,7 @@ returns-then-lowest-clause-turn c =
     let now = c.args.course.now in
     let old = now.levels in
     let new = c.act.new.levels in
-    let act = act_of c.args.what in
+    let act = act_of c.args.what.now in
     let l = layer_of old id.space in
     let wt = without_top id old in
     let loud_kept = c.args.kept && not c.is_known_quiet-quiet.result in
@@ -98,7 +98,7 @@ returns-clause-turn c =
     let id = c.args.id.now in
     let now = c.args.course.now in
     let old = now.levels in
-    let act = act_of c.args.what in
+    let act = act_of c.args.what.now in
     let wt = without_top id old in
     let d = done_leaves k id (act_effect (layer_of old id.space) act) old c.act.new.levels (stepping now) c.consistent.ensures (rw c.if-not-branch.false at c.in_ok-act.ensures.ok) in
     ap (after_effect k id wt (stepping now)) (effect_popped id old act c.requires.there)

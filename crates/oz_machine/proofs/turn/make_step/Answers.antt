@@ -1,4 +1,5 @@
-use Rattle.std.proofs.Common.{◌∙◌, ap}
+use Rattle.std.proofs.Common.{◌∙◌, ap, sym}
+use Rattle.oz_base.specs.declared.names.Ident.{Ident}
 use Rattle.oz_semantics.specs.Answers as answers
 use Rattle.oz_semantics.specs.Steps.{after_answer, raised, raised_kind, without_top}
 use Rattle.builtins.specs.Answers.{act_of}
@@ -35,11 +36,12 @@ returns-in-RaisesKind-clause-turn c = λ a h.
     ok_turn c.raise_kind.result (after_answer k id (without_top id now.levels) (stepping now) a) (raised_kind k.statements id c.in-RaisesKind.kind (without_top id now.levels) (stepping now)) (config_of k.statements c.raise_kind.new.course)
     (ap (after_answer k id (without_top id now.levels) (stepping now)) raises) (c.raise_kind.ensures.turn k.statements)
 
-pub returns-in-RaisesTerm-clause-turn : goal.returns-in-RaisesTerm-clause-turn
-returns-in-RaisesTerm-clause-turn c = λ a h.
+pub returns-in_ok-copied-in-RaisesTerm-clause-turn : goal.returns-in_ok-copied-in-RaisesTerm-clause-turn
+returns-in_ok-copied-in-RaisesTerm-clause-turn c = λ a h.
     let k = c.args.kernel.now in
     let id = c.args.id.now in
     let now = c.args.course.now in
     let raises = rw c.in-RaisesTerm.is at h in
-    ok_turn c.raise.result (after_answer k id (without_top id now.levels) (stepping now) a) (raised k.statements id c.in-RaisesTerm.exception (without_top id now.levels) (stepping now)) (config_of k.statements c.raise.new.course)
-    (ap (after_answer k id (without_top id now.levels) (stepping now)) raises) (c.raise.ensures.turn k.statements c.requires.kept)
+    let copy = c.in_ok-copied-in-RaisesTerm.field-0 in
+    ok_turn c.raise.result (after_answer k id (without_top id now.levels) (stepping now) a) (raised k.statements id copy (without_top id now.levels) (stepping now)) (config_of k.statements c.raise.new.course)
+    (ap (after_answer k id (without_top id now.levels) (stepping now)) (raises ∙ ap (λ (x : Ident). answers.RaisesTerm x) (sym c.in_ok-copied-in-RaisesTerm.ensures))) (c.raise.ensures.turn k.statements c.requires.kept)

@@ -17,11 +17,18 @@ returns-in_default-clause-turn c =
     nowhere_rests k id (stepping now) (place_none now.levels id.space c.in_default.ensures)
     ∙ c.follow.ensures.turn k.statements id now.levels c.requires.head (nothing_fails id.space now.levels c.consistent.ensures)
 
-pub returns-clause-turn : goal.returns-clause-turn
-returns-clause-turn c =
+pub returns-in-Some-answered-clause-turn : goal.returns-in-Some-answered-clause-turn
+returns-in-Some-answered-clause-turn c =
     let k = c.args.kernel.now in
     let id = c.args.id.now in
     let layers = c.args.course.now.levels in
-    let answer = c.in_ok-answer.answer in
-    c.step_as.ensures.turn (stack_answer (sight k.statements layers id.space) (stack_of layers id))
-    (subst (λ st. IsAnswer (stack_answer (sight st layers id.space) (stack_of layers id)) answer) c.as_slice-statements.ensures c.in_ok-answer.ensures)
+    c.step_as.ensures.turn (stack_answer (sight k.statements layers id.space) (stack_of layers id)) ((rw c.in-Some-answered.is at c.requires.answered) id c.requires.head)
+
+pub returns-in_ok-answer-in-None-clause-turn : goal.returns-in_ok-answer-in-None-clause-turn
+returns-in_ok-answer-in-None-clause-turn c =
+    let k = c.args.kernel.now in
+    let id = c.args.id.now in
+    let layers = c.args.course.now.levels in
+    let answer = c.in_ok-answer-in-None.answer in
+    c.step_as-in-None.ensures.turn (stack_answer (sight k.statements layers id.space) (stack_of layers id))
+    (subst (λ st. IsAnswer (stack_answer (sight st layers id.space) (stack_of layers id)) answer) c.as_slice-statements.ensures c.in_ok-answer-in-None.ensures)

@@ -4,7 +4,7 @@ use Rattle.oz_machine.specs.declared.course.Due.TheVariants.{Nobody}
 use Rattle.oz_machine.specs.Answers.{IsAfterTurns}
 use Rattle.oz_machine.specs.Courses.{config_of, Keeps}
 use Rattle.oz_machine.specs.Quiet.{IsHeadAnswer}
-use Rattle.oz_machine.proofs.runs.run.Given as goal
+use Rattle.oz_machine.proofs.runs.run_turns.Given as goal
 
 abbrev pub invariant-turns : goal.invariant-turns
 invariant-turns l = record {

@@ -7,8 +7,8 @@ use Rattle.oz_semantics.specs.declared.configuration.Configuration.{Configuratio
 use Rattle.turn_laws.specs.Kept.{IsKept}
 use Rattle.oz_machine.specs.Courses.{config_of, Keeps}
 use Rattle.oz_machine.specs.Quiet.{IsHeadAnswer}
-use Rattle.oz_machine.proofs.RunLaws.{was_made, not_made, made_within, moved_within, ended_within, ok_run, run_still, run_out, run_quiet, run_stopped, run_went, none_after, same_after, turn_after, on_err}
-use Rattle.oz_machine.proofs.runs.run.Goals as goal
+use Rattle.oz_machine.proofs.RunLaws.{was_made, not_made, made_within, moved_within, ended_within, ok_run, run_still, run_out, run_quiet, run_stopped, run_went, same_quiet, none_after, same_after, turn_after, left_off, on_err}
+use Rattle.oz_machine.proofs.runs.run_turns.Goals as goal
 
 pub turns-init : goal.turns-init
 turns-init c =
@@ -21,8 +21,8 @@ turns-init c =
       same = ap (λ (b : Configuration). run k c.args.space.now b c.args.fuel) same;
       kept = λ known. subst (IsKept k.statements) (sym same) (c.requires known);
       after = none_after k there here same;
-      due = c.in_ok-answered.ensures.due;
-      answered = subst (λ (st : List Statement). IsHeadAnswer st c.settle.new.course.levels c.settle.new.course.queue c.in_ok-answered.answered) c.as_slice-statements.ensures c.in_ok-answered.ensures.answer;
+      due = c.in_ok-settle.ensures.due;
+      answered = subst (λ (st : List Statement). IsHeadAnswer st c.settle.new.course.levels c.settle.new.course.queue c.settle.new.answered) c.as_slice-statements.ensures c.in_ok-settle.ensures.answer;
     }
 
 pub returns-in_default-clause-run : goal.returns-in_default-clause-run
@@ -62,35 +62,56 @@ turns-preserved c =
           ap (λ (b : Configuration). run k c.args.space.now b (c.turns.left - c.in-Moved.cost)) same
           ∙ run_went k c.args.space.now c.turns.left here there c.in-Moved.cost goes (turned ∙ ap (λ s. (s, there)) c.in-Moved.is) cost.0 cost.1 ∙ c.turns.invariant.same;
       after = same_after k (config_of k.statements c.args.course.now) there (config_of k.statements next) same (turn_after k (config_of k.statements c.args.course.now) here there c.in-Some.stepped turned c.turns.invariant.after);
-      due = c.in_ok-answered-in-Moved.ensures.due;
-      answered = subst (λ (st : List Statement). IsHeadAnswer st next.levels next.queue c.in_ok-answered-in-Moved.answered) c.as_slice-statements.ensures c.in_ok-answered-in-Moved.ensures.answer;
+      due = c.in_ok-settle-in-Moved.ensures.due;
+      answered = subst (λ (st : List Statement). IsHeadAnswer st next.levels next.queue c.settle-in-Moved.new.answered) c.as_slice-statements.ensures c.in_ok-settle-in-Moved.ensures.answer;
     }
 
-pub returns-in_err-answered-clause-err : goal.returns-in_err-answered-clause-err
-returns-in_err-answered-clause-err c =
+pub returns-in_err-settle-clause-err : goal.returns-in_err-settle-clause-err
+returns-in_err-settle-clause-err c =
     let k = c.args.kernel.now in
+    let first = config_of k.statements c.args.course.now in
+    let here = config_of k.statements c.settle.new.course in
     let same = subst (λ (st : List Statement). config_of st c.settle.new.course ≡ config_of st c.args.course.now) c.as_slice-statements.ensures c.settle.ensures.same in
-    on_err c.from_residual.result (none_after k (config_of k.statements c.args.course.now) (config_of k.statements c.settle.new.course) same)
+    on_err c.from_residual.result
+    (left_off k c.args.space.now c.args.fuel c.args.fuel first here (none_after k first here same) (omega arith) (ap (λ (b : Configuration). run k c.args.space.now b c.args.fuel) same))
 
-pub returns-in_err-answered-in-Moved-clause-err : goal.returns-in_err-answered-in-Moved-clause-err
-returns-in_err-answered-in-Moved-clause-err c =
+pub returns-in_err-settle-in-Moved-clause-err : goal.returns-in_err-settle-in-Moved-clause-err
+returns-in_err-settle-in-Moved-clause-err c =
     let k = c.args.kernel.now in
     let first = config_of k.statements c.args.course.now in
     let here = config_of k.statements c.turns.course in
     let there = config_of k.statements c.turn.new.course in
     let next = c.settle-in-Moved.new.course in
+    let goes : goes_on k.statements here.layers c.args.space.now ≡ true
+    = ap (λ (st : List Statement). goes_on st here.layers c.args.space.now) (sym c.as_slice-statements.ensures) ∙ sym (c.in_ok-goes_on.ensures c.turns.invariant.due (subst (λ st. Keeps st c.turns.kept c.turns.course) (sym c.as_slice-statements.ensures) c.turns.invariant.kept)) ∙ c.if-branch.true in
     let turned = was_made (turn k here) c.turns.left here there c.in_ok-stepped.field-0 c.in-Some.stepped c.in_ok-stepped.ensures.turn c.in-Some.is in
-    let same = subst (λ (st : List Statement). config_of st next ≡ config_of st c.turn.new.course) c.as_slice-statements.ensures c.settle-in-Moved.ensures.same in
-    on_err c.from_residual-in_err-answered-in-Moved.result
+    let made = made_within c.turns.left c.in_ok-stepped.field-0 c.in-Some.stepped c.in_ok-stepped.ensures.cost c.in-Some.is in
+    let cost = moved_within c.turns.left c.in-Moved.cost c.in-Some.stepped made c.in-Moved.is in
+    let held = c.turns.invariant.within in
+    let same : config_of k.statements next ≡ there =
+    subst (λ (st : List Statement). config_of st next ≡ config_of st c.turn.new.course) c.as_slice-statements.ensures c.settle-in-Moved.ensures.same in
+    on_err c.from_residual-in_err-settle-in-Moved.result
+    (
+    left_off k c.args.space.now c.args.fuel (c.turns.left - c.in-Moved.cost) first (config_of k.statements next)
     (same_after k first there (config_of k.statements next) same (turn_after k first here there c.in-Some.stepped turned c.turns.invariant.after))
+    (omega (arith, held))
+    (
+    ap (λ (b : Configuration). run k c.args.space.now b (c.turns.left - c.in-Moved.cost)) same
+    ∙ run_went k c.args.space.now c.turns.left here there c.in-Moved.cost goes (turned ∙ ap (λ s. (s, there)) c.in-Moved.is) cost.0 cost.1 ∙ c.turns.invariant.same
+    )
+    )
 
 pub returns-in-Quiescent-clause-err : goal.returns-in-Quiescent-clause-err
 returns-in-Quiescent-clause-err c =
     let k = c.args.kernel.now in
+    let first = config_of k.statements c.args.course.now in
     let here = config_of k.statements c.turns.course in
     let there = config_of k.statements c.turn.new.course in
     let turned = was_made (turn k here) c.turns.left here there c.in_ok-stepped.field-0 c.in-Some.stepped c.in_ok-stepped.ensures.turn c.in-Some.is in
-    on_err c.ended.result (turn_after k (config_of k.statements c.args.course.now) here there c.in-Some.stepped turned c.turns.invariant.after)
+    let same : here ≡ there = same_quiet k here there here.queue (turned ∙ ap (λ s. (s, there)) c.in-Quiescent.is) in
+    on_err c.ended.result
+    (left_off k c.args.space.now c.args.fuel c.turns.left first there (same_after k first here there (sym same) c.turns.invariant.after) c.turns.invariant.within
+    (ap (λ (b : Configuration). run k c.args.space.now b c.turns.left) (sym same) ∙ c.turns.invariant.same))
 
 pub ended-requires : goal.ended-requires
 ended-requires c = c.turns.invariant.within

@@ -1,0 +1,183 @@
+-- A statement that rests cannot step: it waits or offers.
+use Rattle.std.proofs.Common.{◌≡◌, ◌==◌, ℕ, ℤ, Bool, true, false, if◌then◌else◌, List, [], ◌∷◌, map, length, slice_get, Option, Some, None, Result, Ok, Err, refl}
+use Rattle.oz_base.specs.declared.names.Ident.{Ident}
+use Rattle.oz_base.specs.declared.numbers.NumFault.{NumFault}
+use Rattle.oz_base.specs.declared.numbers.NumFault.TheVariants as faults
+use Rattle.environments.specs.Environments.{Environment, bound}
+use Rattle.oz_language.specs.declared.token.Literal.{Literal}
+use Rattle.oz_language.specs.declared.token.Literal.TheVariants as literal
+use Rattle.oz_language.specs.declared.kernel.Constant.{Constant}
+use Rattle.oz_language.specs.declared.kernel.Constant.TheVariants as constant
+use Rattle.oz_language.specs.declared.kernel.Operation.{Operation}
+use Rattle.oz_language.specs.declared.kernel.Operation.TheVariants as operation
+use Rattle.oz_language.specs.declared.kernel.Statement.{Statement}
+use Rattle.oz_language.specs.declared.kernel.Statement.TheVariants as statement
+use Rattle.oz_semantics.specs.Names.{is_top}
+use Rattle.oz_semantics.specs.Store.{View, value_of}
+use Rattle.oz_semantics.specs.Values.{integer_in, constant_in, fields_of}
+use Rattle.oz_semantics.specs.Entailment.{Equality, Entailed, Contradicted, Undecided, equality}
+use Rattle.oz_semantics.specs.Matching.{Match, Matches, Differs, MatchWaits, matched}
+use Rattle.oz_semantics.specs.Sights.{Sight, Readiness, can_step}
+use Rattle.oz_semantics.specs.Answers.{Answer, Acts, RaisesKind, RaisesTerm, Rests, Shows, argument, given, of_kind}
+use Rattle.oz_semantics.specs.Readiness.{answer_ready}
+use Rattle.oz_semantics.specs.Builtins.{arguments_of, gives_number, with_integers, of_equality, label_in, arity_in, gives_field, field_at, of_operation, answer, call_answer}
+use Rattle.oz_semantics.specs.Statements.{procedure_called, value_called, called, literal_branch, constant_branch, branch, clause, statement_answer, numbered_answer, code_answer, stack_answer}
+use Rattle.oz_semantics.specs.declared.configuration.Code.{Code}
+use Rattle.oz_semantics.specs.declared.configuration.Code.TheVariants as code
+use Rattle.oz_semantics.specs.declared.configuration.Frame.{Frame}
+use Rattle.oz_semantics.specs.declared.outcome.RaiseKind.TheVariants as raise
+use Rattle.oz_semantics.specs.declared.value.Builtin.{Builtin}
+use Rattle.oz_semantics.specs.declared.value.Builtin.TheVariants as builtin
+use Rattle.oz_semantics.specs.declared.value.Procedure as procedures
+use Rattle.oz_semantics.specs.declared.value.Value.{Value}
+use Rattle.oz_semantics.specs.declared.value.Value.TheVariants as value
+
+-- where it rests, it cannot step
+abbrev Stays : Answer → Type 0
+Stays (Acts act) = Unit {0}
+Stays (RaisesKind kind) = Unit {0}
+Stays (RaisesTerm x) = Unit {0}
+Stays (Rests ready) = can_step ready ≡ false
+
+-- Built-ins
+
+if_stays : (b : Bool) (one other : Answer) → Stays one → Stays other → Stays (if b then one else other)
+if_stays true one other h i = h
+if_stays false one other h i = i
+
+given_stays : (x : Ident) (o : Option Value) (go : Value → Answer) → ((v : Value) → Stays (go v)) → Stays (given x o go)
+given_stays x None go h = refl
+given_stays x (Some v) go h = h v
+
+kind_stays : {A : Type 0} (o : Option A) (go : A → Answer) → ((a : A) → Stays (go a)) → Stays (of_kind o go)
+kind_stays None go h = tt
+kind_stays (Some a) go h = h a
+
+number_stays : (x : Ident) (r : Result ℤ NumFault) → Stays (gives_number x r)
+number_stays x (Ok i) = tt
+number_stays x (Err faults.Overflow) = tt
+number_stays x (Err faults.DivZero) = tt
+
+integers_stay : (view : View) (x y : Ident) (go : ℤ → ℤ → Answer) → ((i j : ℤ) → Stays (go i j)) → Stays (with_integers view x y go)
+integers_stay view x y go h =
+    given_stays x (value_of view x) _ (λ v. given_stays y (value_of view y) _ (λ w. kind_stays (integer_in v) _ (λ i. kind_stays (integer_in w) _ (h i))))
+
+equality_stays : (z : Ident) (asked : Bool) (e : Equality) → Stays (of_equality z asked e)
+equality_stays z asked Entailed = tt
+equality_stays z asked Contradicted = tt
+equality_stays z asked (Undecided xs) = refl
+
+field_stays : (z : Ident) (o : Option Ident) → Stays (gives_field z o)
+field_stays z (Some x) = tt
+field_stays z None = tt
+
+operation_stays : (view : View) (op : Operation) (x y z : Ident) → Stays (of_operation view op x y z)
+operation_stays view operation.Same x y z = equality_stays z true (equality view x y)
+operation_stays view operation.Differs x y z = equality_stays z false (equality view x y)
+operation_stays view operation.Less x y z = integers_stay view x y _ (λ i j. tt)
+operation_stays view operation.AtMost x y z = integers_stay view x y _ (λ i j. tt)
+operation_stays view operation.Greater x y z = integers_stay view x y _ (λ i j. tt)
+operation_stays view operation.AtLeast x y z = integers_stay view x y _ (λ i j. tt)
+operation_stays view operation.Plus x y z = integers_stay view x y _ (λ i j. number_stays z _)
+operation_stays view operation.Minus x y z = integers_stay view x y _ (λ i j. number_stays z _)
+operation_stays view operation.Times x y z = integers_stay view x y _ (λ i j. number_stays z _)
+operation_stays view operation.Div x y z = integers_stay view x y _ (λ i j. number_stays z _)
+operation_stays view operation.Mod x y z = integers_stay view x y _ (λ i j. number_stays z _)
+operation_stays view operation.Select x y z =
+    given_stays x (value_of view x) _ (λ v. given_stays y (value_of view y) _ (λ w.
+    kind_stays (arity_in v) _ (λ features. kind_stays (constant_in w) _ (λ f. field_stays z (field_at features (fields_of v) f)))))
+operation_stays view operation.Bound x y z = refl
+operation_stays view operation.BoundEach x y z = refl
+
+answer_stays : (s : Sight) (b : Builtin) (x : ℕ → Ident) → Stays (answer s b x)
+answer_stays s (builtin.Operation op) x = operation_stays s.view op (x 0) (x 1) (x 2)
+answer_stays s builtin.Label x = given_stays (x 0) (value_of s.view (x 0)) _ (λ v. kind_stays (label_in v) _ (λ l. tt))
+answer_stays s builtin.Width x = given_stays (x 0) (value_of s.view (x 0)) _ (λ v. kind_stays (arity_in v) _ (λ fs. tt))
+answer_stays s builtin.Arity x = given_stays (x 0) (value_of s.view (x 0)) _ (λ v. kind_stays (arity_in v) _ (λ fs. tt))
+answer_stays s builtin.Wait x = given_stays (x 0) (value_of s.view (x 0)) _ (λ v. tt)
+answer_stays s builtin.Show x = if_stays (is_top s.space) (Acts (Shows (x 0))) (RaisesKind raise.GlobalIo) tt tt
+
+call_stays : (s : Sight) (b : Builtin) (xs : List Ident) → Stays (call_answer s b xs)
+call_stays s b xs = if_stays (length xs == arguments_of b) (answer s b (argument xs)) (RaisesKind raise.Arity) (answer_stays s b (argument xs)) tt
+
+-- Statements
+
+procedure_stays : (q : procedures.Procedure) (xs : List Ident) → Stays (procedure_called q xs)
+procedure_stays q xs = if_stays (length xs == length q.parameters) _ (RaisesKind raise.Arity) tt tt
+
+value_stays : (s : Sight) (xs : List Ident) (v : Value) → Stays (value_called s xs v)
+value_stays s xs (value.Procedure q) = procedure_stays q xs
+value_stays s xs (value.Builtin b) = call_stays s b xs
+value_stays s xs (value.Constant c) = tt
+value_stays s xs (value.Record r) = tt
+
+called_stays : (s : Sight) (x : Ident) (xs : List Ident) → Stays (called s x xs)
+called_stays s x xs = given_stays x (value_of s.view x) _ (value_stays s xs)
+
+literal_stays : (environment : Environment) (accepted otherwise : List ℕ) (l : Literal) → Stays (literal_branch environment accepted otherwise l)
+literal_stays environment accepted otherwise literal.True = tt
+literal_stays environment accepted otherwise literal.False = tt
+literal_stays environment accepted otherwise literal.Unit = tt
+literal_stays environment accepted otherwise (literal.Atom a) = tt
+
+constant_stays : (environment : Environment) (accepted otherwise : List ℕ) (c : Constant) → Stays (constant_branch environment accepted otherwise c)
+constant_stays environment accepted otherwise (constant.Literal l) = literal_stays environment accepted otherwise l
+constant_stays environment accepted otherwise (constant.Int i) = tt
+
+branch_stays : (environment : Environment) (accepted otherwise : List ℕ) (v : Value) → Stays (branch environment accepted otherwise v)
+branch_stays environment accepted otherwise (value.Constant c) = constant_stays environment accepted otherwise c
+branch_stays environment accepted otherwise (value.Record r) = tt
+branch_stays environment accepted otherwise (value.Procedure p) = tt
+branch_stays environment accepted otherwise (value.Builtin b) = tt
+
+clause_stays : (environment : Environment) (accepted otherwise : List ℕ) (m : Match) → Stays (clause environment accepted otherwise m)
+clause_stays environment accepted otherwise (Matches extended) = tt
+clause_stays environment accepted otherwise Differs = tt
+clause_stays environment accepted otherwise (MatchWaits x) = refl
+
+statement_stays : (s : Sight) (environment : Environment) (st : Statement) → Stays (statement_answer s environment st)
+statement_stays s environment statement.Skip = tt
+statement_stays s environment statement.Fail = tt
+statement_stays s environment (statement.Local names body) = tt
+statement_stays s environment (statement.Equate left right) = tt
+statement_stays s environment (statement.Bind name c) = tt
+statement_stays s environment (statement.BindRecord name label features fields) = tt
+statement_stays s environment (statement.BindProcedure name parameters body) = tt
+statement_stays s environment (statement.Call procedure arguments) = called_stays s (bound environment procedure) (map (bound environment) arguments)
+statement_stays s environment (statement.Operate op arguments) = call_stays s (builtin.Operation op) (map (bound environment) arguments)
+statement_stays s environment (statement.Choice alternatives) = refl
+statement_stays s environment (statement.If condition accepted otherwise) =
+    given_stays (bound environment condition) (value_of s.view (bound environment condition)) _ (branch_stays environment accepted otherwise)
+statement_stays s environment (statement.Case subject pattern accepted otherwise) =
+    clause_stays environment accepted otherwise (matched s.view pattern (bound environment subject ∷ []) environment)
+statement_stays s environment statement.NoMatch = tt
+statement_stays s environment (statement.Thread body) = tt
+statement_stays s environment (statement.Try body exception handler) = tt
+statement_stays s environment (statement.Raise name) = tt
+statement_stays s environment (statement.Post sign constant terms) = refl
+statement_stays s environment (statement.PostTimes left right product) = refl
+
+-- Stacks
+
+numbered_stays : (s : Sight) (environment : Environment) (o : Option Statement) → Stays (numbered_answer s environment o)
+numbered_stays s environment (Some st) = statement_stays s environment st
+numbered_stays s environment None = refl
+
+code_stays : (s : Sight) (environment : Environment) (c : Code) → Stays (code_answer s environment c)
+code_stays s environment (code.Statement n) = numbered_stays s environment (slice_get s.statements n)
+code_stays s environment (code.Call procedure argument) = called_stays s procedure (argument ∷ [])
+code_stays s environment (code.Mark exception handler) = tt
+
+stack_stays : (s : Sight) (frames : List Frame) → Stays (stack_answer s frames)
+stack_stays s [] = refl
+stack_stays s (frame ∷ rest) = code_stays s frame.environment frame.code
+
+-- what rests on top of a stack cannot step
+pub rest_stays : (s : Sight) (frames : List Frame) (ready : Readiness) → stack_answer s frames ≡ Rests ready → can_step (answer_ready (stack_answer s frames)) ≡ false
+rest_stays s frames ready e = by (stack_answer s frames) e (stack_stays s frames)
+  where
+    by : (a : Answer) → a ≡ Rests ready → Stays a → can_step (answer_ready a) ≡ false
+    by (Rests other) e h = h
+    by (Acts act) e h = absurd (cc)
+    by (RaisesKind kind) e h = absurd (cc)
+    by (RaisesTerm x) e h = absurd (cc)
