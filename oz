@@ -18,8 +18,7 @@ fail() {
     exit 125
 }
 
-# The crates that the program stands on, and itself, each behind its level: 0 where it uses none of the others, else one more than the
-# highest of those that it uses.
+# The crates that the program stands on, and itself.
 crates() {
     awk '
         NF && !/^#/ {
@@ -28,52 +27,44 @@ crates() {
             name[++count] = head[1]
             uses[head[1]] = halves[2]
         }
-        function level(crate,    many, used, j, below, most) {
-            if (crate in known) return known[crate]
-            most = -1
+        function visit(crate,    many, used, j) {
+            if (crate in seen) return
+            seen[crate]
             many = split(uses[crate], used, " ")
-            for (j = 1; j <= many; j++)
-                if (used[j] in uses) {
-                    below = level(used[j])
-                    if (below > most) most = below
-                }
-            return known[crate] = most + 1
+            for (j = 1; j <= many; j++) if (used[j] in uses) visit(used[j])
         }
         END {
-            level("oz")
-            for (i = 1; i <= count; i++)
-                if (name[i] in known) print known[name[i]], name[i]
+            visit("oz")
+            for (i = 1; i <= count; i++) if (name[i] in seen) print name[i]
         }
     ' "$top/crates.txt"
 }
 
-# The same lines, each with the bytes of the crate's sources and proofs, by which the time that is left is estimated.
+# The same, each with the bytes of the crate's sources and proofs, by which the time that is left is estimated.
 weighed() {
-    printf '%s\n' "$list" | while read -r level name; do
+    crates | while read -r name; do
         bytes=$(find "$top/crates/$name" -name out -prune -o -type f \( -name '*.rt' -o -name '*.antt' \) -exec cat {} + | wc -c)
-        printf '%s %s %s\n' "$level" "$name" $((bytes))
+        printf '%s %s\n' "$name" $((bytes))
     done
 }
 
-# How long the crates take that are not done, by how long those took that are: a level takes as long as its bytes, shared among the
-# processors, or as its largest crate alone. Nothing where none is done.
+# How many crates are proved side by side: one a processor, as far as there are four GB of memory for each.
+lanes() {
+    processors=$(getconf _NPROCESSORS_ONLN)
+    awk -v processors="$processors" '
+        /^MemAvailable:/ { fits = int($2 / 4000000) }
+        END { print fits < 1 ? 1 : (fits < processors ? fits : processors) }
+    ' /proc/meminfo 2>/dev/null || echo 1
+}
+
+# How long the crates take that are not done, by how long those took that are. Nothing where none is done.
 left() {
-    printf '%s\n' "$weights" | awk -v finished=" $finished " -v spent=$(($(date +%s) - began)) -v processors="$processors" '
-        {
-            levels[$1]
-            sum[$1] += $3
-            if ($3 > most[$1]) most[$1] = $3
-            if (index(finished, " " $2 " ")) had[$1] += $3
-        }
+    printf '%s\n' "$weights" | awk -v finished=" $finished " -v spent=$(($(date +%s) - began)) '
+        { all += $2 }
+        index(finished, " " $1 " ") { had += $2 }
         END {
-            for (level in levels) {
-                cost = sum[level] / processors
-                if (most[level] > cost) cost = most[level]
-                all += cost
-                done += cost * (sum[level] ? had[level] / sum[level] : 1)
-            }
-            if (!done) exit
-            minutes = int(spent * (all - done) / done / 60 + 0.5)
+            if (!had) exit
+            minutes = int(spent * (all - had) / had / 60 + 0.5)
             if (minutes > 1) print ", about " minutes " minutes left"
             else if (minutes == 1) print ", about a minute left"
             else print ", less than a minute left"
@@ -82,7 +73,7 @@ left() {
 
 # The line of progress. On a terminal it stands in the place of the one before.
 progress() {
-    line="oz: $done of $total crates done$(left)${working:+; now:$working}"
+    line="oz: $done of $total crates done$(left)"
     if [ -t 2 ]; then
         columns=$(stty size </dev/tty 2>/dev/null | cut -d ' ' -f 2)
         printf '\r\033[K%.*s' "$((${columns:-80} - 1))" "$line" >&2
@@ -96,83 +87,47 @@ end_progress() {
     if [ -t 2 ]; then printf '\r\033[K' >&2; fi
 }
 
-# What the prover said of a crate joins the log.
-keep() {
-    { printf '== %s\n' "$1" && cat "$log.$1"; } >>"$log" && rm -f "$log.$1"
-}
-
-# Reads what the crates of a level report, begin and end, and shows how far they are: on a terminal with each report, elsewhere a
-# line for each crate that is done. The status is 1 where one was not proved.
+# Reads what rt says: it begins what it says of a crate that is done with a line '== NAME', and ends with a line for each crate.
 watch() {
-    working=
-    broken=
-    while read -r what name; do
-        case $what in
-        begin) working="$working $name" ;;
-        proved | refused)
-            working=$(printf '%s' "$working " | sed "s/ $name / /; s/ *\$//")
+    done=0
+    finished=
+    status=1
+    at_end=
+    while IFS= read -r line; do
+        case $line in
+        '== summary') at_end=1 ;;
+        '== status '*) status=${line#== status } ;;
+        '== '*)
             done=$((done + 1))
-            finished="$finished $name"
-            tail -n 5 "$log.$name" >"$log.last"
-            keep "$name"
-            if [ "$what" = refused ]; then
-                broken=1
-                end_progress
-                say "$name was not proved; the prover's last lines:"
-                cat "$log.last" >&2
-            fi
+            finished="$finished ${line#== }"
+            progress
             ;;
+        *': ok') ;;
+        *': '*) [ -z "$at_end" ] || { end_progress && say "$line"; } ;;
         esac
-        if [ -t 2 ] || [ "$what" = proved ]; then progress; fi
     done
-    rm -f "$log.last"
-    [ -z "$broken" ]
+    end_progress
+    [ "$status" -eq 0 ]
 }
 
-# Proves the crates that are given, side by side, and says of each when it begins and how it ends. On a terminal a tick comes in
-# between, so that the estimate does not stand still.
-prove() {
-    ticker=
-    if [ -t 2 ]; then
-        (while sleep 5 >/dev/null 2>&1; do echo tick; done) &
-        ticker=$!
-    fi
-    printf '%s\n' "$@" | xargs -P "$processors" -I NAME sh -c '
-        echo begin NAME
-        cd "$1/crates/NAME" && rt lib </dev/null >"$2.NAME" 2>&1 && echo proved NAME || echo refused NAME' sh "$top" "$log"
-    [ -z "$ticker" ] || kill "$ticker" 2>/dev/null
-}
-
-# Proves each library, those of one level side by side, and then the program, which is tried on the smallest text.
+# Proves all crates, side by side, and then the program is built and tried on the smallest text.
 build() {
     command -v rt >/dev/null 2>&1 ||
         fail 'the program is not built, or its sources have changed, and the command rt of the Rattle toolchain, which proves and builds it, is not on PATH'
-    list=$(crates)
-    total=$(printf '%s\n' "$list" | wc -l)
+    weights=$(weighed)
+    total=$(printf '%s\n' "$weights" | wc -l)
     total=$((total))
-    processors=$(getconf _NPROCESSORS_ONLN)
     log=$top/build/log
     say "the program is not built for these sources: proving and building $total crates. The first time this took $first_build; later only what has changed is proved"
     mkdir -p "$top/build" && : >"$log" || fail "$log cannot be written"
     say "what the prover says goes to $log"
-    weights=$(weighed)
     began=$(date +%s)
-    done=0
-    finished=
-    for level in $(printf '%s\n' "$list" | cut -d ' ' -f 1 | sort -nu); do
-        names=$(printf '%s\n' "$list" | awk -v level="$level" '$1 == level && $2 != "oz" { print $2 }')
-        [ -n "$names" ] || continue
-        prove $names | watch || fail "a crate was not proved, so nothing was built: $log says why"
-        done=$((done + $(printf '%s\n' "$names" | wc -l)))
-        finished="$finished "$(echo $names)
-    done
-    working=' oz'
-    progress
-    (cd "$top/crates/oz" && echo 'proc {Script R} choice fail end end' | rt run -- all) >/dev/null 2>"$log.oz"
-    ended=$?
-    keep oz
-    end_progress
-    [ "$ended" -eq 0 ] || fail "oz was not proved, or could not be built: $log says why"
+    (
+        cd "$top/crates/oz" && rt all check --jobs "$(lanes)" </dev/null 2>&1
+        echo "== status $?"
+    ) | tee "$log" | watch || fail "a crate was not proved, so nothing was built: $log says why"
+    (cd "$top/crates/oz" && echo 'proc {Script R} choice fail end end' | rt run -- all) >/dev/null 2>>"$log" ||
+        fail "oz was not proved, or could not be built: $log says why"
     [ "$("$top/.ci/stamp")" = "$stamp" ] || fail 'the sources were changed meanwhile: run this again'
     "$top/.ci/take" "$stamp" || fail "the program could not be copied to $top/build"
     say 'built'

@@ -135,7 +135,7 @@ fn join_both(
     queue.push_both(alloc, first, second)
 }
 
-/// A thread joins the queue, in which no other is, if it can step. Its answer is left in `answered`, where it is a step.
+/// A thread joins the queue, in which no other is, if it can step. Its answer is left in `answered`.
 fn join_alone(
     alloc: Global,
     statements: &[Statement],
@@ -144,18 +144,16 @@ fn join_alone(
     queue: &mut Queue,
     answered: &mut Option<Answer>,
 ) -> Result<(), AllocError>
-    requires alone { queue.old ≡ [] }
-    requires none { answered.old ≡ None }
+    requires { queue.old ≡ [] }
     ensures ok { OnOk result (queue.new ≡ queue.old ++ able_in statements.now levels.now id.now) }
     ensures answer { OnOk result (IsHeadAnswer statements.now levels.now queue.new answered.new) }
     ensures err { OnErr result (queue.new ≡ queue.old) }
 {
-    let answer = thread_answer(alloc, statements, levels, id)?;
+    let answer = answered.insert(thread_answer(alloc, statements, levels, id)?);
     if let Answer::Rests = answer {
         return Ok(());
     }
     queue.push(id.copied(alloc)?)?;
-    *answered = Some(answer);
     Ok(())
 }
 
