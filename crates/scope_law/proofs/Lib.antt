@@ -1,0 +1,12 @@
+pub mod Basics
+pub mod Scopes
+pub mod Names
+pub mod Patterns
+pub mod Bound
+pub mod Derived
+pub mod Parts
+pub mod Sides
+pub mod SideTerms
+pub mod Steps
+pub mod Phrases
+pub mod Law
