@@ -23,6 +23,13 @@ act_of (act.GivesValue x v) = answers.GivesValue x v
 act_of (act.GivesList x items) = answers.GivesTerm x (list_term items)
 act_of (act.GivesVariable x y) = answers.GivesVariable x y
 act_of (act.MakesProcedure x parameters body environment) = answers.MakesProcedure x parameters body environment
+act_of (act.MakesName x) = answers.MakesName x
+act_of (act.MakesCell x content) = answers.MakesCell x content
+act_of (act.Reads n x) = answers.Reads n x
+act_of (act.Writes n content) = answers.Writes n content
+act_of (act.Exchanges n x content) = answers.Exchanges n x content
+act_of (act.MakesPort x stream) = answers.MakesPort x stream
+act_of (act.Sends n item) = answers.Sends n item
 act_of (act.Shows x) = answers.Shows x
 
 -- a step does just this

@@ -4,7 +4,7 @@ use oz_base::{Ident, Sequence};
 use oz_language::{Constant, Identifier};
 use oz_semantics::{Frame, RaiseKind, Value};
 
-/// What a step does, in words of the thread and of its space.
+/// What a step does, in words of the thread and of its space. Cells and ports are those of this space, by their numbers.
 #[derive(Drop)]
 pub enum Act {
     /// Nothing.
@@ -40,6 +40,41 @@ pub enum Act {
         parameters: Sequence<Identifier>,
         body: Sequence<u32>,
         environment: Environment,
+    },
+    /// The variable is a new name.
+    MakesName {
+        variable: Ident,
+    },
+    /// The variable is a new cell with this content.
+    MakesCell {
+        variable: Ident,
+        content: Ident,
+    },
+    /// The variable is what the cell contains.
+    Reads {
+        cell: u64,
+        variable: Ident,
+    },
+    /// The cell contains this from now on.
+    Writes {
+        cell: u64,
+        content: Ident,
+    },
+    /// The variable is what the cell contains, and from now on the cell contains this.
+    Exchanges {
+        cell: u64,
+        variable: Ident,
+        content: Ident,
+    },
+    /// The variable is a new port with this stream.
+    MakesPort {
+        variable: Ident,
+        stream: Ident,
+    },
+    /// The item is the next in the stream of the port.
+    Sends {
+        port: u64,
+        item: Ident,
     },
     /// The text of the variable is shown.
     Shows(Ident),

@@ -13,7 +13,7 @@ use Rattle.oz_semantics.specs.declared.configuration.Frame.{Frame}
 use Rattle.oz_semantics.specs.declared.outcome.RaiseKind.{RaiseKind}
 use Rattle.oz_semantics.specs.declared.outcome.RaiseKind.TheVariants as raise
 
--- what a step does, in words of the thread and of its space
+-- What a step does, in words of the thread and of its space. Cells and ports are those of this space, by their numbers.
 pub data Act : Type 0 where
   -- nothing
   Passes : Act
@@ -31,6 +31,20 @@ pub data Act : Type 0 where
   GivesVariable : Ident → Ident → Act
   -- x is a new procedure, by its parameters, its body and its environment
   MakesProcedure : Ident → List Identifier → List ℕ → Environment → Act
+  -- x is a new name
+  MakesName : Ident → Act
+  -- x is a new cell with this content
+  MakesCell : Ident → Ident → Act
+  -- x is what the cell contains
+  Reads : ℕ → Ident → Act
+  -- the cell contains x from now on
+  Writes : ℕ → Ident → Act
+  -- x is what the cell contains, and from now on it contains y
+  Exchanges : ℕ → Ident → Ident → Act
+  -- x is a new port with this stream
+  MakesPort : Ident → Ident → Act
+  -- x is the next in the stream of the port
+  Sends : ℕ → Ident → Act
   -- the text of x is shown
   Shows : Ident → Act
 

@@ -44,6 +44,8 @@ raise_term raise.Arity = kernel_error (codes "arity")
 raise_term raise.Feature = kernel_error (codes "feature")
 raise_term raise.Boolean = kernel_error (codes "boolean")
 raise_term raise.NoElse = kernel_error (codes "noElse")
+raise_term raise.GlobalCell = global_error (codes "cell")
+raise_term raise.GlobalPort = global_error (codes "port")
 raise_term raise.GlobalIo = global_error (codes "io")
 
 -- what a space is told of a term, by new variables, of which the first stands for it

@@ -32,28 +32,49 @@ pub enum Builtin {
     Width,
     /// `Arity`, of two parameters: the list of the features of a record.
     Arity,
+    /// `NewName`, of one parameter: a name that is no other.
+    NewName,
     /// `Wait`, of one parameter: until it is determined.
     Wait,
+    /// `NewCell`, of two parameters: a cell with this content.
+    NewCell,
+    /// `Access`, of two parameters: what a cell contains.
+    Access,
+    /// `Assign`, of two parameters: what a cell contains from now on.
+    Assign,
+    /// `Exchange`, of three parameters: what a cell contains, and what it contains from now on.
+    Exchange,
+    /// `NewPort`, of two parameters: a port with this stream.
+    NewPort,
+    /// `Send`, of two parameters: puts something at the end of a port's stream.
+    Send,
     /// `Show`, of one parameter: writes the text of a term as a line.
     Show,
 }
 
-/// A value of the language. Copies of a record and of a procedure share it.
+/// A value of the language. Copies of a record and of a procedure share it. Names, cells and ports are told apart by the space that made
+/// them and a number in it; what a cell contains, and where the stream of a port ends, stands in the layer of that space.
 #[derive(Drop)]
 pub enum Value {
     Constant(Constant),
+    Name(Ident),
     Record(Shared<Record>),
     Procedure(Shared<Procedure>),
     Builtin(Builtin),
+    Cell(Ident),
+    Port(Ident),
 }
 
 impl Copies for Value {
     fn copied(&self, alloc: Global) -> Result<Self, AllocError> {
         match self {
             Value::Constant(constant) => Ok(Value::Constant(*constant)),
+            Value::Name(name) => Ok(Value::Name(name.copied(alloc)?)),
             Value::Record(record) => Ok(Value::Record(record.copied(alloc)?)),
             Value::Procedure(procedure) => Ok(Value::Procedure(procedure.copied(alloc)?)),
             Value::Builtin(builtin) => Ok(Value::Builtin(*builtin)),
+            Value::Cell(cell) => Ok(Value::Cell(cell.copied(alloc)?)),
+            Value::Port(port) => Ok(Value::Port(port.copied(alloc)?)),
         }
     }
 }
