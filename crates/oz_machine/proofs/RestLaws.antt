@@ -110,6 +110,9 @@ value_stays s xs (value.Procedure q) = procedure_stays q xs
 value_stays s xs (value.Builtin b) = call_stays s b xs
 value_stays s xs (value.Constant c) = tt
 value_stays s xs (value.Record r) = tt
+value_stays s xs (value.Name n) = tt
+value_stays s xs (value.Cell c) = tt
+value_stays s xs (value.Port p) = tt
 
 called_stays : (s : Sight) (x : Ident) (xs : List Ident) → Stays (called s x xs)
 called_stays s x xs = given_stays x (value_of s.view x) _ (value_stays s xs)
@@ -128,6 +131,9 @@ branch_stays : (environment : Environment) (accepted otherwise : List ℕ) (v : 
 branch_stays environment accepted otherwise (value.Constant c) = constant_stays environment accepted otherwise c
 branch_stays environment accepted otherwise (value.Record r) = tt
 branch_stays environment accepted otherwise (value.Procedure p) = tt
+branch_stays environment accepted otherwise (value.Name n) = tt
+branch_stays environment accepted otherwise (value.Cell c) = tt
+branch_stays environment accepted otherwise (value.Port p) = tt
 branch_stays environment accepted otherwise (value.Builtin b) = tt
 
 clause_stays : (environment : Environment) (accepted otherwise : List ℕ) (m : Match) → Stays (clause environment accepted otherwise m)

@@ -16,7 +16,12 @@ fn is_script(value: Option<&Value>) -> bool
     match value {
         Some(Value::Procedure(procedure)) => procedure.get().parameters.len() == 1,
         Some(Value::Builtin(builtin)) => arguments_of(*builtin) == 1,
-        Some(Value::Constant(_)) | Some(Value::Record(_)) | None => false,
+        Some(Value::Constant(_))
+        | Some(Value::Name(_))
+        | Some(Value::Record(_))
+        | Some(Value::Cell(_))
+        | Some(Value::Port(_))
+        | None => false,
     }
 }
 

@@ -16,8 +16,11 @@ fn is_failure_label(value: &Value) -> bool
     match value {
         Value::Constant(constant) => constant_eq(failure, *constant),
         Value::Record(record) => constant_eq(failure, Constant::Literal(record.get().label)),
-        Value::Procedure(_) => false,
-        Value::Builtin(_) => false,
+        Value::Name(_)
+        | Value::Procedure(_)
+        | Value::Builtin(_)
+        | Value::Cell(_)
+        | Value::Port(_) => false,
     }
 }
 

@@ -16,14 +16,23 @@ use Rattle.space_core.specs.declared.level.Numbers.{Numbers}
 
 -- the numbers that a space gives out next, a thread's among them
 abbrev pub next_with : ℕ → Numbers → Next
-next_with thread numbers = record { variable = numbers.variable; thread = thread; procedure = numbers.procedure; child = numbers.child }
+next_with thread numbers = record { variable = numbers.variable; thread = thread; procedure = numbers.procedure; name = numbers.name; child = numbers.child }
 
 abbrev pub next_of : Level → Next
 next_of l = next_with l.threads.next l.numbers
 
 -- a space was told what its store has from its place on
 abbrev pub shown : Level → Layer
-shown l = record { space = l.space; status = l.status; tells = drop l.told_from l.store; threads = l.threads.list; next = next_of l }
+shown l =
+    record {
+      space = l.space;
+      status = l.status;
+      tells = drop l.told_from l.store;
+      threads = l.threads.list;
+      cells = l.objects.cells;
+      ports = l.objects.ports;
+      next = next_of l;
+    }
 
 abbrev pub shown_all : List Level → List Layer
 shown_all = map shown

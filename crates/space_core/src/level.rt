@@ -4,6 +4,7 @@ ghost use Rattle.space_core.specs.Beginnings.{IsTopLevel};
 ghost use Rattle.space_core.specs.Shown.{next_of};
 
 use crate::threads::Threads;
+use cells_ports::Objects;
 use oz_base::{Copies, Ident, Sequence, SpaceName};
 use oz_semantics::{Next, Status};
 use std::alloc::{AllocError, Global};
@@ -14,6 +15,7 @@ use term_store::Store;
 pub struct Numbers {
     pub variable: u64,
     pub procedure: u64,
+    pub name: u64,
     pub child: u64,
 }
 
@@ -30,6 +32,7 @@ pub struct Level {
     /// top's are not noted.
     pub touched: Sequence<Ident>,
     pub threads: Threads,
+    pub objects: Objects,
     pub numbers: Numbers,
     /// Whether all variables that were told of are those of the space and of spaces above it, and all of other spaces that is touched
     /// was noted.
@@ -46,6 +49,7 @@ impl Level {
             variable: self.numbers.variable,
             thread: self.threads.next(),
             procedure: self.numbers.procedure,
+            name: self.numbers.name,
             child: self.numbers.child,
         }
     }
@@ -60,6 +64,7 @@ impl Copies for Level {
             told_from: self.told_from,
             touched: self.touched.copied(alloc)?,
             threads: self.threads.copied(alloc)?,
+            objects: self.objects.copied(alloc)?,
             numbers: self.numbers,
             traced: self.traced,
         })
@@ -77,9 +82,11 @@ pub fn top_level(alloc: Global) -> Level
         told_from: 0,
         touched: Sequence::new(alloc),
         threads: Threads::new(alloc),
+        objects: Objects::new(),
         numbers: Numbers {
             variable: 1,
             procedure: 1,
+            name: 1,
             child: 1,
         },
         traced: true,

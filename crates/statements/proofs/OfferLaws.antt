@@ -104,6 +104,9 @@ value_quiet s xs (value.Procedure q) = ap offer_of (procedure_steps q xs)
 value_quiet s xs (value.Builtin b) = call_quiet s b xs
 value_quiet s xs (value.Constant c) = refl
 value_quiet s xs (value.Record r) = refl
+value_quiet s xs (value.Name n) = refl
+value_quiet s xs (value.Cell c) = refl
+value_quiet s xs (value.Port p) = refl
 
 called_quiet : (s : Sight) (x : Ident) (xs : List Ident) → IsQuiet (called s x xs)
 called_quiet s x xs = given_quiet x (value_of s.view x) (value_called s xs) (value_quiet s xs)

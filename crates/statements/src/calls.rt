@@ -99,8 +99,11 @@ fn value_called(
 {
     match value {
         None => Ok(Answer::Rests),
-        Some(Value::Constant(_)) => Ok(Answer::RaisesKind(RaiseKind::Apply)),
-        Some(Value::Record(_)) => Ok(Answer::RaisesKind(RaiseKind::Apply)),
+        Some(Value::Constant(_))
+        | Some(Value::Name(_))
+        | Some(Value::Record(_))
+        | Some(Value::Cell(_))
+        | Some(Value::Port(_)) => Ok(Answer::RaisesKind(RaiseKind::Apply)),
         Some(Value::Procedure(procedure)) => procedure_called(alloc, procedure.get(), arguments),
         Some(Value::Builtin(builtin)) => {
             builtin_called(alloc, store, space, *builtin, arguments)

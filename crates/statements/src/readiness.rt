@@ -52,9 +52,12 @@ fn ready_value(
     ensures { IfOk result (λ r. (statements : List Statement) (space : List ℕ) → IsReady store.now (answer_ready (value_called (record { statements = statements; space = space; view = store.now }) (variables_of arguments.now) value.now)) r) }
 {
     match value {
-        Value::Constant(_) => Ok(Readiness::Steps),
-        Value::Record(_) => Ok(Readiness::Steps),
-        Value::Procedure(_) => Ok(Readiness::Steps),
+        Value::Constant(_)
+        | Value::Name(_)
+        | Value::Record(_)
+        | Value::Procedure(_)
+        | Value::Cell(_)
+        | Value::Port(_) => Ok(Readiness::Steps),
         Value::Builtin(builtin) => ready_builtin(alloc, store, *builtin, arguments),
     }
 }

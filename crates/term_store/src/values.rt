@@ -21,8 +21,8 @@ fn builtin_eq(left: Builtin, right: Builtin) -> bool
     left == right
 }
 
-/// Whether two values are one but for their fields: one integer or literal, one procedure, or records of one label and
-/// one arity.
+/// Whether two values are one but for their fields: one integer or literal, records of one label and one arity, and one and the same of
+/// all other kinds.
 pub fn is_like(left: &Value, right: &Value) -> bool
     ensures { result ≡ is_like left.now right.now }
 {
@@ -31,6 +31,9 @@ pub fn is_like(left: &Value, right: &Value) -> bool
         (Value::Record(a), Value::Record(b)) => same_form(a.get(), b.get()),
         (Value::Procedure(a), Value::Procedure(b)) => same_ident(&a.get().name, &b.get().name),
         (Value::Builtin(a), Value::Builtin(b)) => builtin_eq(*a, *b),
+        (Value::Name(a), Value::Name(b)) => same_ident(a, b),
+        (Value::Cell(a), Value::Cell(b)) => same_ident(a, b),
+        (Value::Port(a), Value::Port(b)) => same_ident(a, b),
         _ => false,
     }
 }

@@ -290,12 +290,20 @@ impl<'a> Printer<'a> {
                 term,
                 record.get(),
             ),
-            Some(Value::Procedure(_)) => {
+            Some(Value::Name(_)) => {
+                self.print_leaf(b"<name>", term.owed)?;
+                Ok(None)
+            }
+            Some(Value::Procedure(_)) | Some(Value::Builtin(_)) => {
                 self.print_leaf(b"<proc>", term.owed)?;
                 Ok(None)
             }
-            Some(Value::Builtin(_)) => {
-                self.print_leaf(b"<proc>", term.owed)?;
+            Some(Value::Cell(_)) => {
+                self.print_leaf(b"<cell>", term.owed)?;
+                Ok(None)
+            }
+            Some(Value::Port(_)) => {
+                self.print_leaf(b"<port>", term.owed)?;
                 Ok(None)
             }
         }

@@ -38,4 +38,7 @@ like_length (value.Constant a) (value.Constant b) e = refl
 like_length (value.Record a) (value.Record b) e = eq-true (length a.fields) (length b.fields) (and-right _ _ (and-right _ _ e))
 like_length (value.Procedure a) (value.Procedure b) e = refl
 like_length (value.Builtin a) (value.Builtin b) e = refl
+like_length (value.Name a) (value.Name b) e = refl
+like_length (value.Cell a) (value.Cell b) e = refl
+like_length (value.Port a) (value.Port b) e = refl
 like_length v w e = absurd (false≢true e)

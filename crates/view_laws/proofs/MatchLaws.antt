@@ -49,6 +49,9 @@ fields_alike (value.Record r) (value.Record s) e = eq-true _ _ (and-right (same_
 fields_alike (value.Constant c) (value.Constant d) e = refl
 fields_alike (value.Procedure p) (value.Procedure q) e = refl
 fields_alike (value.Builtin b) (value.Builtin c) e = refl
+fields_alike (value.Name m) (value.Name n) e = refl
+fields_alike (value.Cell c) (value.Cell d) e = refl
+fields_alike (value.Port p) (value.Port q) e = refl
 fields_alike v w e = absurd (false≢true e)
 
 -- and are asked alike
@@ -60,9 +63,15 @@ asked_alike (piece.Record label features) (value.Record r) (value.Record s) h =
 asked_alike (piece.Constant c) (value.Record r) (value.Record s) h = refl
 asked_alike (piece.Constant c) (value.Procedure p) (value.Procedure q) h = refl
 asked_alike (piece.Constant c) (value.Builtin p) (value.Builtin q) h = refl
+asked_alike (piece.Constant c) (value.Name m) (value.Name n) h = refl
+asked_alike (piece.Constant c) (value.Cell p) (value.Cell q) h = refl
+asked_alike (piece.Constant c) (value.Port p) (value.Port q) h = refl
 asked_alike (piece.Record label features) (value.Constant c) (value.Constant d) h = refl
 asked_alike (piece.Record label features) (value.Procedure p) (value.Procedure q) h = refl
 asked_alike (piece.Record label features) (value.Builtin p) (value.Builtin q) h = refl
+asked_alike (piece.Record label features) (value.Name m) (value.Name n) h = refl
+asked_alike (piece.Record label features) (value.Cell p) (value.Cell q) h = refl
+asked_alike (piece.Record label features) (value.Port p) (value.Port q) h = refl
 asked_alike (piece.Variable name) v w h = refl
 asked_alike piece.Any v w h = refl
 asked_alike p v w h = absurd (false≢true h)

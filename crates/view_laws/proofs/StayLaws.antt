@@ -73,11 +73,17 @@ branch_steps : (environment : Environment) (accepted otherwise : List ℕ) (v : 
 branch_steps environment accepted otherwise (value.Constant c) = literal_steps environment accepted otherwise c
 branch_steps environment accepted otherwise (value.Record r) = refl
 branch_steps environment accepted otherwise (value.Procedure p) = refl
+branch_steps environment accepted otherwise (value.Name n) = refl
+branch_steps environment accepted otherwise (value.Cell c) = refl
+branch_steps environment accepted otherwise (value.Port p) = refl
 branch_steps environment accepted otherwise (value.Builtin b) = refl
 
 either_steps : (b : Bool) (one other : Answer) → answer_ready one ≡ Steps → answer_ready other ≡ Steps → answer_ready (if b then one else other) ≡ Steps
 either_steps true one other e f = e
 either_steps false one other e f = f
+
+own_steps : (s : Sight) (global : RaiseKind) (act : ℕ → Act) (owner : Ident) → answer_ready (own_act s global act owner) ≡ Steps
+own_steps s global act owner = either_steps (list_eq owner.space s.space) (Acts (act owner.number)) (RaisesKind global) refl refl
 
 procedure_steps : (q : procedures.Procedure) (xs : List Ident) → answer_ready (procedure_called q xs) ≡ Steps
 procedure_steps q xs = either_steps (length xs == length q.parameters) _ (RaisesKind raise.Arity) refl refl
@@ -183,6 +189,16 @@ module _ (statements : List Statement) (space : List ℕ) (before after : List T
   show_leads true x = refl
   show_leads false x = refl
 
+  cell_leads : (x : Ident) (act : ℕ → Act) → Leads (on_cell here x act) (on_cell there x act)
+  cell_leads x act =
+      one_leads x (λ v. of_kind (cell_in v) (own_act here raise.GlobalCell act))
+      (λ v. kind_steps (cell_in v) (own_act here raise.GlobalCell act) (own_steps here raise.GlobalCell act))
+
+  port_leads : (x : Ident) (act : ℕ → Act) → Leads (on_port here x act) (on_port there x act)
+  port_leads x act =
+      one_leads x (λ v. of_kind (port_in v) (own_act here raise.GlobalPort act))
+      (λ v. kind_steps (port_in v) (own_act here raise.GlobalPort act) (own_steps here raise.GlobalPort act))
+
   answer_leads : (b : Builtin) (x : ℕ → Ident) → Leads (answer here b x) (answer there b x)
   answer_leads (builtin.Operation op) x = operation_leads op (x 0) (x 1) (x 2)
   answer_leads builtin.Label x = one_leads (x 0) (λ v. of_kind (label_in v) (gives_constant (x 1))) (λ v. kind_steps (label_in v) (gives_constant (x 1)) (λ c. refl))
@@ -191,7 +207,14 @@ module _ (statements : List Statement) (space : List ℕ) (before after : List T
       (λ v. kind_steps (arity_in v) (λ fs. gives_constant (x 1) (constant.Int (pos (length fs)))) (λ fs. refl))
   answer_leads builtin.Arity x =
       one_leads (x 0) (λ v. of_kind (arity_in v) (λ fs. Acts (GivesTerm (x 1) (list_term fs)))) (λ v. kind_steps (arity_in v) (λ fs. Acts (GivesTerm (x 1) (list_term fs))) (λ fs. refl))
+  answer_leads builtin.NewName x = refl
   answer_leads builtin.Wait x = one_leads (x 0) (λ v. Acts Passes) (λ v. refl)
+  answer_leads builtin.NewCell x = refl
+  answer_leads builtin.Access x = cell_leads (x 0) (λ n. Reads n (x 1))
+  answer_leads builtin.Assign x = cell_leads (x 0) (λ n. Writes n (x 1))
+  answer_leads builtin.Exchange x = cell_leads (x 0) (λ n. Exchanges n (x 1) (x 2))
+  answer_leads builtin.NewPort x = refl
+  answer_leads builtin.Send x = port_leads (x 0) (λ n. Sends n (x 1))
   answer_leads builtin.Show x = show_leads (is_top space) (x 0)
 
   call_leads : (b : Builtin) (xs : List Ident) → Leads (call_answer here b xs) (call_answer there b xs)
@@ -207,6 +230,9 @@ module _ (statements : List Statement) (space : List ℕ) (before after : List T
   value_called_leads xs (value.Builtin b) (value.Builtin c) e = subst (λ d. Leads (call_answer here b xs) (call_answer there d xs)) (builtin_eq-true b c e) (call_leads b xs)
   value_called_leads xs (value.Constant c) (value.Constant d) e = refl
   value_called_leads xs (value.Record r) (value.Record s) e = refl
+  value_called_leads xs (value.Name m) (value.Name n) e = refl
+  value_called_leads xs (value.Cell c) (value.Cell d) e = refl
+  value_called_leads xs (value.Port p) (value.Port q) e = refl
   value_called_leads xs (value.Procedure p) (value.Procedure q) e = both_step (procedure_called p xs) (procedure_called q xs) (procedure_steps p xs) (procedure_steps q xs)
   value_called_leads xs v w e = absurd (false≢true e)
 
