@@ -1,0 +1,2 @@
+//! Laws of what follows a step by need.
+#![tactic(auto)]
