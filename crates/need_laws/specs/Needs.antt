@@ -10,15 +10,8 @@ use Rattle.oz_semantics.specs.declared.configuration.Frame.{Frame}
 use Rattle.oz_semantics.specs.declared.configuration.Thread.{Thread}
 use Rattle.oz_semantics.specs.declared.configuration.Layer.{Layer}
 use Rattle.view_laws.specs.Trees.{IsTree}
+use Rattle.view_laws.specs.Needs.{NoneNeeded}
 use Rattle.view_laws.specs.Steps.{IsNumbered, IsSound}
-
--- no trigger is needed
-abbrev pub NoneNeeded : List Statement → List Layer → Type 0
-NoneNeeded statements layers = list_any (has_needed statements layers) layers ≡ false
-
--- Then nothing follows
-abbrev pub NothingFires : Type 0
-NothingFires = (statements : List Statement) (layers : List Layer) → NoneNeeded statements layers → triggered statements layers ≡ layers
 
 -- some layer has a trigger
 abbrev pub has_triggers : List Layer → Bool
