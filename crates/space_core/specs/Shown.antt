@@ -29,6 +29,7 @@ shown l =
       status = l.status;
       tells = drop l.told_from l.store;
       threads = l.threads.list;
+      triggers = l.triggers;
       cells = l.objects.cells;
       ports = l.objects.ports;
       next = next_of l;

@@ -361,6 +361,52 @@ impl Levels {
         edits::assign(alloc, &mut self.levels[place], id.number, cell, content)
     }
 
+    /// Whether a space has by-need computations that have not begun.
+    pub fn has_triggers(&self) -> bool
+        ensures { result ≡ has_triggers self.now }
+    {
+        self.levels.iter().any(has_trigger)
+    }
+
+    /// The by-need computations of the space at a place that have not begun, in the order in which they came.
+    pub fn triggers_at(&self, place: usize) -> &[Trigger]
+        requires { place < length self.now }
+        ensures { OfLayer self.now place (λ l. result.now ≡ l.triggers) }
+    {
+        self.levels[place].triggers.as_slice()
+    }
+
+    /// The statement on top of a thread's stack is taken off, and the procedure is applied to the variable once that is needed.
+    pub fn delay(
+        &mut self,
+        alloc: Global,
+        id: &Ident,
+        procedure: Ident,
+        variable: Ident,
+    ) -> Result<(), AllocError>
+        ensures ok { OnOk result (self.new ≡ changed_all id.now (AddsTrigger procedure variable ∷ []) (without_top id.now self.old)) }
+        ensures err { OnErr result (self.new ≡ self.old) }
+    {
+        let Some(place) = level_place(self.levels.as_slice(), &id.space) else {
+            return Ok(());
+        };
+        edits::delay(&mut self.levels[place], id.number, procedure, variable)
+    }
+
+    /// The marked by-need computations of the space at a place begin, each with a new thread of its own. It refuses for want of memory, or
+    /// where the space gave out 2^64 - 1 threads.
+    pub fn fire_at(
+        &mut self,
+        alloc: Global,
+        place: usize,
+        marks: &[bool],
+    ) -> Result<(), AllocError>
+        requires { place < length self.old }
+        ensures ok { OnOk result (self.new ≡ at_place place (firing marks.now) self.old) }
+    {
+        firing::fire(alloc, &mut self.levels[place], marks)
+    }
+
     /// The statement on top of a thread's stack is taken off, its space is told this and gives out what comes with it, its cells and
     /// ports change by that, and each space below fails that then sees what is inconsistent. False exactly where it is inconsistent with
     /// what the space sees: then nothing changes. It refuses for want of memory, where the space gave out 2^64 - 1 of a kind, and where

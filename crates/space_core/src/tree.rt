@@ -86,6 +86,7 @@ pub fn fail(alloc: Global, level: &mut Level, store: Store)
     level.status = Status::Failed;
     level.touched = Sequence::new(alloc);
     level.threads.stop_all(alloc);
+    level.triggers = Sequence::new(alloc);
     level.objects = Objects::new();
     level.traced = true;
 }
@@ -145,6 +146,7 @@ fn child_level(
         store,
         touched: Sequence::new(alloc),
         threads,
+        triggers: Sequence::new(alloc),
         objects: Objects::new(),
         numbers: Numbers {
             variable: 1,
