@@ -1,5 +1,5 @@
 -- What follows a step by need: which triggers give way to their threads, and what stays as it is.
-use Rattle.std.specs.Prelude.{ℕ, ◌≡◌, ◌+◌, Bool, true, false, not, List, [], ◌∷◌, ◌++◌, Contains, Option, Some, length, is_some}
+use Rattle.std.specs.Prelude.{ℕ, ◌≡◌, ◌+◌, Bool, false, not, List, [], ◌∷◌, ◌++◌, Contains, Some, length, is_some}
 use Rattle.std.specs.List.{list_any}
 use Rattle.oz_base.specs.Lists.{is_empty}
 use Rattle.oz_base.specs.declared.names.Ident.{Ident}
