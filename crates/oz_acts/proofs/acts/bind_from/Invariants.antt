@@ -2,7 +2,7 @@ use Rattle.std.proofs.Common.{◌≡◌, ◌≤◌, drop, length, map}
 use Rattle.std.specs.List.{range_with_len}
 use Rattle.environments.specs.Environments.{binding_all}
 use Rattle.oz_semantics.specs.Names.{named}
-use Rattle.oz_machine.proofs.acts.bind_from.Given as goal
+use Rattle.oz_acts.proofs.acts.bind_from.Given as goal
 
 -- the last ones are bound
 abbrev pub invariant-names : goal.invariant-names

@@ -2,8 +2,8 @@ use Rattle.std.proofs.Common.{◌≡◌, [], ◌∷◌, length, subst}
 use Rattle.std.specs.Prelude.{OnOk}
 use Rattle.oz_semantics.specs.Changes.{GivesOut, Pushes, changed_all}
 use Rattle.oz_semantics.specs.Steps.{without_top}
-use Rattle.oz_machine.proofs.ActLaws.{declared_frames}
-use Rattle.oz_machine.proofs.acts.declare.Goals as goal
+use Rattle.oz_acts.proofs.ActLaws.{declared_frames}
+use Rattle.oz_acts.proofs.acts.declare.Goals as goal
 
 pub returns-clause-ok : goal.returns-clause-ok
 returns-clause-ok c =

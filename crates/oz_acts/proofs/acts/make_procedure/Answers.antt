@@ -4,9 +4,9 @@ use Rattle.oz_semantics.specs.Changes.{CountsProcedure}
 use Rattle.oz_semantics.specs.Effects.{procedure_made}
 use Rattle.oz_semantics.specs.declared.value.Value.TheVariants as value
 use Rattle.oz_semantics.specs.declared.value.Tell.TheVariants.{Is}
-use Rattle.oz_machine.proofs.DoingLaws.{tells_done}
-use Rattle.oz_machine.proofs.ActLaws.{made_procedure}
-use Rattle.oz_machine.proofs.acts.make_procedure.Goals as goal
+use Rattle.oz_acts.proofs.DoneLaws.{tells_done}
+use Rattle.oz_acts.proofs.ActLaws.{made_procedure}
+use Rattle.oz_acts.proofs.acts.make_procedure.Goals as goal
 
 pub returns-clause-ok : goal.returns-clause-ok
 returns-clause-ok c =

@@ -2,8 +2,8 @@ use Rattle.std.proofs.Common.{ap, sym, ◌∙◌}
 use Rattle.std.specs.Prelude.{unwrap_or}
 use Rattle.oz_semantics.specs.Configurations.{new_layer}
 use Rattle.oz_semantics.specs.declared.configuration.Layer.{Layer}
-use Rattle.oz_machine.proofs.PlaceLaws.{place_some, place_none}
-use Rattle.oz_machine.proofs.acts.next_of.Goals as goal
+use Rattle.oz_acts.proofs.PlaceLaws.{place_some, place_none}
+use Rattle.oz_acts.proofs.numbers.next_of.Goals as goal
 
 pub returns-in-Some : goal.returns-in-Some
 returns-in-Some c =

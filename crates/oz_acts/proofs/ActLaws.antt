@@ -17,7 +17,7 @@ use Rattle.oz_semantics.specs.declared.value.Tell.{Tell}
 use Rattle.oz_semantics.specs.declared.configuration.Frame.{Frame}
 use Rattle.oz_semantics.specs.declared.configuration.Next.{Next}
 use Rattle.oz_semantics.specs.declared.configuration.Layer.{Layer}
-use Rattle.oz_machine.proofs.PlaceLaws.{layer_of_name}
+use Rattle.oz_acts.proofs.PlaceLaws.{layer_of_name}
 
 -- the variables that a space gives out next
 pub fresh_named : (layers : List Layer) (space : List ℕ) (next : Next) (n : ℕ) → next ≡ (layer_of layers space).next

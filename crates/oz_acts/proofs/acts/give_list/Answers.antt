@@ -4,9 +4,9 @@ use Rattle.oz_semantics.specs.Terms.{list_term, term_tells, nodes_inside}
 use Rattle.oz_semantics.specs.Configurations.{layer_of}
 use Rattle.oz_semantics.specs.Changes.{GivesOut}
 use Rattle.oz_raise.specs.Nodes.{node_of, term_of}
-use Rattle.oz_machine.proofs.DoingLaws.{tells_done}
-use Rattle.oz_machine.proofs.ActLaws.{given_tells, nodes_inside-length}
-use Rattle.oz_machine.proofs.acts.give_list.Goals as goal
+use Rattle.oz_acts.proofs.DoneLaws.{tells_done}
+use Rattle.oz_acts.proofs.ActLaws.{given_tells, nodes_inside-length}
+use Rattle.oz_acts.proofs.acts.give_list.Goals as goal
 
 pub returns-clause-ok : goal.returns-clause-ok
 returns-clause-ok c =

@@ -2,8 +2,8 @@ use Rattle.std.proofs.Common.{◌-◌, ◌∙◌, ap, get_or, arith}
 use Rattle.environments.specs.Environments.{binding}
 use Rattle.oz_language.specs.declared.kernel.Identifier.TheVariants.{Word}
 use Rattle.oz_semantics.specs.Names.{named}
-use Rattle.oz_machine.proofs.ActLaws.{bound_next}
-use Rattle.oz_machine.proofs.acts.bind_from.Goals as goal
+use Rattle.oz_acts.proofs.ActLaws.{bound_next}
+use Rattle.oz_acts.proofs.acts.bind_from.Goals as goal
 
 pub names-preserved : goal.names-preserved
 names-preserved c =

@@ -3,7 +3,7 @@ use Rattle.std.specs.Prelude.{ℕ, ◌≡◌, Bool, true, false, List, [], ◌�
 use Rattle.oz_base.specs.declared.names.Ident.{Ident}
 use Rattle.oz_semantics.specs.Names.{named}
 use Rattle.oz_semantics.specs.Store.{is_consistent}
-use Rattle.oz_semantics.specs.Answers.{Act, Passes, GoesOn, Declares, Starts, GivesValue, GivesTerm, GivesVariable, MakesProcedure, Shows}
+use Rattle.oz_semantics.specs.Answers.{Act, Passes, GoesOn, Declares, Starts, GivesValue, GivesTerm, GivesVariable, MakesProcedure, MakesName, MakesCell, Reads, Writes, Exchanges, MakesPort, Sends, Shows}
 use Rattle.oz_semantics.specs.Configurations.{view}
 use Rattle.oz_semantics.specs.Changes.{changed_all, done}
 use Rattle.oz_semantics.specs.Steps.{without_top}
@@ -31,7 +31,33 @@ is_quiet (GivesValue x v) = false
 is_quiet (GivesTerm x t) = false
 is_quiet (GivesVariable x y) = false
 is_quiet (MakesProcedure x parameters body environment) = false
+is_quiet (MakesName x) = false
+is_quiet (MakesCell x content) = false
+is_quiet (Reads n x) = false
+is_quiet (Writes n content) = true
+is_quiet (Exchanges n x content) = false
+is_quiet (MakesPort x stream) = false
+is_quiet (Sends n item) = false
 is_quiet (Shows x) = false
+
+-- an act that shows a text
+abbrev pub is_shown : Act → Bool
+is_shown (Shows x) = true
+is_shown Passes = false
+is_shown (GoesOn frames) = false
+is_shown (Declares environment names body) = false
+is_shown (Starts frames) = false
+is_shown (GivesValue x v) = false
+is_shown (GivesTerm x t) = false
+is_shown (GivesVariable x y) = false
+is_shown (MakesProcedure x parameters body environment) = false
+is_shown (MakesName x) = false
+is_shown (MakesCell x content) = false
+is_shown (Reads n x) = false
+is_shown (Writes n content) = false
+is_shown (Exchanges n x content) = false
+is_shown (MakesPort x stream) = false
+is_shown (Sends n item) = false
 
 -- the thread that an act starts, in a space with this layer
 abbrev pub started_by : List ℕ → Layer → Act → List Ident
@@ -43,4 +69,11 @@ started_by space l (GivesValue x v) = []
 started_by space l (GivesTerm x t) = []
 started_by space l (GivesVariable x y) = []
 started_by space l (MakesProcedure x parameters body environment) = []
+started_by space l (MakesName x) = []
+started_by space l (MakesCell x content) = []
+started_by space l (Reads n x) = []
+started_by space l (Writes n content) = []
+started_by space l (Exchanges n x content) = []
+started_by space l (MakesPort x stream) = []
+started_by space l (Sends n item) = []
 started_by space l (Shows x) = []

@@ -3,8 +3,8 @@ use Rattle.oz_semantics.specs.Configurations.{layer_of}
 use Rattle.oz_semantics.specs.Effects.{act_effect}
 use Rattle.oz_semantics.specs.Answers as answers
 use Rattle.builtins.specs.Answers.{act_of}
-use Rattle.oz_machine.specs.Doings.{IsDone}
-use Rattle.oz_machine.proofs.acts.act.Goals as goal
+use Rattle.oz_acts.specs.Doings.{IsDone}
+use Rattle.oz_acts.proofs.acts.act.Goals as goal
 
 pub returns-in-Passes-clause-ok : goal.returns-in-Passes-clause-ok
 returns-in-Passes-clause-ok c =

@@ -9,33 +9,20 @@ ghost use Rattle.oz_semantics.specs.Effects.{act_effect};
 ghost use Rattle.oz_semantics.specs.Steps.{without_top};
 ghost use Rattle.oz_semantics.specs.Answers as answers;
 ghost use Rattle.builtins.specs.Answers.{act_of};
-ghost use Rattle.oz_machine.specs.Doings.{IsDone, is_quiet, started_by};
+ghost use Rattle.oz_acts.specs.Doings.{IsDone, is_quiet, is_shown, started_by};
 
+use crate::numbers::next_of;
+use crate::objects::{exchange, make_cell, make_name, make_port, read_cell, send};
 use builtins::Act;
 use environments::Environment;
 use oz_base::{Copies, Ident, Sequence, Shared, SpaceName};
 use oz_language::{Constant, Identifier};
 use oz_raise::{list_term, term_tells};
-use oz_semantics::{Next, Procedure, Tell, Value};
+use oz_semantics::{Procedure, Tell, Value};
 use space_core::{Given, Levels};
 use statements::frames_of;
 use std::alloc::{AllocError, Global};
 use std::mem;
-
-/// The numbers that the space gives out next.
-pub fn next_of(levels: &Levels, space: &SpaceName) -> Next
-    ensures { result ≡ (layer_of levels.now space.now).next }
-{
-    match levels.place(space) {
-        Some(place) => levels.next_at(place),
-        None => Next {
-            variable: 1,
-            thread: 1,
-            procedure: 1,
-            child: 1,
-        },
-    }
-}
 
 /// The number that comes so many after this one. It refuses where that is more than 2^64 - 1.
 fn number_after(from: u64, count: usize) -> Result<u64, AllocError>
@@ -153,11 +140,21 @@ pub fn is_quiet(act: &Act) -> bool
     ensures { result ≡ is_quiet (act_of act.now) }
 {
     match act {
-        Act::Passes | Act::GoesOn(_) | Act::Declares { .. } | Act::Starts(_) => true,
+        Act::Passes
+        | Act::GoesOn(_)
+        | Act::Declares { .. }
+        | Act::Starts(_)
+        | Act::Writes { .. } => true,
         Act::GivesValue { .. }
         | Act::GivesList { .. }
         | Act::GivesVariable { .. }
         | Act::MakesProcedure { .. }
+        | Act::MakesName { .. }
+        | Act::MakesCell { .. }
+        | Act::Reads { .. }
+        | Act::Exchanges { .. }
+        | Act::MakesPort { .. }
+        | Act::Sends { .. }
         | Act::Shows(_) => false,
     }
 }
@@ -183,6 +180,13 @@ pub fn started(
         | Act::GivesList { .. }
         | Act::GivesVariable { .. }
         | Act::MakesProcedure { .. }
+        | Act::MakesName { .. }
+        | Act::MakesCell { .. }
+        | Act::Reads { .. }
+        | Act::Writes { .. }
+        | Act::Exchanges { .. }
+        | Act::MakesPort { .. }
+        | Act::Sends { .. }
         | Act::Shows(_) => Ok(None),
     }
 }
@@ -195,7 +199,8 @@ pub fn act(
     id: &Ident,
     act: &mut Act,
 ) -> Result<bool, AllocError>
-    requires { is_some (layer_at levels.old id.now.space) ≡ true }
+    requires there { is_some (layer_at levels.old id.now.space) ≡ true }
+    requires quiet { is_shown (act_of act.old) ≡ false }
     ensures ok { IfOk result (IsDone id.now (act_effect (layer_of levels.old id.now.space) (act_of act.old)) levels.old levels.new) }
     ensures err { OnErr result (levels.new ≡ levels.old) }
 {
@@ -247,6 +252,20 @@ pub fn act(
             body,
             environment,
         } => make_procedure(alloc, levels, id, variable, parameters, body, environment),
-        Act::Shows(_) => Err(AllocError),
+        Act::MakesName { variable } => make_name(alloc, levels, id, variable),
+        Act::MakesCell { variable, content } => make_cell(alloc, levels, id, variable, content),
+        Act::Reads { cell, variable } => read_cell(alloc, levels, id, cell, variable),
+        Act::Writes { cell, content } => {
+            levels.assign(alloc, id, cell, content)?;
+            Ok(true)
+        }
+        Act::Exchanges {
+            cell,
+            variable,
+            content,
+        } => exchange(alloc, levels, id, cell, variable, content),
+        Act::MakesPort { variable, stream } => make_port(alloc, levels, id, variable, stream),
+        Act::Sends { port, item } => send(alloc, levels, id, port, item),
+        Act::Shows(_) => unreachable!(),
     }
 }
