@@ -63,3 +63,7 @@ pub made_procedure : (layers : List Layer) (space own : List ℕ) (next : Next) 
 made_procedure layers space own next parameters body environment e f =
     let procedure : List ℕ → ℕ → Procedure = λ s n. record { name = named s n; parameters = parameters; body = body; environment = environment } in
     ap (λ s. procedure s next.procedure) (f ∙ sym (layer_of_name layers space)) ∙ ap (λ (k : Next). procedure (layer_of layers space).space k.procedure) e
+
+-- what a space gives out under a number
+pub own_named : (layers : List Layer) (space : List ℕ) (name : Ident) (given number : ℕ) → name ≡ named space given → given ≡ number → name ≡ named (layer_of layers space).space number
+own_named layers space name given number e f = e ∙ ap (named space) f ∙ ap (λ s. named s number) (sym (layer_of_name layers space))

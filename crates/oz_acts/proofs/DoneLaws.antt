@@ -1,5 +1,5 @@
 -- What was told, as an effect.
-use Rattle.std.proofs.Common.{◌≡◌, Bool, true, false, List, [], subst}
+use Rattle.std.proofs.Common.{◌≡◌, Bool, true, false, List, subst}
 use Rattle.std.specs.Prelude.{Result, Ok, Err, IfOk}
 use Rattle.std.specs.declared.alloc.AllocError.{AllocError}
 use Rattle.oz_base.specs.declared.names.Ident.{Ident}

@@ -104,3 +104,13 @@ layer_of_name layers space = by (layer_at layers space) refl
     by : (o : Option Layer) → layer_at layers space ≡ o → (unwrap_or o (new_layer space)).space ≡ space
     by None e = refl
     by (Some l) e = found_name layers space l e
+
+-- it stands at the place
+pub place_own : (layers : List Layer) (space : List ℕ) (place : ℕ) → Some place ≡ position (is_of space) layers → slice_get layers place ≡ Some (layer_of layers space)
+place_own layers space place e =
+    let there = place_some layers space place e in
+    there.1.item ∙ ap (λ (o : Option Layer). Some (unwrap_or o (new_layer space))) (sym there.1.found)
+
+-- and where the space is not there, its layer is a new one
+pub place_new : (layers : List Layer) (space : List ℕ) → None ≡ position (is_of space) layers → layer_of layers space ≡ new_layer space
+place_new layers space e = ap (λ (o : Option Layer). unwrap_or o (new_layer space)) (place_none layers space e)

@@ -1,5 +1,5 @@
 //! What a statement's act does to the layers.
-ghost use Rattle.std.specs.Prelude.{◌≡◌, ◌+◌, true, is_some, length, map, option_to_list, IfOk, OnOk, OnErr};
+ghost use Rattle.std.specs.Prelude.{◌≡◌, ◌+◌, true, false, is_some, length, map, option_to_list, IfOk, OnOk, OnErr};
 ghost use Rattle.std.specs.List.{range_with_len};
 ghost use Rattle.environments.specs.Environments.{Environment, binding_all};
 ghost use Rattle.oz_semantics.specs.Names.{named};
@@ -140,11 +140,8 @@ pub fn is_quiet(act: &Act) -> bool
     ensures { result ≡ is_quiet (act_of act.now) }
 {
     match act {
-        Act::Passes
-        | Act::GoesOn(_)
-        | Act::Declares { .. }
-        | Act::Starts(_)
-        | Act::Writes { .. } => true,
+        Act::Passes | Act::GoesOn(_) | Act::Declares { .. } | Act::Starts(_) | Act::Writes { .. } =>
+            true,
         Act::GivesValue { .. }
         | Act::GivesList { .. }
         | Act::GivesVariable { .. }

@@ -3,8 +3,8 @@
 #![tactic(auto)]
 
 mod acts;
-mod objects;
 mod numbers;
+mod objects;
 
 pub use acts::{act, is_quiet, started, take_off};
 pub use numbers::next_of;

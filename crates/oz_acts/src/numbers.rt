@@ -1,5 +1,6 @@
 //! What is read of a thread's space for what it makes.
-ghost use Rattle.std.specs.Prelude.{◌≡◌, length, IfOk};
+ghost use Rattle.std.specs.Prelude.{◌≡◌, length, unwrap_or, option_copied, IfOk};
+ghost use Rattle.environments.specs.Environments.{nowhere};
 ghost use Rattle.oz_semantics.specs.Configurations.{layer_of, content_of, end_of};
 
 use oz_base::{Copies, Ident, SpaceName};
@@ -44,20 +45,20 @@ pub fn port_count(levels: &Levels, space: &SpaceName) -> u64
 }
 
 /// What stands for a variable that is not there.
-fn nowhere() -> Ident
-    ensures { result ≡ nowhere }
+fn nowhere(alloc: Global) -> Result<Ident, AllocError>
+    ensures { IfOk result (λ variable. variable ≡ nowhere) }
 {
-    Ident {
-        space: SpaceName::top(),
+    Ok(Ident {
+        space: SpaceName::top().child(alloc, 0)?,
         number: 0,
-    }
+    })
 }
 
 fn copied_or_nowhere(alloc: Global, variable: Option<&Ident>) -> Result<Ident, AllocError>
     ensures { IfOk result (λ copy. copy ≡ unwrap_or (option_copied variable.entry) nowhere) }
 {
     match variable {
-        None => Ok(nowhere()),
+        None => nowhere(alloc),
         Some(variable) => variable.copied(alloc),
     }
 }
@@ -72,7 +73,7 @@ pub fn content_of(
     ensures { IfOk result (λ content. content ≡ content_of (layer_of levels.now space.now) cell) }
 {
     match levels.place(space) {
-        None => Ok(nowhere()),
+        None => nowhere(alloc),
         Some(place) => copied_or_nowhere(alloc, levels.content_at(place, cell)),
     }
 }
@@ -87,7 +88,7 @@ pub fn end_of(
     ensures { IfOk result (λ end. end ≡ end_of (layer_of levels.now space.now) port) }
 {
     match levels.place(space) {
-        None => Ok(nowhere()),
+        None => nowhere(alloc),
         Some(place) => copied_or_nowhere(alloc, levels.end_at(place, port)),
     }
 }

@@ -1,6 +1,7 @@
 //! What acts on names, cells and ports do to the layers (CTM 3.7.5, 5.1, 6.2). Each takes the statement off the thread's stack, and is false
 //! exactly where what is told clashes: then nothing was done.
 ghost use Rattle.std.specs.Prelude.{◌≡◌, true, is_some, IfOk, OnErr};
+ghost use Rattle.oz_semantics.specs.Names.{named};
 ghost use Rattle.oz_semantics.specs.Configurations.{layer_of, layer_at};
 ghost use Rattle.oz_semantics.specs.Effects.{act_effect, stream_value};
 ghost use Rattle.oz_semantics.specs.Answers as answers;
@@ -70,9 +71,12 @@ pub fn read_cell(
     ensures ok { IfOk result (IsDone id.now (act_effect (layer_of levels.old id.now.space) (answers.Reads cell variable)) levels.old levels.new) }
     ensures err { OnErr result (levels.new ≡ levels.old) }
 {
-    let right = content_of(alloc, levels, &id.space, cell)?;
-    let left = variable;
-    levels.tell_by(alloc, id, &[Tell::Equal { left, right }], Given::Nothing)
+    let content = content_of(alloc, levels, &id.space, cell)?;
+    let equation = Tell::Equal {
+        left: variable,
+        right: content,
+    };
+    levels.tell_by(alloc, id, &[equation], Given::Nothing)
 }
 
 /// The variable is what the cell contains, and from now on the cell contains the content.
@@ -88,10 +92,13 @@ pub fn exchange(
     ensures ok { IfOk result (IsDone id.now (act_effect (layer_of levels.old id.now.space) (answers.Exchanges cell variable content)) levels.old levels.new) }
     ensures err { OnErr result (levels.new ≡ levels.old) }
 {
-    let right = content_of(alloc, levels, &id.space, cell)?;
-    let left = variable;
+    let before = content_of(alloc, levels, &id.space, cell)?;
+    let equation = Tell::Equal {
+        left: variable,
+        right: before,
+    };
     let change = Given::Content { cell, content };
-    levels.tell_by(alloc, id, &[Tell::Equal { left, right }], change)
+    levels.tell_by(alloc, id, &[equation], change)
 }
 
 /// The variable is a new port with this stream.

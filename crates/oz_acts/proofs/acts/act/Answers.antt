@@ -13,8 +13,8 @@ returns-in-Passes-clause-ok c =
     let new = c.take_off.new.levels in
     subst (λ a. IsDone id (act_effect (layer_of old id.space) (act_of a)) old new true) (sym c.in-Passes.is ∙ c.replace.ensures.value) c.take_off.ensures
 
-pub returns-in-Declares-clause-ok : goal.returns-in-Declares-clause-ok
-returns-in-Declares-clause-ok c =
+pub returns-in_ok-declare-in-Declares-clause-ok : goal.returns-in_ok-declare-in-Declares-clause-ok
+returns-in_ok-declare-in-Declares-clause-ok c =
     let id = c.args.id.now in
     let old = c.args.levels.now in
     let new = c.declare.new.levels in
