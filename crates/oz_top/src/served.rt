@@ -12,19 +12,12 @@ use oz_lex::{lexemes, one_reading, unquoted};
 use std::alloc::{AllocError, Global};
 
 /// Symbols.
-static TOKENS: [&[u8]; 10] = [
-    b"@", b":=", b"::", b":::", b"=:", b"\\=:", b"<:", b"=<:", b">:", b">=:",
+static TOKENS: [&[u8]; 8] = [
+    b"::", b":::", b"=:", b"\\=:", b"<:", b"=<:", b">:", b">=:",
 ];
 
 /// Variables, whether the text binds them itself or not.
-static NAMES: [&[u8]; 16] = [
-    b"NewName",
-    b"NewCell",
-    b"Access",
-    b"Assign",
-    b"Exchange",
-    b"NewPort",
-    b"Send",
+static NAMES: [&[u8]; 9] = [
     b"ByNeed",
     b"NewSpace",
     b"Ask",
