@@ -32,8 +32,8 @@ use Rattle.space_core.specs.Advances.{IsAdvanced}
 use Rattle.oz_machine.specs.declared.course.Due.{Due}
 use Rattle.oz_machine.specs.declared.course.Course.{Course}
 use Rattle.oz_machine.specs.Courses.{asked, config_of}
-use Rattle.oz_machine.specs.Doings.{IsDone}
-use Rattle.oz_machine.proofs.PlaceLaws.{layer_of_name}
+use Rattle.oz_acts.specs.Doings.{IsDone}
+use Rattle.oz_acts.proofs.PlaceLaws.{layer_of_name}
 
 -- What is seen of a course
 
@@ -89,15 +89,6 @@ done_clashes k id (Tells ts changes) old new c h = (
       (fits_popped id ts old false h.0),
 )
 done_clashes k id (ShowsText x) old new c h = absurd h
-
--- what was told is such an effect
-pub tells_done : (id : Ident) (ts us : List Tell) (changes more : List Change) (old new : List Layer) (r : Result Bool AllocError) → ts ≡ us → changes ≡ more
-    → IfOk r (IsAdvanced id ts changes old new) → IfOk r (IsDone id (Tells us more) old new)
-tells_done id ts us changes more old new (Ok true) e f h =
-    subst (λ (vs : List Tell). IsAdvanced id vs more old new true) e (subst (λ (cs : List Change). IsAdvanced id ts cs old new true) f h)
-tells_done id ts us changes more old new (Ok false) e f h =
-    subst (λ (vs : List Tell). IsAdvanced id vs more old new false) e (subst (λ (cs : List Change). IsAdvanced id ts cs old new false) f h)
-tells_done id ts us changes more old new (Err fault) e f h = h
 
 -- another name for what was turned
 pub ok_turn : (r : Result Stepped AllocError) (t u : Turned) (d : Configuration) → ◌≡◌ {A = Turned} t u → IfOk r (λ stepped. ◌≡◌ {A = Turned} u (stepped, d)) → IfOk r (λ stepped. ◌≡◌ {A = Turned} t (stepped, d))

@@ -1,5 +1,3 @@
-pub mod PlaceLaws
-pub mod ActLaws
 pub mod TopLaws
 pub mod DoingLaws
 pub mod RestLaws

@@ -17,7 +17,7 @@ use Rattle.oz_semantics.specs.Spaces.{sight}
 use Rattle.oz_semantics.specs.Changes.{Change, Pushes, Spawns, changed_all}
 use Rattle.oz_semantics.specs.Answers.{Act, Passes, GoesOn, Declares, Starts, GivesValue, GivesTerm, GivesVariable, MakesProcedure, Shows}
 use Rattle.oz_semantics.specs.Effects.{Makes, declared_changes, act_effect}
-use Rattle.oz_machine.specs.Doings.{IsDone, is_quiet, started_by}
+use Rattle.oz_acts.specs.Doings.{IsDone, is_quiet, started_by}
 use Rattle.oz_semantics.specs.Settling.{Turned, is_among, mover_in, queue_after, runnable_in, runnable}
 use Rattle.oz_semantics.specs.Steps.{went_on, without_top, stepped}
 use Rattle.oz_semantics.specs.declared.configuration.Frame.{Frame}
@@ -45,7 +45,7 @@ use Rattle.turn_laws.specs.Kept.{IsKept, IsThere}
 use Rattle.turn_laws.proofs.OrderlyLaws.{changes_orderly, stack_orderly}
 use Rattle.turn_laws.proofs.HeadLaws.{mover_alone, kept_layers, kept_head, head_numbered, kept_changes, kept_stack}
 use Rattle.oz_machine.specs.Quiet.{top_steps, able_in, able_of, IsHead, news_of, names_in}
-use Rattle.oz_machine.proofs.PlaceLaws.{layer_of_name}
+use Rattle.oz_acts.proofs.PlaceLaws.{layer_of_name}
 
 -- What the first statement of a thread can do
 

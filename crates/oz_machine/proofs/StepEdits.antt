@@ -30,7 +30,7 @@ use Rattle.settle_laws.proofs.SettleLaws.{not_above, settled_same, keeps_own}
 use Rattle.space_core.specs.Advances.{taken_on}
 use Rattle.space_core.specs.Shown.{seen_above}
 use Rattle.oz_machine.specs.Raising.{EndsOver}
-use Rattle.oz_machine.proofs.PlaceLaws.{layer_of_name}
+use Rattle.oz_acts.proofs.PlaceLaws.{layer_of_name}
 use Rattle.oz_machine.proofs.QuietLaws.{edited_at, popped_next}
 
 -- A space that is there

@@ -31,9 +31,9 @@ use Rattle.turn_laws.specs.Orderly.{AreOrderly}
 use Rattle.turn_laws.proofs.OrderlyLaws.{done_orderly}
 use Rattle.turn_laws.proofs.HeadLaws.{kept_head, kept_layers}
 use Rattle.turn_laws.proofs.TellingLaws as proved
-use Rattle.oz_machine.specs.Doings.{IsDone, is_quiet}
+use Rattle.oz_acts.specs.Doings.{IsDone, is_quiet}
 use Rattle.oz_machine.specs.Quiet.{IsHead, able_in}
-use Rattle.oz_machine.proofs.PlaceLaws.{layer_of_name}
+use Rattle.oz_acts.proofs.PlaceLaws.{layer_of_name}
 use Rattle.oz_machine.proofs.QuietLaws.{edited_at, mover_joins}
 
 pub not_true : (b : Bool) → not b ≡ true → b ≡ false

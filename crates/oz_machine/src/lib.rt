@@ -2,7 +2,6 @@
 //! search asks for.
 #![tactic(auto)]
 
-mod acts;
 mod course;
 mod following;
 mod machine;

@@ -10,11 +10,11 @@ ghost use Rattle.builtins.specs.Answers.{act_of, IsAnswer};
 ghost use Rattle.space_core.specs.Telling.{has_below};
 ghost use Rattle.oz_machine.specs.declared.course.Due.TheVariants.{Nobody};
 ghost use Rattle.oz_machine.specs.Courses.{config_of, stepping, Keeps};
-ghost use Rattle.oz_machine.specs.Doings.{is_quiet};
+ghost use Rattle.oz_acts.specs.Doings.{is_quiet};
 ghost use Rattle.oz_machine.specs.Quiet.{IsHeadAnswer, KeepsHead};
 ghost use Rattle.oz_machine.specs.Turns.{cost_of, CostsWithin, HasNotEnded, IsTurn};
 
-use crate::acts::{act, is_quiet, started, take_off};
+use oz_acts::{act, is_quiet, started, take_off};
 use crate::course::Course;
 use crate::following::{follow, go_on};
 use crate::quiet::go_on_quietly;

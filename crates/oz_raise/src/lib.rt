@@ -11,6 +11,7 @@ pub use failures::is_failure;
 pub use node::Node;
 pub use tells::{NewTerm, new_term, term_tells};
 pub use terms::{list_term, term};
+pub use words::BAR;
 
 #[cfg(test)]
 mod tests;

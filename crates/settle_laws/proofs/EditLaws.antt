@@ -1,12 +1,15 @@
 -- Edits of one layer.
-use Rattle.std.proofs.Common.{refl, ap, ◌∙◌, Option, length, unwrap_or, drop}
+use Rattle.std.proofs.Common.{ℕ, refl, ap, ◌∙◌, Option, length, unwrap_or, drop}
 use Rattle.oz_base.specs.Lists.{list_eq}
 use Rattle.oz_semantics.specs.Configurations.{is_of, layer_of, with_frames, telling, giving_out, new_layer}
+use Rattle.oz_semantics.specs.Changes.{Change}
 use Rattle.oz_semantics.specs.Exceptions.{new_term_tells, with_term}
 use Rattle.oz_semantics.specs.declared.configuration.Layer.{Layer}
+use Rattle.settle_laws.specs.Settles.{IsQuiet}
 use Rattle.settle_laws.specs.Edits.{EditsJoin, EditsAgree, TermSettles, AreQuiet, QuietThere, QuietView, PopView}
 use Rattle.settle_laws.proofs.ListEdits.{edit_twice, edit_agree, is_found_edit}
 use Rattle.view_laws.proofs.SightLaws.{quiet_unseen}
+use Rattle.view_laws.proofs.ChangeLaws.{edit_of, edit_keeps}
 
 pub edits_join : EditsJoin
 edits_join space f g layers keeps = edit_twice (is_of space) f g (λ l. ap (λ s. list_eq s space) (keeps l)) layers
@@ -26,15 +29,24 @@ are_quiet = record {
   terminated = record { space = λ l. refl; status = λ l. refl; tells = λ l. refl };
   variables = λ n. record { space = λ l. refl; status = λ l. refl; tells = λ l. refl };
   procedure = record { space = λ l. refl; status = λ l. refl; tells = λ l. refl };
+  name = record { space = λ l. refl; status = λ l. refl; tells = λ l. refl };
   child = record { space = λ l. refl; status = λ l. refl; tells = λ l. refl };
   choice = λ s i. record { space = λ l. refl; status = λ l. refl; tells = λ l. refl };
   threads = λ fs. record { space = λ l. refl; status = λ l. refl; tells = λ l. refl };
+  cell = λ content. record { space = λ l. refl; status = λ l. refl; tells = λ l. refl };
+  content = λ number content. record { space = λ l. refl; status = λ l. refl; tells = λ l. refl };
+  port = λ end. record { space = λ l. refl; status = λ l. refl; tells = λ l. refl };
+  end = λ number end. record { space = λ l. refl; status = λ l. refl; tells = λ l. refl };
   both = λ f g p q. record {
     space = λ l. p.space (g l) ∙ q.space l;
     status = λ l. p.status (g l) ∙ q.status l;
     tells = λ l. p.tells (g l) ∙ q.tells l;
   };
 }
+
+-- in particular each change of a step
+pub edit_quiet : (number : ℕ) (change : Change) → IsQuiet (edit_of number change)
+edit_quiet number change = let kept = edit_keeps number change in record { space = kept.space; status = kept.status; tells = kept.tells }
 
 pub quiet_there : QuietThere
 quiet_there change layers space other q = is_found_edit (is_of other) (is_of space) change (λ l. ap (λ s. list_eq s other) (q.space l)) layers

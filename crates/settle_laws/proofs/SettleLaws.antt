@@ -1,11 +1,11 @@
 -- What is left where spaces that see what is inconsistent fail.
-use Rattle.std.proofs.Common.{◌≡◌, inl, inr, ℕ, Bool, true, false, not, ◌&&◌, if◌then◌else◌, List, [], ◌∷◌, ◌++◌, refl, sym, ap, ap₂, subst, ◌∙◌, Contains, Option, filter, map, fold, unwrap_or}
+use Rattle.std.proofs.Common.{◌≡◌, inl, inr, ℕ, Bool, true, false, not, ◌&&◌, if◌then◌else◌, List, [], ◌∷◌, refl, sym, ap, ap₂, subst, ◌∙◌, Contains, Option, filter, map, fold, unwrap_or}
 use Rattle.std.proofs.lemmas.Bool.{false≢true}
 use Rattle.oz_base.specs.Lists.{list_eq}
 use Rattle.oz_semantics.specs.Names.{is_below, is_properly_below, is_top, named}
 use Rattle.oz_semantics.specs.Store.{View, is_consistent}
-use Rattle.oz_semantics.specs.Configurations.{is_of, layer_at, layer_of, new_layer, frames_in, thread_at, view, in_layer, with_frames, giving_out, counting_procedure, spawning, failed, ending}
-use Rattle.oz_semantics.specs.Changes.{GivesOut, CountsProcedure, Pushes, Spawns}
+use Rattle.oz_semantics.specs.Configurations.{is_of, layer_at, layer_of, new_layer, frames_in, thread_at, view, in_layer, failed, ending}
+use Rattle.oz_semantics.specs.Changes.{changed_all}
 use Rattle.oz_semantics.specs.Settling.{may_fail, is_inconsistent, inconsistent_spaces, failing, without_inconsistent, top_is_inconsistent, top_failed, requeued}
 use Rattle.oz_semantics.specs.declared.configuration.Status.{Status}
 use Rattle.oz_semantics.specs.declared.configuration.Layer.{Layer}
@@ -16,9 +16,10 @@ use Rattle.view_laws.proofs.Members.{decide, some_of}
 use Rattle.view_laws.proofs.ListLaws.{in_filter, map_in}
 use Rattle.view_laws.proofs.NameLaws.{below_anti, equal_names, properly, properly_trans}
 use Rattle.view_laws.proofs.SightLaws.{failure_unseen}
+use Rattle.view_laws.proofs.ChangeLaws.{edit_of, changed_by}
 use Rattle.settle_laws.specs.Settles.{Settles, IsQuiet, NothingFails, QuietFails, QuietSettles, ChangesSettle, KeepsOwn, KeepsView, EndsSame, Settled, TellSettles, TopKept}
 use Rattle.settle_laws.proofs.ListEdits.{edits_apart, filter_edit, filter_dropped, filter_inside, find_edit, find_filter, names_edit}
-use Rattle.settle_laws.proofs.EditLaws.{quiet_view, are_quiet}
+use Rattle.settle_laws.proofs.EditLaws.{quiet_view, edit_quiet}
 
 pub nothing_fails : NothingFails
 nothing_fails space layers e = record {
@@ -172,15 +173,10 @@ ends_same space how before after settles = settled_end space before after settle
 
 pub changes_settle : ChangesSettle
 changes_settle id [] before after settles = settles
-changes_settle id (GivesOut n ∷ changes) before after settles =
-    changes_settle id changes (in_layer id.space (giving_out n) before) (in_layer id.space (giving_out n) after) (settled_quiet id.space before after settles (giving_out n) (are_quiet.variables n))
-changes_settle id (CountsProcedure ∷ changes) before after settles =
-    changes_settle id changes (in_layer id.space counting_procedure before) (in_layer id.space counting_procedure after) (settled_quiet id.space before after settles counting_procedure are_quiet.procedure)
-changes_settle id (Pushes frames ∷ changes) before after settles =
-    changes_settle id changes (in_layer id.space (with_frames id.number (λ rest. frames ++ rest)) before) (in_layer id.space (with_frames id.number (λ rest. frames ++ rest)) after)
-    (settled_quiet id.space before after settles (with_frames id.number (λ rest. frames ++ rest)) (are_quiet.frames id.number (λ rest. frames ++ rest)))
-changes_settle id (Spawns frames ∷ changes) before after settles =
-    changes_settle id changes (in_layer id.space (spawning frames) before) (in_layer id.space (spawning frames) after) (settled_quiet id.space before after settles (spawning frames) (are_quiet.threads frames))
+changes_settle id (change ∷ changes) before after settles =
+    subst (λ (f : List Layer → List Layer). Settles id.space (changed_all id changes (f before)) (changed_all id changes (f after))) (λ i layers. sym (changed_by id layers change) i)
+    (changes_settle id changes (in_layer id.space (edit_of id.number change) before) (in_layer id.space (edit_of id.number change) after)
+    (settled_quiet id.space before after settles (edit_of id.number change) (edit_quiet id.number change)))
 
 pub settled_by : Settled
 settled_by statements mover cost space before after queue shown settles =

@@ -1,14 +1,14 @@
 -- What is so of each step.
-use Rattle.std.proofs.Common.{◌≡◌, ℕ, ◌+◌, ◌≤◌, Bool, true, false, if◌then◌else◌, List, [], ◌∷◌, ◌++◌, refl, arith, Option, Some, None, drop}
+use Rattle.std.proofs.Common.{◌≡◌, ℕ, ◌+◌, ◌≤◌, Bool, true, false, if◌then◌else◌, List, [], ◌∷◌, ◌++◌, refl, sym, subst, arith, Option, Some, None, drop}
 use Rattle.oz_base.specs.declared.names.Ident.{Ident}
 use Rattle.oz_language.specs.declared.kernel.Kernel.{Kernel}
 use Rattle.oz_semantics.specs.Names.{is_top}
 use Rattle.oz_semantics.specs.Store.{is_consistent}
-use Rattle.oz_semantics.specs.Configurations.{layer_of, stack_of, view, in_layer, with_frames, without_terminated, telling, giving_out, counting_procedure, spawning, failed, raised_by, ending}
+use Rattle.oz_semantics.specs.Configurations.{layer_of, stack_of, view, in_layer, with_frames, without_terminated, telling, failed, raised_by, ending}
 use Rattle.oz_semantics.specs.Answers.{Answer, Acts, RaisesKind, RaisesTerm, Rests}
 use Rattle.oz_semantics.specs.Statements.{stack_answer}
 use Rattle.oz_semantics.specs.Spaces.{sight}
-use Rattle.oz_semantics.specs.Changes.{Change, GivesOut, CountsProcedure, Pushes, Spawns, changed_all, done}
+use Rattle.oz_semantics.specs.Changes.{Change, changed, changed_all, done}
 use Rattle.oz_semantics.specs.Effects.{Effect, Makes, Tells, ShowsText, act_effect}
 use Rattle.oz_semantics.specs.Exceptions.{is_failure, raise_term, with_term, unwound}
 use Rattle.oz_semantics.specs.Texts.{Printed, term_text}
@@ -21,6 +21,7 @@ use Rattle.oz_semantics.specs.declared.configuration.Configuration.{Configuratio
 use Rattle.oz_semantics.specs.declared.outcome.RaiseKind.{RaiseKind}
 use Rattle.oz_semantics.specs.declared.outcome.RaiseKind.TheVariants.{FailureTell}
 use Rattle.view_laws.specs.Sights.{IsEnd}
+use Rattle.view_laws.proofs.ChangeLaws.{edit_of, changed_by, edit_keeps}
 
 -- What is so of all that follows a step, and of each end of the top, is so of each step: from layers that are good, where each edit of a step keeps them so
 module _ (Good : List Layer → Type 0) (Holds : Turned → Type 0) (k : Kernel)
@@ -67,14 +68,10 @@ module _ (Good : List Layer → Type 0) (Holds : Turned → Type 0) (k : Kernel)
 
   changed_good : (id : Ident) (changes : List Change) (layers : List Layer) → Good layers → Good (changed_all id changes layers)
   changed_good id [] layers good = good
-  changed_good id (GivesOut n ∷ changes) layers good = changed_good id changes (in_layer id.space (giving_out n) layers) (edits id.space (giving_out n) layers (λ l. (refl, omega arith)) good)
-  changed_good id (CountsProcedure ∷ changes) layers good =
-      changed_good id changes (in_layer id.space counting_procedure layers) (edits id.space counting_procedure layers (λ l. (refl, omega arith)) good)
-  changed_good id (Pushes frames ∷ changes) layers good =
-      changed_good id changes (in_layer id.space (with_frames id.number (λ rest. frames ++ rest)) layers)
-      (edits id.space (with_frames id.number (λ rest. frames ++ rest)) layers (λ l. (refl, omega arith)) good)
-  changed_good id (Spawns frames ∷ changes) layers good =
-      changed_good id changes (in_layer id.space (spawning frames) layers) (edits id.space (spawning frames) layers (λ l. (refl, omega arith)) good)
+  changed_good id (change ∷ changes) layers good =
+      let kept = edit_keeps id.number change in
+      changed_good id changes (changed id layers change)
+      (subst Good (sym (changed_by id layers change)) (edits id.space (edit_of id.number change) layers (λ l. (kept.space l, omega (arith, kept.children l))) good))
 
   told_holds : (id : Ident) (ts : List Tell) (changes : List Change) (layers : List Layer) (c : Configuration) → Good layers → Holds (told k.statements id ts changes layers c)
   told_holds id ts changes layers c good = by (is_consistent (view layers id.space ++ ts))

@@ -1,5 +1,6 @@
 -- One edit of a space after another, at the place that was looked up.
-use Rattle.std.proofs.Common.{◌≡◌, ℕ, ◌+◌, ◌<◌, ◌≤◌, arith, length, true, false, List, [], ◌∷◌, ◌++◌, slice_set, slice_index_or, refl, sym, ap, subst, ◌∙◌, drop, Option, Some, unwrap_or}
+use Rattle.std.proofs.Common.{◌≡◌, ℕ, ◌+◌, ◌<◌, ◌≤◌, arith, length, true, false, List, [], ◌∷◌, ◌++◌, slice_set, slice_index_or, refl, sym, ap, ap₂, subst, ◌∙◌, drop, Option, Some, None, unwrap_or, Bool}
+use Rattle.std.specs.Prelude.{MatchOption}
 use Rattle.std.specs.List.{list_all}
 use Rattle.std.proofs.lemmas.List.{get_or-set_same, get_or_default, set-set, set-get_or, length-set}
 use Rattle.oz_base.specs.Lists.{list_eq}
@@ -17,14 +18,15 @@ use Rattle.oz_semantics.specs.declared.configuration.Layer.{Layer}
 use Rattle.settle_laws.specs.Settles.{Settles}
 use Rattle.settle_laws.proofs.SettleLaws.{nothing_fails}
 use Rattle.view_laws.proofs.SightLaws.{space_of}
+use Rattle.cells_ports.specs.Objects.{Contents}
 use Rattle.space_core.specs.Advances.{given_out, IsAdvanced, IsRaised, taken_on}
-use Rattle.space_core.specs.Giving.{giving, after_giving}
+use Rattle.space_core.specs.Giving.{giving, objects_after, after_giving}
 use Rattle.space_core.specs.Places.{IsFirst}
 use Rattle.space_core.specs.Shown.{shown, shown_all, is_home, IsSound, IsQuiet}
 use Rattle.space_core.specs.Stacks.{cut_out}
-use Rattle.space_core.specs.Telling.{has_below, after_giving_at, ToldAt, ClashesAt, HasThread}
+use Rattle.space_core.specs.Telling.{has_below, after_giving_at, IsToldMore, ToldAt, ClashesAt, HasThread}
 use Rattle.space_core.specs.declared.given.Given.{Given}
-use Rattle.space_core.specs.declared.given.Given.TheVariants.{Nothing, Variables, Procedure}
+use Rattle.space_core.specs.declared.given.Given.TheVariants.{Nothing, Variables, Procedure, Name, Cell, Content, Port, End}
 use Rattle.space_core.specs.declared.level.Level.{Level}
 use Rattle.space_core.specs.Threads.{Running}
 use Rattle.space_core.proofs.AnswerLaws.{PlaceIn, unchanged}
@@ -64,6 +66,11 @@ pub gives_quietly : (given : Given) (l : Level) → IsQuiet (giving given) l (af
 gives_quietly Nothing l = record { becomes = refl; space = refl; store = refl; told_from = refl; touched = refl; traced = refl; variables = omega arith; children = omega arith }
 gives_quietly (Variables n) l = record { becomes = refl; space = refl; store = refl; told_from = refl; touched = refl; traced = refl; variables = omega arith; children = omega arith }
 gives_quietly Procedure l = record { becomes = refl; space = refl; store = refl; told_from = refl; touched = refl; traced = refl; variables = omega arith; children = omega arith }
+gives_quietly Name l = record { becomes = refl; space = refl; store = refl; told_from = refl; touched = refl; traced = refl; variables = omega arith; children = omega arith }
+gives_quietly (Cell content) l = record { becomes = refl; space = refl; store = refl; told_from = refl; touched = refl; traced = refl; variables = omega arith; children = omega arith }
+gives_quietly (Content n content) l = record { becomes = refl; space = refl; store = refl; told_from = refl; touched = refl; traced = refl; variables = omega arith; children = omega arith }
+gives_quietly (Port stream) l = record { becomes = refl; space = refl; store = refl; told_from = refl; touched = refl; traced = refl; variables = omega arith; children = omega arith }
+gives_quietly (End n end) l = record { becomes = refl; space = refl; store = refl; told_from = refl; touched = refl; traced = refl; variables = omega arith; children = omega arith }
 
 -- A space of which none is below gives something out and is told more
 module _ (levels : List Level) (id : Ident) (place : ℕ) (s : IsSound levels) (h : PlaceIn levels id.space place) (none : has_below (shown_all levels) id.space ≡ false)
@@ -242,21 +249,56 @@ clash_shows levels value viewed s space place h ts news t = (
     name : t.before.space ≡ space
     name = ap (λ (k : Layer). k.space) (read_shown levels space place h.0 h.1 t.before t.read) ∙ space_of (shown_all levels) space h.0 h.1.found
 
--- A space that was told nothing after it gave something out, and whose numbers are set back
+-- A space that gave something out and then was told
+module _ (levels : List Level) (place : ℕ) (within : place < length levels) (given : Given) (l1 g : Level) (r1 : l1 ≡ slice_index_or levels place l1) (e : g ≡ after_giving given l1)
+    (ts : List Tell) (seen : List Level) (at : seen ≡ slice_set levels place g) (k : Level) (rk : k ≡ slice_index_or (slice_set levels place g) place k)
+    (home : Bool) (homes : home ≡ list_all (λ t. list_all (is_home (shown_all seen) k.space) (named_by t)) ts)
+    (l2 t : Level) (r2 : l2 ≡ slice_index_or (slice_set levels place g) place l2) (told : IsToldMore home ts l2 t) where
+  pub told_at : ToldAt place ts given levels (slice_set (slice_set levels place g) place t)
+  told_at = record {
+    before = l1;
+    told = t;
+    home = home;
+    read = r1;
+    homes = homes
+        ∙ ap₂ (λ (ls : List Level) (s : List ℕ). list_all (λ u. list_all (is_home (shown_all ls) s) (named_by u)) ts) (at ∙ ap (slice_set levels place) e)
+        (ap (λ (n : Level). n.space) (read_set levels place g k within rk ∙ e));
+    tells = subst (λ (n : Level). IsToldMore home ts n t) (read_set levels place g l2 within r2 ∙ e) told;
+    left = ap (λ (n : Level). slice_set (slice_set levels place n) place t) e;
+  }
+
+-- What the cells and ports were, where what is given out changes them
+abbrev pub IsBefore : Given → Contents → Option Contents → Type 0
+IsBefore given objects before = MatchOption before (objects_after given objects ≡ objects) (λ same. same ≡ objects)
+
+set_back_is : (given : Given) (objects : Contents) (before : Option Contents) → IsBefore given objects before → unwrap_or before (objects_after given objects) ≡ objects
+set_back_is given objects None h = h
+set_back_is given objects (Some same) h = h
+
+-- A space that was told nothing after it gave something out, and whose numbers, cells and ports are set back
 module _ (levels : List Level) (place : ℕ) (within : place < length levels) (given : Given) (l0 l1 g l2 t l3 : Level) (r0 : l0 ≡ slice_index_or levels place l0) (r1 : l1 ≡ slice_index_or levels place l1)
     (e : g ≡ after_giving given l1) (r2 : l2 ≡ slice_index_or (slice_set levels place g) place l2) (k : t ≡ l2) (r3 : l3 ≡ slice_index_or (slice_set (slice_set levels place g) place t) place l3) where
-  pub given_level : l2 ≡ after_giving given l0
-  given_level = read_set levels place g l2 within r2 ∙ e ∙ ap (after_giving given) (r1 ∙ get_or_default levels place l1 l0 within ∙ sym r0)
+  same_level : l1 ≡ l0
+  same_level = r1 ∙ get_or_default levels place l1 l0 within ∙ sym r0
 
-  pub restored : slice_set (slice_set (slice_set levels place g) place t) place (record l3 { numbers = l0.numbers }) ≡ levels
-  restored =
-      let inside : place < length (slice_set levels place g) = omega (arith, within, length-set levels place g) in
-      let same : l3 ≡ after_giving given l0 = read_set (slice_set levels place g) place t l3 inside r3 ∙ k ∙ given_level in
-      set-set (slice_set levels place g) place t (record l3 { numbers = l0.numbers })
-      ∙ set-set levels place g (record l3 { numbers = l0.numbers })
-      ∙ ap (λ (m : Level). slice_set levels place (record m { numbers = l0.numbers })) same
-      ∙ ap (slice_set levels place) r0
-      ∙ set-get_or levels place l0
+  pub given_level : l2 ≡ after_giving given l0
+  given_level = read_set levels place g l2 within r2 ∙ e ∙ ap (after_giving given) same_level
+
+  module _ (before : Option Contents) (b : IsBefore given l1.objects before) (m : Level) (back : m ≡ record l3 { numbers = l0.numbers; objects = unwrap_or before l3.objects }) where
+    set_back_level : m ≡ l0
+    set_back_level =
+        let inside : place < length (slice_set levels place g) = omega (arith, within, length-set levels place g) in
+        let same : l3 ≡ after_giving given l0 = read_set (slice_set levels place g) place t l3 inside r3 ∙ k ∙ given_level in
+        back
+        ∙ ap (λ (n : Level). record n { numbers = l0.numbers; objects = unwrap_or before n.objects }) same
+        ∙ ap (λ (o : Contents). record l0 { objects = o }) (set_back_is given l0.objects before (subst (λ (n : Level). IsBefore given n.objects before) same_level b))
+
+    pub restored : slice_set (slice_set (slice_set levels place g) place t) place m ≡ levels
+    restored =
+        set-set (slice_set levels place g) place t m
+        ∙ set-set levels place g m
+        ∙ ap (slice_set levels place) (set_back_level ∙ r0)
+        ∙ set-get_or levels place l0
 
 -- the place in what is kept is that in what it is read as
 pub place_by : {now levels : List Level} → now ≡ levels → (space : List ℕ) (place : ℕ) → PlaceIn now space place → PlaceIn levels space place

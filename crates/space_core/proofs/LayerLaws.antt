@@ -2,8 +2,8 @@
 use Rattle.std.proofs.Common.{◌≡◌, ℕ, ◌+◌, arith, List, [], ◌∷◌, ◌++◌, length, take, drop, refl, sym, ap, ap₂, subst, ◌∙◌, Option, Some, unwrap_or}
 use Rattle.std.proofs.lemmas.List.{take_at, drop_at, drop-drop}
 use Rattle.oz_base.specs.declared.names.Ident.{Ident}
-use Rattle.oz_semantics.specs.Configurations.{is_numbered, layer_at, thread_at, frames_in, stack_of, new_layer, in_layer, with_frames, telling, giving_out, spawning}
-use Rattle.oz_semantics.specs.Changes.{Pushes, Spawns, GivesOut, changed_all, done}
+use Rattle.oz_semantics.specs.Configurations.{is_numbered, layer_at, thread_at, frames_in, stack_of, new_layer, in_layer, with_frames, telling, giving_out, spawning, with_content, with_end}
+use Rattle.oz_semantics.specs.Changes.{Pushes, Spawns, GivesOut, Holds, changed_all, done}
 use Rattle.oz_semantics.specs.Steps.{without_top}
 use Rattle.oz_semantics.specs.declared.value.Tell.{Tell}
 use Rattle.oz_semantics.specs.declared.configuration.Frame.{Frame}
@@ -13,10 +13,10 @@ use Rattle.settle_laws.proofs.ListEdits.{edit_twice, edit_agree}
 use Rattle.settle_laws.proofs.EditLaws.{edits_join, edits_agree}
 use Rattle.space_core.specs.Levels.{replacing}
 use Rattle.space_core.specs.Stacks.{cut_out}
-use Rattle.space_core.specs.Giving.{giving, declaring, spawning_by}
+use Rattle.space_core.specs.Giving.{giving, declaring, spawning_by, assigning}
 use Rattle.space_core.specs.Advances.{given_out, taken_on}
 use Rattle.space_core.specs.declared.given.Given.{Given}
-use Rattle.space_core.specs.declared.given.Given.TheVariants.{Nothing, Variables, Procedure}
+use Rattle.space_core.specs.declared.given.Given.TheVariants.{Nothing, Variables, Procedure, Name, Cell, Content, Port, End}
 
 -- Stacks
 
@@ -59,6 +59,9 @@ module _ (id : Ident) (value : List Layer) where
   pub start_is : (fs : List Frame) → in_layer id.space (spawning_by id.number fs) value ≡ changed_all id (Spawns fs ∷ []) (without_top id value)
   start_is fs = sym (edits_join id.space (spawning fs) (with_frames id.number (λ stack. drop 1 stack)) value (λ l. refl))
 
+  pub assign_is : (n : ℕ) (content : Ident) → in_layer id.space (assigning id.number n content) value ≡ changed_all id (Holds n content ∷ []) (without_top id value)
+  assign_is n content = sym (edits_join id.space (with_content n content) (with_frames id.number (λ stack. drop 1 stack)) value (λ l. refl))
+
   -- what is told beside what is given out, and then the statement is taken off
   abbrev pub told_by : List Tell → Given → List Layer
   told_by ts given = in_layer id.space (with_frames id.number (λ stack. drop 1 stack)) (in_layer id.space (telling ts) (in_layer id.space (giving given) value))
@@ -81,6 +84,13 @@ module _ (id : Ident) (value : List Layer) where
   told_by_is ts Nothing = together ts Nothing ∙ sym (popped_told ts)
   told_by_is ts (Variables n) = together ts (Variables n) ∙ sym (then_given ts (giving_out n))
   told_by_is ts Procedure = together ts Procedure ∙ sym (then_given ts (giving Procedure))
+  told_by_is ts Name = together ts Name ∙ sym (then_given ts (giving Name))
+  told_by_is ts (Cell content) = together ts (Cell content) ∙ sym (then_given ts (giving (Cell content)))
+  told_by_is ts (Content n content) = together ts (Content n content) ∙ sym (then_given ts (giving (Content n content)))
+  told_by_is ts (Port stream) = together ts (Port stream) ∙ sym (then_given ts (giving (Port stream)))
+  told_by_is ts (End n end) =
+      together ts (End n end)
+      ∙ sym (edits_join id.space (with_end n end) (giving_out 1) (in_layer id.space (telling ts) (without_top id value)) (λ l. refl) ∙ then_given ts (giving (End n end)))
 
   -- a handler goes on, the term is told by so many variables, and then what stands below the handler is cut out
   abbrev pub raised_by_parts : List Frame → List Tell → ℕ → ℕ → ℕ → List Layer

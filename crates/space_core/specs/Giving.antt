@@ -1,7 +1,7 @@
 -- What a step makes of the layer of its space besides what it tells.
 use Rattle.std.specs.Prelude.{ℕ, ◌+◌, List, [], ◌∷◌, ◌++◌, drop, slice_set}
 use Rattle.oz_base.specs.declared.names.Ident.{Ident}
-use Rattle.oz_semantics.specs.Configurations.{with_frames, giving_out, spawning}
+use Rattle.oz_semantics.specs.Configurations.{with_frames, giving_out, spawning, with_content}
 use Rattle.oz_semantics.specs.declared.configuration.Frame.{Frame}
 use Rattle.oz_semantics.specs.declared.configuration.Layer.{Layer}
 use Rattle.oz_semantics.specs.declared.configuration.Next.{Next}
@@ -73,3 +73,7 @@ declaring number frames count l = giving_out count (with_frames number (replacin
 -- the statement on top of a thread's stack was taken off, and a thread with these began
 abbrev pub spawning_by : ℕ → List Frame → Layer → Layer
 spawning_by number frames l = spawning frames (with_frames number (λ stack. drop 1 stack) l)
+
+-- the statement on top of a thread's stack was taken off, and a cell contains this from now on
+abbrev pub assigning : ℕ → ℕ → Ident → Layer → Layer
+assigning number cell content l = with_content cell content (with_frames number (λ stack. drop 1 stack) l)

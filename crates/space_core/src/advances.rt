@@ -2,7 +2,7 @@
 ghost use Rattle.std.specs.Prelude.{◌≡◌, ◌<◌, length, IfOk, OnOk, OnErr};
 ghost use Rattle.space_core.specs.Telling.{IsToldAt, HasThread, ToldUnder};
 
-use crate::edits::{self, give};
+use crate::edits::{self, give, set_back};
 use crate::given::Given;
 use crate::homes::all_home;
 use crate::level::Level;
@@ -27,16 +27,16 @@ pub fn tell_at(
     ensures err { OnErr result (levels.new.items ≡ levels.old.items) }
 {
     let before = levels[place].numbers;
-    give(&mut levels[place], given)?;
+    let objects = give(alloc, &mut levels[place], given)?;
     let home = all_home(levels.as_slice(), &levels[place].space, tells);
     match tell(alloc, &mut levels[place], home, tells) {
         Ok(true) => Ok(true),
         Ok(false) => {
-            levels[place].numbers = before;
+            set_back(&mut levels[place], before, objects);
             Ok(false)
         }
         Err(refused) => {
-            levels[place].numbers = before;
+            set_back(&mut levels[place], before, objects);
             Err(refused)
         }
     }

@@ -1,17 +1,18 @@
 //! Edits of what is kept of one space, which tell nothing.
-ghost use Rattle.std.specs.Prelude.{◌≡◌, ◌++◌, [], ◌+◌, ◌≤◌, drop, length, IfOk, OnOk, OnErr};
+ghost use Rattle.std.specs.Prelude.{◌≡◌, ◌++◌, [], ◌+◌, ◌≤◌, drop, length, unwrap_or, IfOk, OnOk, OnErr, MatchOption};
 ghost use Rattle.oz_base.specs.Lists.{first};
 ghost use Rattle.oz_semantics.specs.Configurations.{thread_at, frames_in, with_frames, without_terminated, spawning, giving_out};
 ghost use Rattle.space_core.specs.Levels.{replacing};
 ghost use Rattle.space_core.specs.Shown.{IsQuiet};
-ghost use Rattle.space_core.specs.Giving.{numbers_after, after_giving, declaring, spawning_by};
+ghost use Rattle.space_core.specs.Giving.{numbers_after, objects_after, after_giving, declaring, spawning_by, assigning};
 ghost use Rattle.space_core.specs.Stacks.{cut_out};
 ghost use Rattle.space_core.specs.Unwinding.{IsLevelCaught};
 
 use crate::given::Given;
 use crate::level::{Level, Numbers};
 use crate::stacks::Landing;
-use oz_base::Ident;
+use cells_ports::Objects;
+use oz_base::{Copies, Ident};
 use oz_semantics::Frame;
 use std::alloc::{AllocError, Global};
 
@@ -65,27 +66,85 @@ fn numbers_after(numbers: Numbers, given: &Given) -> Result<Numbers, AllocError>
     ensures { IfOk result (λ after. after ≡ numbers_after given.now numbers) }
 {
     match given {
-        Given::Nothing => Ok(numbers),
+        Given::Nothing | Given::Cell(_) | Given::Content { .. } | Given::Port(_) => Ok(numbers),
         Given::Variables(count) => Ok(Numbers {
             variable: numbers.variable.checked_add(*count).ok_or(AllocError)?,
             procedure: numbers.procedure,
+            name: numbers.name,
             child: numbers.child,
         }),
         Given::Procedure => Ok(Numbers {
             variable: numbers.variable,
             procedure: numbers.procedure.checked_add(1).ok_or(AllocError)?,
+            name: numbers.name,
+            child: numbers.child,
+        }),
+        Given::Name => Ok(Numbers {
+            variable: numbers.variable,
+            procedure: numbers.procedure,
+            name: numbers.name.checked_add(1).ok_or(AllocError)?,
+            child: numbers.child,
+        }),
+        Given::End { .. } => Ok(Numbers {
+            variable: numbers.variable.checked_add(1).ok_or(AllocError)?,
+            procedure: numbers.procedure,
+            name: numbers.name,
             child: numbers.child,
         }),
     }
 }
 
-/// The space gives out what comes with a tell.
-pub fn give(level: &mut Level, given: &Given) -> Result<(), AllocError>
+/// What becomes of the cells and ports of a space by what comes with a tell.
+fn change_objects(alloc: Global, objects: &mut Objects, given: &Given) -> Result<(), AllocError>
+    ensures ok { OnOk result (objects.new ≡ objects_after given.now objects.old) }
+    ensures err { OnErr result (objects.new ≡ objects.old) }
+{
+    match given {
+        Given::Nothing | Given::Variables(_) | Given::Procedure | Given::Name => Ok(()),
+        Given::Cell(content) => objects.add_cell(alloc, content.copied(alloc)?),
+        Given::Content { cell, content } => objects.assign(alloc, *cell, content.copied(alloc)?),
+        Given::Port(stream) => objects.add_port(alloc, stream.copied(alloc)?),
+        Given::End { port, end } => objects.end_at(alloc, *port, end.copied(alloc)?),
+    }
+}
+
+/// The cells and ports of a space as they are, where what comes with a tell changes them.
+fn objects_before(
+    alloc: Global,
+    objects: &Objects,
+    given: &Given,
+) -> Result<Option<Objects>, AllocError>
+    ensures { IfOk result (λ before. MatchOption before (objects_after given.now objects.now ≡ objects.now) (λ same. same ≡ objects.now)) }
+{
+    match given {
+        Given::Nothing | Given::Variables(_) | Given::Procedure | Given::Name => Ok(None),
+        Given::Cell(_) | Given::Content { .. } | Given::Port(_) | Given::End { .. } => {
+            Ok(Some(objects.copied(alloc)?))
+        }
+    }
+}
+
+/// The space gives out what comes with a tell, and its cells and ports change by it. What these were, where they change.
+pub fn give(alloc: Global, level: &mut Level, given: &Given) -> Result<Option<Objects>, AllocError>
     ensures ok { OnOk result (level.new ≡ after_giving given.now level.old) }
+    ensures before { IfOk result (λ before. MatchOption before (objects_after given.now level.old.objects ≡ level.old.objects) (λ same. same ≡ level.old.objects)) }
     ensures err { OnErr result (level.new ≡ level.old) }
 {
-    level.numbers = numbers_after(level.numbers, given)?;
-    Ok(())
+    let numbers = numbers_after(level.numbers, given)?;
+    let before = objects_before(alloc, &level.objects, given)?;
+    change_objects(alloc, &mut level.objects, given)?;
+    level.numbers = numbers;
+    Ok(before)
+}
+
+/// Sets back what a space gave out: its numbers, and where its cells and ports were changed, these too.
+pub fn set_back(level: &mut Level, numbers: Numbers, objects: Option<Objects>)
+    ensures { level.new ≡ record level.old { numbers = numbers; objects = unwrap_or objects level.old.objects } }
+{
+    level.numbers = numbers;
+    if let Some(objects) = objects {
+        level.objects = objects;
+    }
 }
 
 /// A new thread with these statements, the first of them uppermost.
@@ -133,6 +192,22 @@ pub fn start(
     ensures err { OnErr result (level.new ≡ level.old) }
 {
     level.threads.start(alloc, number, frames)
+}
+
+/// The statement on top of a thread's stack is taken off, and a cell contains this from now on.
+pub fn assign(
+    alloc: Global,
+    level: &mut Level,
+    number: u64,
+    cell: u64,
+    content: Ident,
+) -> Result<(), AllocError>
+    ensures ok { OnOk result (IsQuiet (assigning number cell content) level.old level.new) }
+    ensures err { OnErr result (level.new ≡ level.old) }
+{
+    level.objects.assign(alloc, cell, content)?;
+    drop_top(level, number);
+    Ok(())
 }
 
 /// Takes so many statements off a thread's stack that stand below the uppermost ones.

@@ -14,15 +14,9 @@ pub enum Given {
     /// A new cell with this content.
     Cell(Ident),
     /// The cell of this number contains this from now on.
-    Content {
-        cell: u64,
-        content: Ident,
-    },
+    Content { cell: u64, content: Ident },
     /// A new port with this stream.
     Port(Ident),
     /// A variable, and the stream of the port of this number ends here from now on.
-    End {
-        port: u64,
-        end: Ident,
-    },
+    End { port: u64, end: Ident },
 }

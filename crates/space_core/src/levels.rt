@@ -1,12 +1,12 @@
 //! The layers.
-ghost use Rattle.std.specs.Prelude.{◌≡◌, ◌<◌, ◌∷◌, [], true, length, drop, position, is_some, IfOk, OnOk, OnErr, option_copied};
+ghost use Rattle.std.specs.Prelude.{◌≡◌, ◌<◌, ◌∷◌, [], true, length, drop, slice_get, position, is_some, IfOk, OnOk, OnErr, option_copied};
 ghost use Rattle.oz_base.specs.Lists.{first};
 ghost use Rattle.oz_semantics.specs.Names.{parent_of};
 ghost use Rattle.oz_semantics.specs.Configurations.{is_of, layer_at, layer_of, view, ancestor_variables, stack_of, new_layer, next_child, in_layer, with_frames, without_terminated, giving_out, spawning, failed, raised_by, ending};
 ghost use Rattle.oz_semantics.specs.Spaces.{alike_on, is_held};
 ghost use Rattle.oz_semantics.specs.Edits.{created};
 ghost use Rattle.oz_semantics.specs.Settling.{inconsistent_spaces};
-ghost use Rattle.oz_semantics.specs.Changes.{Pushes, Spawns, GivesOut, changed_all};
+ghost use Rattle.oz_semantics.specs.Changes.{Pushes, Spawns, GivesOut, Holds, changed_all};
 ghost use Rattle.oz_semantics.specs.Steps.{without_top};
 ghost use Rattle.space_core.specs.Levels.{OfLayer, IsToldTo, replacing};
 ghost use Rattle.space_core.specs.Telling.{has_below};
@@ -102,6 +102,38 @@ impl Levels {
         ensures { OfLayer self.now place (λ l. result ≡ l.next) }
     {
         self.levels[place].next()
+    }
+
+    /// How many cells the space at a place has: the number that its next cell gets.
+    pub fn cell_count_at(&self, place: usize) -> u64
+        requires { place < length self.now }
+        ensures { OfLayer self.now place (λ l. result ≡ length l.cells) }
+    {
+        self.levels[place].objects.cell_count()
+    }
+
+    /// How many ports the space at a place has: the number that its next port gets.
+    pub fn port_count_at(&self, place: usize) -> u64
+        requires { place < length self.now }
+        ensures { OfLayer self.now place (λ l. result ≡ length l.ports) }
+    {
+        self.levels[place].objects.port_count()
+    }
+
+    /// What the cell of this number of the space at a place contains.
+    pub fn content_at(&self, place: usize, cell: u64) -> Option<&Ident>
+        requires { place < length self.now }
+        ensures { OfLayer self.now place (λ l. option_copied result ≡ slice_get l.cells cell) }
+    {
+        self.levels[place].objects.content(cell)
+    }
+
+    /// Where the stream of the port of this number of the space at a place ends.
+    pub fn end_at(&self, place: usize, port: u64) -> Option<&Ident>
+        requires { place < length self.now }
+        ensures { OfLayer self.now place (λ l. option_copied result ≡ slice_get l.ports port) }
+    {
+        self.levels[place].objects.end(port)
     }
 
     /// What the space sees.
@@ -311,10 +343,28 @@ impl Levels {
         edits::start(alloc, &mut self.levels[place], id.number, frames)
     }
 
-    /// The statement on top of a thread's stack is taken off, its space is told this and gives out what comes with it, and each space
-    /// below fails that then sees what is inconsistent. False exactly where it is inconsistent with what the space sees: then nothing
-    /// changes. It refuses for want of memory, where the space gave out 2^64 - 1 of a kind, and where other spaces are below the
-    /// space: what these see is not made anew yet.
+    /// The statement on top of a thread's stack is taken off, and a cell of its space contains this from now on. It refuses for want of
+    /// memory: then nothing changes.
+    pub fn assign(
+        &mut self,
+        alloc: Global,
+        id: &Ident,
+        cell: u64,
+        content: Ident,
+    ) -> Result<(), AllocError>
+        ensures ok { OnOk result (self.new ≡ changed_all id.now (Holds cell content ∷ []) (without_top id.now self.old)) }
+        ensures err { OnErr result (self.new ≡ self.old) }
+    {
+        let Some(place) = level_place(self.levels.as_slice(), &id.space) else {
+            return Ok(());
+        };
+        edits::assign(alloc, &mut self.levels[place], id.number, cell, content)
+    }
+
+    /// The statement on top of a thread's stack is taken off, its space is told this and gives out what comes with it, its cells and
+    /// ports change by that, and each space below fails that then sees what is inconsistent. False exactly where it is inconsistent with
+    /// what the space sees: then nothing changes. It refuses for want of memory, where the space gave out 2^64 - 1 of a kind, and where
+    /// other spaces are below the space: what these see is not made anew yet.
     pub fn tell_by(
         &mut self,
         alloc: Global,

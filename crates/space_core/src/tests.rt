@@ -1,7 +1,8 @@
 use super::*;
 use environments::Environment;
-use oz_base::{Ident, SpaceName};
-use oz_semantics::{Code, Frame};
+use oz_base::{Copies, Ident, SpaceName};
+use oz_language::Constant;
+use oz_semantics::{Code, Frame, Tell, Value};
 use std::alloc::{AllocError, Global};
 use std::test::Fail;
 
@@ -14,13 +15,17 @@ fn of_top(number: u32) -> Ident {
     }
 }
 
+fn frame(statement: u32) -> Frame {
+    Frame {
+        code: Code::Statement(statement),
+        environment: Environment::new(),
+    }
+}
+
 /// One statement.
 fn one(alloc: Global, statement: u32) -> Result<Vec<Frame>, AllocError> {
     let mut frames = Vec::new(alloc);
-    frames.push(Frame {
-        code: Code::Statement(statement),
-        environment: Environment::new(),
-    })?;
+    frames.push(frame(statement))?;
     Ok(frames)
 }
 
@@ -71,5 +76,116 @@ fn drops_those_of_many_threads_that_ended(rt: HostRuntime) -> Result<(), Fail> {
     assert_eq!(rt; statement(&levels, COUNT + 1), Some(7));
     assert_eq!(rt; levels.len(), 1);
     assert_eq!(rt; levels.threads_at(0).len(), 668);
+    Ok(())
+}
+
+/// The thread of number 1 tells the top. It refuses where there is no top.
+fn tell_top(
+    alloc: Global,
+    levels: &mut Levels,
+    tells: &[Tell],
+    given: Given,
+) -> Result<bool, AllocError> {
+    let id = of_top(1);
+    match levels.place(&id.space) {
+        None => Err(AllocError),
+        Some(_) => levels.tell_by(alloc, &id, tells, given),
+    }
+}
+
+/// A variable of the top is an integer.
+fn is_integer(variable: u32, integer: i128) -> Tell {
+    Tell::Is {
+        variable: of_top(variable),
+        value: Value::Constant(Constant::Int(integer)),
+    }
+}
+
+/// The top with a cell that contains its variable 5, a port whose stream ends at 6, and a thread with the statements 3, 4 and 5.
+fn with_objects(alloc: Global) -> Result<Levels, AllocError> {
+    let mut levels = Levels::new(alloc)?;
+    let mut frames = Vec::new(alloc);
+    for number in 1..=5 {
+        frames.push(frame(number))?;
+    }
+    levels.spawn(&SpaceName::top(), frames)?;
+    let _cell = tell_top(alloc, &mut levels, &[], Given::Cell(of_top(5)))?;
+    let _port = tell_top(alloc, &mut levels, &[], Given::Port(of_top(6)))?;
+    Ok(levels)
+}
+
+fn number_of(id: Option<&Ident>) -> Option<u64> {
+    Some(id?.number)
+}
+
+/// The variable of the top that a cell of it contains.
+fn content(levels: &Levels, cell: u64) -> Option<u64> {
+    if levels.len() == 0 {
+        return None;
+    }
+    number_of(levels.content_at(0, cell))
+}
+
+#[test]
+fn writes_a_cell_in_a_copy_alone(rt: HostRuntime) -> Result<(), Fail> {
+    let alloc = rt.alloc();
+    let levels = with_objects(alloc)?;
+    let mut copy = levels.copied(alloc)?;
+    copy.assign(alloc, &of_top(1), 0, of_top(7))?;
+    assert_eq!(rt; content(&copy, 0), Some(7));
+    assert_eq!(rt; statement(&copy, 1), Some(4));
+    assert_eq!(rt; content(&levels, 0), Some(5));
+    assert_eq!(rt; content(&levels, 1), None);
+    assert_eq!(rt; statement(&levels, 1), Some(3));
+    Ok(())
+}
+
+#[test]
+fn leaves_cells_where_a_tell_clashes(rt: HostRuntime) -> Result<(), Fail> {
+    let alloc = rt.alloc();
+    let mut levels = with_objects(alloc)?;
+    assert!(rt; tell_top(alloc, &mut levels, &[is_integer(0, 1)], Given::Nothing)?);
+    let clash = &[is_integer(0, 2)];
+    let content_7 = Given::Content {
+        cell: 0,
+        content: of_top(7),
+    };
+    assert!(rt; !tell_top(alloc, &mut levels, clash, content_7)?);
+    assert!(rt; !tell_top(alloc, &mut levels, clash, Given::Cell(of_top(7)))?);
+    assert_eq!(rt; content(&levels, 0), Some(5));
+    assert_eq!(rt; content(&levels, 1), None);
+    assert_eq!(rt; statement(&levels, 1), Some(4));
+    Ok(())
+}
+
+#[test]
+fn moves_the_end_of_a_stream(rt: HostRuntime) -> Result<(), Fail> {
+    let alloc = rt.alloc();
+    let mut levels = with_objects(alloc)?;
+    assert_eq!(rt; levels.len(), 1);
+    assert_eq!(rt; levels.next_at(0).variable, 1);
+    let moved = Given::End {
+        port: 0,
+        end: of_top(1),
+    };
+    assert!(rt; tell_top(alloc, &mut levels, &[is_integer(0, 1)], moved)?);
+    assert_eq!(rt; levels.len(), 1);
+    assert_eq!(rt; number_of(levels.end_at(0, 0)), Some(1));
+    assert_eq!(rt; levels.port_count_at(0), 1);
+    assert_eq!(rt; levels.cell_count_at(0), 1);
+    assert_eq!(rt; levels.next_at(0).variable, 2);
+    Ok(())
+}
+
+#[test]
+fn a_failed_space_has_no_cells(rt: HostRuntime) -> Result<(), Fail> {
+    let alloc = rt.alloc();
+    let top = SpaceName::top();
+    let mut levels = with_objects(alloc)?;
+    let above = levels.store_above(alloc, &top)?;
+    levels.fail_over(&top, above);
+    assert_eq!(rt; levels.len(), 1);
+    assert_eq!(rt; levels.cell_count_at(0), 0);
+    assert_eq!(rt; levels.port_count_at(0), 0);
     Ok(())
 }

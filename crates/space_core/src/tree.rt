@@ -13,6 +13,7 @@ ghost use Rattle.space_core.specs.declared.level.Level.{Level};
 use crate::homes::is_properly_above;
 use crate::level::{Level, Numbers};
 use crate::threads::Threads;
+use cells_ports::Objects;
 use environments::Environment;
 use oz_base::{Copies, Ident, Sequence, SpaceName};
 use oz_semantics::{Code, Frame, Status};
@@ -85,6 +86,7 @@ pub fn fail(alloc: Global, level: &mut Level, store: Store)
     level.status = Status::Failed;
     level.touched = Sequence::new(alloc);
     level.threads.stop_all(alloc);
+    level.objects = Objects::new();
     level.traced = true;
 }
 
@@ -143,9 +145,11 @@ fn child_level(
         store,
         touched: Sequence::new(alloc),
         threads,
+        objects: Objects::new(),
         numbers: Numbers {
             variable: 1,
             procedure: 1,
+            name: 1,
             child: 1,
         },
         traced: true,

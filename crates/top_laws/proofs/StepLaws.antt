@@ -4,11 +4,11 @@ use Rattle.oz_base.specs.declared.names.Ident.{Ident}
 use Rattle.oz_language.specs.declared.kernel.Kernel.{Kernel}
 use Rattle.oz_semantics.specs.Names.{is_top}
 use Rattle.oz_semantics.specs.Store.{is_consistent}
-use Rattle.oz_semantics.specs.Configurations.{layer_of, stack_of, view, in_layer, with_frames, without_terminated, telling, giving_out, counting_procedure, spawning, failed, raised_by, ending}
+use Rattle.oz_semantics.specs.Configurations.{layer_of, stack_of, view, in_layer, with_frames, without_terminated, telling, failed, raised_by, ending}
 use Rattle.oz_semantics.specs.Answers.{Answer, Acts, RaisesKind, RaisesTerm, Rests}
 use Rattle.oz_semantics.specs.Statements.{stack_answer}
 use Rattle.oz_semantics.specs.Spaces.{sight}
-use Rattle.oz_semantics.specs.Changes.{Change, GivesOut, CountsProcedure, Pushes, Spawns, changed_all, done}
+use Rattle.oz_semantics.specs.Changes.{Change, changed, changed_all, done}
 use Rattle.oz_semantics.specs.Effects.{Effect, Makes, Tells, ShowsText, act_effect}
 use Rattle.oz_semantics.specs.Exceptions.{is_failure, raise_term, with_term, unwound}
 use Rattle.oz_semantics.specs.Texts.{Printed, term_text}
@@ -22,8 +22,9 @@ use Rattle.oz_semantics.specs.declared.outcome.RaiseKind.{RaiseKind}
 use Rattle.oz_semantics.specs.declared.outcome.RaiseKind.TheVariants.{FailureTell}
 use Rattle.oz_semantics.specs.declared.outcome.Stepped.TheVariants.{Moved, TopEnded, Quiescent}
 use Rattle.view_laws.specs.Steps.{IsSound, IsNumbered}
+use Rattle.view_laws.proofs.ChangeLaws.{edit_of, changed_by}
 use Rattle.turn_laws.proofs.NumberedLaws.{none_numbered}
-use Rattle.turn_laws.proofs.OrderlyLaws.{frames_edit, terminated_edit, tells_edit, variables_edit, procedure_edit, threads_edit, term_edit}
+use Rattle.turn_laws.proofs.OrderlyLaws.{frames_edit, terminated_edit, tells_edit, change_edit, term_edit}
 use Rattle.top_laws.proofs.OutsideLaws.{LeavesTop, edit_leaves, end_leaves, left_leaves, top_fits}
 
 -- the machine moved and left the top as it was, or nothing could step
@@ -82,13 +83,9 @@ module _ (k : Kernel) (before : List Layer) (sound : IsSound before) (id : Ident
 
   changes_leave : (changes : List Change) (layers : List Layer) → LeavesTop before layers → LeavesTop before (changed_all id changes layers)
   changes_leave [] layers leaves = leaves
-  changes_leave (GivesOut n ∷ changes) layers leaves = changes_leave changes (in_layer id.space (giving_out n) layers) (edit_leaves id.space inner (giving_out n) before layers (variables_edit n) leaves)
-  changes_leave (CountsProcedure ∷ changes) layers leaves =
-      changes_leave changes (in_layer id.space counting_procedure layers) (edit_leaves id.space inner counting_procedure before layers procedure_edit leaves)
-  changes_leave (Pushes frames ∷ changes) layers leaves =
-      changes_leave changes (in_layer id.space (with_frames id.number (λ rest. frames ++ rest)) layers)
-      (edit_leaves id.space inner (with_frames id.number (λ rest. frames ++ rest)) before layers (frames_edit id.number (λ rest. frames ++ rest)) leaves)
-  changes_leave (Spawns frames ∷ changes) layers leaves = changes_leave changes (in_layer id.space (spawning frames) layers) (edit_leaves id.space inner (spawning frames) before layers (threads_edit frames) leaves)
+  changes_leave (change ∷ changes) layers leaves =
+      changes_leave changes (changed id layers change)
+      (subst (LeavesTop before) (sym (changed_by id layers change)) (edit_leaves id.space inner (edit_of id.number change) before layers (change_edit id.number change) leaves))
 
   told_leaves : (ts : List Tell) (changes : List Change) (layers : List Layer) (c : Configuration) → LeavesTop before layers → MovedBelow before (told k.statements id ts changes layers c)
   told_leaves ts changes layers c leaves = by (is_consistent (view layers id.space ++ ts))

@@ -112,8 +112,13 @@ edits_numbered = record {
   tells = λ ts l h. record { rising = h.rising; given = h.given };
   variables = λ n l h. record { rising = h.rising; given = h.given };
   procedure = λ l h. record { rising = h.rising; given = h.given };
+  name = λ l h. record { rising = h.rising; given = h.given };
   child = λ l h. record { rising = h.rising; given = h.given };
   threads = spawned_numbered;
+  cell = λ content l h. record { rising = h.rising; given = h.given };
+  content = λ number content l h. record { rising = h.rising; given = h.given };
+  port = λ end l h. record { rising = h.rising; given = h.given };
+  end = λ number end l h. record { rising = h.rising; given = h.given };
   choice = choice_numbered;
   failure = λ l h. none_numbered _ refl;
   exception = λ x l h. none_numbered _ refl;

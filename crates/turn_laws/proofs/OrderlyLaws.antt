@@ -5,11 +5,11 @@ use Rattle.std.proofs.lemmas.Bool.{false≢true}
 use Rattle.oz_base.specs.Lists.{list_eq, put_before}
 use Rattle.oz_base.specs.declared.names.Ident.{Ident}
 use Rattle.oz_semantics.specs.Names.{is_properly_below, space_lt}
-use Rattle.oz_semantics.specs.Configurations.{is_of, layer_at, layer_of, in_layer, with_frames, without_terminated, telling, giving_out, counting_procedure, counting_child, spawning, failed, ending, next_child, new_layer}
+use Rattle.oz_semantics.specs.Configurations.{is_of, layer_at, layer_of, in_layer, with_frames, without_terminated, telling, counting_child, failed, ending, next_child, new_layer}
 use Rattle.oz_semantics.specs.Sights.{Sight}
 use Rattle.oz_semantics.specs.Spaces.{sight}
 use Rattle.oz_semantics.specs.Edits.{starting, committing}
-use Rattle.oz_semantics.specs.Changes.{Change, GivesOut, CountsProcedure, Pushes, Spawns, changed_all, done}
+use Rattle.oz_semantics.specs.Changes.{Change, Pushes, Spawns, changed, changed_all, done}
 use Rattle.oz_semantics.specs.Terms.{Term}
 use Rattle.oz_semantics.specs.Exceptions.{with_term}
 use Rattle.oz_semantics.specs.Settling.{failing, inconsistent_spaces, without_inconsistent}
@@ -23,6 +23,7 @@ use Rattle.view_laws.specs.Steps.{IsNumbered}
 use Rattle.view_laws.proofs.ListLaws.{filter_in, in_edit, found_in}
 use Rattle.view_laws.proofs.NameLaws.{equal_names}
 use Rattle.view_laws.proofs.TreeLaws.{in_put, change_tree, end_tree, tree_created}
+use Rattle.view_laws.proofs.ChangeLaws.{edit_of, changed_by, edit_keeps}
 use Rattle.settle_laws.proofs.ListEdits.{find_filter, is_found_edit}
 use Rattle.turn_laws.specs.Orderly.{KeepsNumbered, AreOrderly, ChangesOrderly, DoneOrderly, StackOrderly, CreatedOrderly, CommittedOrderly}
 use Rattle.turn_laws.proofs.NumberedLaws.{edits_numbered, none_numbered, spawned_numbered}
@@ -96,17 +97,8 @@ terminated_edit = record { space = λ l. refl; children = λ l. omega arith; num
 pub tells_edit : (ts : List Tell) → IsEdit (telling ts)
 tells_edit ts = record { space = λ l. refl; children = λ l. omega arith; numbered = edits_numbered.tells ts }
 
-pub variables_edit : (n : ℕ) → IsEdit (giving_out n)
-variables_edit n = record { space = λ l. refl; children = λ l. omega arith; numbered = edits_numbered.variables n }
-
-pub procedure_edit : IsEdit counting_procedure
-procedure_edit = record { space = λ l. refl; children = λ l. omega arith; numbered = edits_numbered.procedure }
-
 child_edit : IsEdit counting_child
 child_edit = record { space = λ l. refl; children = λ l. omega arith; numbered = edits_numbered.child }
-
-pub threads_edit : (fs : List Frame) → IsEdit (spawning fs)
-threads_edit fs = record { space = λ l. refl; children = λ l. omega arith; numbered = edits_numbered.threads fs }
 
 choice_edit : (s : Sight) (i : ℕ) → IsEdit (committing s i)
 choice_edit s i = record { space = λ l. refl; children = λ l. omega arith; numbered = edits_numbered.choice s i }
@@ -114,16 +106,22 @@ choice_edit s i = record { space = λ l. refl; children = λ l. omega arith; num
 pub term_edit : (t : Term) → IsEdit (with_term t)
 term_edit t = record { space = λ l. refl; children = λ l. omega arith; numbered = λ l h. record { rising = h.rising; given = h.given } }
 
+-- a change of a step
+change_numbered : (number : ℕ) (change : Change) → KeepsNumbered (edit_of number change)
+change_numbered number (Pushes frames) = edits_numbered.frames number (λ rest. frames ++ rest)
+change_numbered number (Spawns frames) = edits_numbered.threads frames
+change_numbered number change = λ l h. record { rising = h.rising; given = h.given }
+
+pub change_edit : (number : ℕ) (change : Change) → IsEdit (edit_of number change)
+change_edit number change =
+    let kept = edit_keeps number change in
+    record { space = kept.space; children = λ l. omega (arith, kept.children l); numbered = change_numbered number change }
+
 pub changed_orderly : (id : Ident) (changes : List Change) (layers : List Layer) → AreOrderly layers → AreOrderly (changed_all id changes layers)
 changed_orderly id [] layers good = good
-changed_orderly id (GivesOut n ∷ changes) layers good = changed_orderly id changes (in_layer id.space (giving_out n) layers) (edit_orderly id.space (giving_out n) layers (variables_edit n) good)
-changed_orderly id (CountsProcedure ∷ changes) layers good =
-    changed_orderly id changes (in_layer id.space counting_procedure layers) (edit_orderly id.space counting_procedure layers procedure_edit good)
-changed_orderly id (Pushes frames ∷ changes) layers good =
-    changed_orderly id changes (in_layer id.space (with_frames id.number (λ rest. frames ++ rest)) layers)
-    (edit_orderly id.space (with_frames id.number (λ rest. frames ++ rest)) layers (frames_edit id.number (λ rest. frames ++ rest)) good)
-changed_orderly id (Spawns frames ∷ changes) layers good =
-    changed_orderly id changes (in_layer id.space (spawning frames) layers) (edit_orderly id.space (spawning frames) layers (threads_edit frames) good)
+changed_orderly id (change ∷ changes) layers good =
+    changed_orderly id changes (changed id layers change)
+    (subst AreOrderly (sym (changed_by id layers change)) (edit_orderly id.space (edit_of id.number change) layers (change_edit id.number change) good))
 
 pub popped_orderly : (id : Ident) (layers : List Layer) → AreOrderly layers → AreOrderly (without_top id layers)
 popped_orderly id layers good = edit_orderly id.space (with_frames id.number (λ frames. drop 1 frames)) layers (frames_edit id.number (λ frames. drop 1 frames)) good

@@ -9,11 +9,11 @@ use Rattle.oz_base.specs.declared.names.Ident.{Ident}
 use Rattle.oz_language.specs.declared.kernel.Statement.{Statement}
 use Rattle.oz_semantics.specs.Names.{is_below, is_properly_below, named}
 use Rattle.oz_semantics.specs.Store.{View, IsConsistent, is_consistent}
-use Rattle.oz_semantics.specs.Configurations.{is_of, layer_at, layer_of, is_open, view, in_layer, with_frames, without_terminated, telling, giving_out, counting_procedure, spawning}
+use Rattle.oz_semantics.specs.Configurations.{is_of, layer_at, layer_of, is_open, view, in_layer, without_terminated, telling}
 use Rattle.oz_semantics.specs.Sights.{Readiness, Steps, Waits, Offers, can_step}
 use Rattle.oz_semantics.specs.Readiness.{thread_ready}
 use Rattle.oz_semantics.specs.Spaces.{sight}
-use Rattle.oz_semantics.specs.Changes.{Change, GivesOut, CountsProcedure, Pushes, Spawns, changed_all, done}
+use Rattle.oz_semantics.specs.Changes.{Change, GivesOut, changed, changed_all, done}
 use Rattle.oz_semantics.specs.Settling.{Turned, may_fail, is_inconsistent, inconsistent_spaces, is_among, mover_in, queue_after, runnable_in, runnable, settled}
 use Rattle.oz_semantics.specs.Steps.{without_top}
 use Rattle.oz_semantics.specs.declared.value.Tell.{Tell}
@@ -36,10 +36,11 @@ use Rattle.view_laws.proofs.TreeLaws.{one_of_name}
 use Rattle.view_laws.proofs.StayLaws.{readiness_stays}
 use Rattle.view_laws.proofs.QueueLaws.{mover_able, can_from, from_can, CanStep, queue_exact}
 use Rattle.view_laws.proofs.QuietLaws.{quiet_queue}
+use Rattle.view_laws.proofs.ChangeLaws.{edit_of, changed_by, edit_keeps}
 use Rattle.view_laws.proofs.StepLaws.{changes_made}
 use Rattle.view_laws.proofs.NumberLaws.{step_new}
 use Rattle.view_laws.proofs.SettleLaws.{quiet_sound}
-use Rattle.settle_laws.proofs.EditLaws.{edits_join, edits_agree, are_quiet, quiet_view, pop_view}
+use Rattle.settle_laws.proofs.EditLaws.{edits_join, edits_agree, are_quiet, edit_quiet, quiet_view, pop_view}
 use Rattle.settle_laws.proofs.ListEdits.{is_found_edit}
 use Rattle.settle_laws.proofs.SettleLaws.{settled_by}
 use Rattle.settle_laws.proofs.SoundLaws.{sound_settles}
@@ -57,18 +58,21 @@ swap_edits : (space : List ℕ) (f g : Layer → Layer) (layers : List Layer) �
 swap_edits space f g layers named_f named_g swap =
     edits_join space f g layers named_g ∙ edits_agree space (λ l. f (g l)) (λ l. g (f l)) layers (λ l e. swap l) ∙ sym (edits_join space g f layers named_f)
 
+-- what a step changes and what it tells are apart
+tell_apart : (number : ℕ) (ts : List Tell) (change : Change) (l : Layer) → edit_of number change (telling ts l) ≡ telling ts (edit_of number change l)
+tell_apart number ts (GivesOut n) l = refl
+tell_apart number ts change l = refl
+
 changes_first : (id : Ident) (ts : List Tell) (changes : List Change) (layers : List Layer)
     → changed_all id changes (in_layer id.space (telling ts) layers) ≡ in_layer id.space (telling ts) (changed_all id changes layers)
 changes_first id ts [] layers = refl
-changes_first id ts (GivesOut n ∷ changes) layers =
-    ap (changed_all id changes) (swap_edits id.space (giving_out n) (telling ts) layers (λ l. refl) (λ l. refl) (λ l. refl)) ∙ changes_first id ts changes (in_layer id.space (giving_out n) layers)
-changes_first id ts (CountsProcedure ∷ changes) layers =
-    ap (changed_all id changes) (swap_edits id.space counting_procedure (telling ts) layers (λ l. refl) (λ l. refl) (λ l. refl)) ∙ changes_first id ts changes (in_layer id.space counting_procedure layers)
-changes_first id ts (Pushes frames ∷ changes) layers =
-    ap (changed_all id changes) (swap_edits id.space (with_frames id.number (λ rest. frames ++ rest)) (telling ts) layers (λ l. refl) (λ l. refl) (λ l. refl))
-    ∙ changes_first id ts changes (in_layer id.space (with_frames id.number (λ rest. frames ++ rest)) layers)
-changes_first id ts (Spawns frames ∷ changes) layers =
-    ap (changed_all id changes) (swap_edits id.space (spawning frames) (telling ts) layers (λ l. refl) (λ l. refl) (λ l. refl)) ∙ changes_first id ts changes (in_layer id.space (spawning frames) layers)
+changes_first id ts (change ∷ changes) layers =
+    let edit : Layer → Layer = edit_of id.number change in
+    let one : changed id (in_layer id.space (telling ts) layers) change ≡ in_layer id.space (telling ts) (changed id layers change) =
+    changed_by id (in_layer id.space (telling ts) layers) change
+    ∙ swap_edits id.space edit (telling ts) layers (edit_keeps id.number change).space (λ l. refl) (tell_apart id.number ts change)
+    ∙ ap (in_layer id.space (telling ts)) (sym (changed_by id layers change)) in
+    ap (changed_all id changes) one ∙ changes_first id ts changes (changed id layers change)
 
 told_last : (id : Ident) (ts : List Tell) (changes : List Change) (layers : List Layer)
     → in_layer id.space without_terminated (done id ts changes layers) ≡ in_layer id.space (telling ts) (in_layer id.space without_terminated (changed_all id changes layers))
@@ -79,15 +83,10 @@ told_last id ts changes layers =
 -- the changes are not seen
 changes_view : (id : Ident) (changes : List Change) (layers : List Layer) (other : List ℕ) → view (changed_all id changes layers) other ≡ view layers other
 changes_view id [] layers other = refl
-changes_view id (GivesOut n ∷ changes) layers other =
-    changes_view id changes (in_layer id.space (giving_out n) layers) other ∙ quiet_view (giving_out n) layers id.space other (are_quiet.variables n)
-changes_view id (CountsProcedure ∷ changes) layers other =
-    changes_view id changes (in_layer id.space counting_procedure layers) other ∙ quiet_view counting_procedure layers id.space other are_quiet.procedure
-changes_view id (Pushes frames ∷ changes) layers other =
-    changes_view id changes (in_layer id.space (with_frames id.number (λ rest. frames ++ rest)) layers) other
-    ∙ quiet_view (with_frames id.number (λ rest. frames ++ rest)) layers id.space other (are_quiet.frames id.number (λ rest. frames ++ rest))
-changes_view id (Spawns frames ∷ changes) layers other =
-    changes_view id changes (in_layer id.space (spawning frames) layers) other ∙ quiet_view (spawning frames) layers id.space other (are_quiet.threads frames)
+changes_view id (change ∷ changes) layers other =
+    changes_view id changes (changed id layers change) other
+    ∙ ap (λ ls. view ls other) (changed_by id layers change)
+    ∙ quiet_view (edit_of id.number change) layers id.space other (edit_quiet id.number change)
 
 -- A space with none below it is told what is consistent
 

@@ -3,7 +3,7 @@ use Rattle.std.specs.Prelude.{ℕ, ◌≡◌, true, ◌&&◌, List, [], Contains
 use Rattle.oz_base.specs.Lists.{holds_of}
 use Rattle.oz_base.specs.declared.names.Ident.{Ident}
 use Rattle.oz_language.specs.declared.kernel.Statement.{Statement}
-use Rattle.oz_semantics.specs.Configurations.{layer_at, layer_of, thread_at, is_open, in_layer, with_frames, without_terminated, telling, giving_out, counting_procedure, counting_child, spawning, failed, raised_by}
+use Rattle.oz_semantics.specs.Configurations.{layer_at, layer_of, thread_at, is_open, in_layer, with_frames, without_terminated, telling, giving_out, counting_procedure, counting_name, counting_child, spawning, adding_cell, with_content, adding_port, with_end, failed, raised_by}
 use Rattle.oz_semantics.specs.Sights.{Sight, can_step}
 use Rattle.oz_semantics.specs.Readiness.{thread_ready}
 use Rattle.oz_semantics.specs.Spaces.{sight}
@@ -29,8 +29,13 @@ pub record EditsNumbered : Type 0 where
   pub tells : (ts : List Tell) → KeepsNumbered (telling ts)
   pub variables : (n : ℕ) → KeepsNumbered (giving_out n)
   pub procedure : KeepsNumbered counting_procedure
+  pub name : KeepsNumbered counting_name
   pub child : KeepsNumbered counting_child
   pub threads : (fs : List Frame) → KeepsNumbered (spawning fs)
+  pub cell : (content : Ident) → KeepsNumbered (adding_cell content)
+  pub content : (number : ℕ) (content : Ident) → KeepsNumbered (with_content number content)
+  pub port : (end : Ident) → KeepsNumbered (adding_port end)
+  pub end : (number : ℕ) (end : Ident) → KeepsNumbered (with_end number end)
   pub choice : (s : Sight) (i : ℕ) → KeepsNumbered (committing s i)
   pub failure : KeepsNumbered failed
   pub exception : (x : Ident) → KeepsNumbered (raised_by x)

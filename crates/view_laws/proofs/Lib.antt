@@ -15,6 +15,7 @@ pub mod WakeLaws
 pub mod ReadyLaws
 pub mod QueueLaws
 pub mod QuietLaws
+pub mod ChangeLaws
 pub mod StepLaws
 pub mod NumberLaws
 pub mod SettleLaws

@@ -11,7 +11,7 @@ use Rattle.oz_semantics.specs.Configurations.{is_of, layer_at, is_numbered, thre
 use Rattle.oz_semantics.specs.Sights.{can_step}
 use Rattle.oz_semantics.specs.Readiness.{thread_ready}
 use Rattle.oz_semantics.specs.Spaces.{sight}
-use Rattle.oz_semantics.specs.Changes.{Change, GivesOut, CountsProcedure, Pushes, Spawns}
+use Rattle.oz_semantics.specs.Changes.{Change, Spawns}
 use Rattle.oz_semantics.specs.Settling.{is_among, runnable_in, runnable}
 use Rattle.oz_semantics.specs.declared.configuration.Thread.{Thread}
 use Rattle.oz_semantics.specs.declared.configuration.Layer.{Layer}
@@ -72,21 +72,17 @@ record SpawnedAt (n : ℕ) (changes : List Change) (m : ℕ) : Type 0 where
 
 spawned_at : (n : ℕ) (changes : List Change) (m : ℕ) → In m (numbers (spawned_from n changes)) → SpawnedAt n changes m
 spawned_at n [] m h = elim h [ ]
-spawned_at n (GivesOut k ∷ changes) m h = let r = spawned_at n changes m h in record { from = r.from; below = r.below }
-spawned_at n (CountsProcedure ∷ changes) m h = let r = spawned_at n changes m h in record { from = r.from; below = r.below }
-spawned_at n (Pushes frames ∷ changes) m h = let r = spawned_at n changes m h in record { from = r.from; below = r.below }
 spawned_at n (Spawns frames ∷ changes) m (inl e) = record { from = omega (arith, e); below = omega (arith, e) }
 spawned_at n (Spawns frames ∷ changes) m (inr h) = let r = spawned_at (n + 1) changes m h in record { from = omega (arith, r.from); below = omega (arith, r.below) }
+spawned_at n (change ∷ changes) m h = let r = spawned_at n changes m h in record { from = r.from; below = r.below }
 
 spawned_rising : (n : ℕ) (changes : List Change) → IsRising (numbers (spawned_from n changes))
 spawned_rising n [] = tt
-spawned_rising n (GivesOut k ∷ changes) = spawned_rising n changes
-spawned_rising n (CountsProcedure ∷ changes) = spawned_rising n changes
-spawned_rising n (Pushes frames ∷ changes) = spawned_rising n changes
 spawned_rising n (Spawns frames ∷ changes) = (
   λ m c. let r = spawned_at (n + 1) changes m (In-from_contains (numbers (spawned_from (n + 1) changes)) m c) in omega (arith, r.from),
   spawned_rising (n + 1) changes,
 )
+spawned_rising n (change ∷ changes) = spawned_rising n changes
 
 -- Layers after a step
 

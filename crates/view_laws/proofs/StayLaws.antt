@@ -2,6 +2,7 @@
 use Rattle.std.proofs.Common.{◌≡◌, inl, ◌==◌, ℕ, ℤ, Bool, true, false, ◌||◌, if◌then◌else◌, List, [], ◌∷◌, map, length, refl, sym, ap, subst, ◌∙◌, Option, Some, None, Result, Ok, Err, slice_get}
 use Rattle.std.specs.Prelude.{int_lt, int_le, pos}
 use Rattle.std.proofs.lemmas.Bool.{false≢true}
+use Rattle.oz_base.specs.Lists.{list_eq}
 use Rattle.oz_base.specs.declared.names.Ident.{Ident}
 use Rattle.oz_base.specs.declared.numbers.NumFault.{NumFault}
 use Rattle.oz_base.specs.declared.numbers.NumFault.TheVariants as faults
@@ -14,15 +15,15 @@ use Rattle.oz_language.specs.declared.kernel.Operation.{Operation}
 use Rattle.oz_language.specs.declared.kernel.Operation.TheVariants as operation
 use Rattle.oz_language.specs.declared.kernel.Statement.{Statement}
 use Rattle.oz_language.specs.declared.kernel.Statement.TheVariants as statement
-use Rattle.oz_semantics.specs.Values.{is_like, constant_in, integer_in, fields_of}
+use Rattle.oz_semantics.specs.Values.{is_like, constant_in, integer_in, fields_of, cell_in, port_in}
 use Rattle.oz_semantics.specs.Names.{is_top}
 use Rattle.oz_semantics.specs.Store.{Same, itself, reversed, joined, IsConsistent, value_of, is_determined}
 use Rattle.oz_semantics.specs.Matching.{Match, Matches, Differs, MatchWaits, matched}
 use Rattle.oz_semantics.specs.Entailment.{Equality, Entailed, Contradicted, Undecided, equality}
 use Rattle.oz_semantics.specs.Terms.{list_term}
 use Rattle.oz_semantics.specs.Sights.{Sight, Readiness, Steps, Waits}
-use Rattle.oz_semantics.specs.Answers.{Answer, Acts, RaisesKind, GivesTerm, Passes, Shows, given, with_value, of_kind, argument, gives_constant}
-use Rattle.oz_semantics.specs.Builtins.{truth, gives_number, with_integers, compares, computes, of_equality, label_in, arity_in, gives_field, field_at, selects, of_operation, answer, arguments_of, call_answer}
+use Rattle.oz_semantics.specs.Answers.{Act, Answer, Acts, RaisesKind, GivesTerm, Passes, Reads, Writes, Exchanges, Sends, Shows, given, with_value, of_kind, argument, gives_constant}
+use Rattle.oz_semantics.specs.Builtins.{truth, gives_number, with_integers, compares, computes, of_equality, label_in, arity_in, gives_field, field_at, selects, own_act, on_cell, on_port, of_operation, answer, arguments_of, call_answer}
 use Rattle.oz_semantics.specs.Statements.{procedure_called, value_called, called, branch, constant_branch, clause, statement_answer, numbered_answer, code_answer, stack_answer}
 use Rattle.oz_semantics.specs.Readiness.{answer_ready}
 use Rattle.oz_semantics.specs.declared.configuration.Code.{Code}
@@ -34,6 +35,7 @@ use Rattle.oz_semantics.specs.declared.value.Builtin.TheVariants as builtin
 use Rattle.oz_semantics.specs.declared.value.Value.{Value}
 use Rattle.oz_semantics.specs.declared.value.Value.TheVariants as value
 use Rattle.oz_semantics.specs.declared.value.Tell.{Tell}
+use Rattle.oz_semantics.specs.declared.outcome.RaiseKind.{RaiseKind}
 use Rattle.oz_semantics.specs.declared.outcome.RaiseKind.TheVariants as raise
 use Rattle.oz_laws.proofs.SameLaws.{contains-from_In}
 use Rattle.oz_laws.proofs.AlikeLaws.{builtin_eq-true}

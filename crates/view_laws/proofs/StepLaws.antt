@@ -5,8 +5,8 @@ use Rattle.std.proofs.lemmas.Bool.{false≢true}
 use Rattle.std.proofs.lemmas.List.{append-nil, append_assoc, length-append}
 use Rattle.oz_base.specs.Lists.{edit_first, is_empty, list_eq}
 use Rattle.oz_base.specs.declared.names.Ident.{Ident}
-use Rattle.oz_semantics.specs.Configurations.{is_of, layer_at, is_numbered, thread_at, in_layer, in_thread, with_frames, without_terminated, giving_out, counting_procedure, spawning}
-use Rattle.oz_semantics.specs.Changes.{Change, GivesOut, CountsProcedure, Pushes, Spawns, changed, changed_all}
+use Rattle.oz_semantics.specs.Configurations.{is_of, layer_at, is_numbered, thread_at, in_layer, in_thread, with_frames, without_terminated, spawning}
+use Rattle.oz_semantics.specs.Changes.{Change, Pushes, Spawns, changed, changed_all}
 use Rattle.oz_semantics.specs.Steps.{without_top}
 use Rattle.oz_semantics.specs.declared.configuration.Frame.{Frame}
 use Rattle.oz_semantics.specs.declared.configuration.Thread.{Thread}
@@ -15,6 +15,7 @@ use Rattle.view_laws.specs.Queues.{StepsTo}
 use Rattle.view_laws.specs.Steps.{spawned_from, MadeOf, ChangesMade, StackMade}
 use Rattle.view_laws.proofs.NameLaws.{names_equal}
 use Rattle.view_laws.proofs.SightLaws.{space_of}
+use Rattle.view_laws.proofs.ChangeLaws.{edit_of, changed_by, edit_keeps}
 
 -- Edits of the first that passes
 
@@ -71,10 +72,7 @@ record Grown (number : ℕ) (before l : Layer) (news : List Thread) : Type 0 whe
   children : l.next.child ≡ before.next.child
 
 abbrev layer_changed : ℕ → Layer → Change → Layer
-layer_changed number l (GivesOut n) = giving_out n l
-layer_changed number l CountsProcedure = counting_procedure l
-layer_changed number l (Pushes frames) = with_frames number (λ rest. frames ++ rest) l
-layer_changed number l (Spawns frames) = spawning frames l
+layer_changed number l change = edit_of number change l
 
 module _ (number : ℕ) (before : Layer) (there : is_some (thread_at before.threads number) ≡ true) where
   abbrev put : (List Frame → List Frame) → Thread → Thread
@@ -130,9 +128,6 @@ module _ (number : ℕ) (before : Layer) (there : is_some (thread_at before.thre
   grown_all : (changes : List Change) (l : Layer) (news : List Thread) → Grown number before l news
       → Grown number before (fold (layer_changed number) l changes) (news ++ spawned_from (before.next.thread + length news) changes)
   grown_all [] l news g = grown_same l news (news ++ []) (sym (append-nil news)) g
-  grown_all (GivesOut n ∷ changes) l news g = grown_all changes (giving_out n l) news (record { change = g.change; space = g.space; status = g.status; tells = g.tells; threads = g.threads; next = g.next; children = g.children })
-  grown_all (CountsProcedure ∷ changes) l news g =
-      grown_all changes (counting_procedure l) news (record { change = g.change; space = g.space; status = g.status; tells = g.tells; threads = g.threads; next = g.next; children = g.children })
   grown_all (Pushes frames ∷ changes) l news g = grown_all changes (with_frames number (λ rest. frames ++ rest) l) news (grown_frames (λ rest. frames ++ rest) l news g)
   grown_all (Spawns frames ∷ changes) l news g =
       let one : Thread = record { number = before.next.thread + length news; frames = frames } in
@@ -141,6 +136,8 @@ module _ (number : ℕ) (before : Layer) (there : is_some (thread_at before.thre
       (news ++ spawned_from (before.next.thread + length news) (Spawns frames ∷ changes))
       (ap (λ n. (news ++ one ∷ []) ++ spawned_from n changes) count ∙ append_assoc news (one ∷ []) (spawned_from (before.next.thread + length news + 1) changes))
       (grown_all changes (spawning frames l) (news ++ one ∷ []) (grown_spawned frames l news g))
+  grown_all (change ∷ changes) l news g =
+      grown_all changes (layer_changed number l change) news (record { change = g.change; space = g.space; status = g.status; tells = g.tells; threads = g.threads; next = g.next; children = g.children })
 
   grown_ends : (l : Layer) (news : List Thread) → Grown number before l news → StepsTo number before (without_terminated l) news
   grown_ends l news g = record {
@@ -164,21 +161,12 @@ module _ (id : Ident) (layers : List Layer) (before : Layer) (at : layer_at laye
   put_again f l e = edit_twice (is_of id.space) f (λ m. l) (λ m k. named_there l e) layers
 
   changed_one : (change : Change) (l : Layer) → l.space ≡ before.space → changed id (put_in l) change ≡ put_in (layer_changed id.number l change)
-  changed_one (GivesOut n) l e = put_again (giving_out n) l e
-  changed_one CountsProcedure l e = put_again counting_procedure l e
-  changed_one (Pushes frames) l e = put_again (with_frames id.number (λ rest. frames ++ rest)) l e
-  changed_one (Spawns frames) l e = put_again (spawning frames) l e
-
-  kept_name : (change : Change) (l : Layer) → (layer_changed id.number l change).space ≡ l.space
-  kept_name (GivesOut n) l = refl
-  kept_name CountsProcedure l = refl
-  kept_name (Pushes frames) l = refl
-  kept_name (Spawns frames) l = refl
+  changed_one change l e = changed_by id (put_in l) change ∙ put_again (edit_of id.number change) l e
 
   changed_list : (changes : List Change) (l : Layer) → l.space ≡ before.space → changed_all id changes (put_in l) ≡ put_in (fold (layer_changed id.number) l changes)
   changed_list [] l e = refl
   changed_list (change ∷ changes) l e =
-      ap (λ ls. fold (changed id) ls changes) (changed_one change l e) ∙ changed_list changes (layer_changed id.number l change) (kept_name change l ∙ e)
+      ap (λ ls. fold (changed id) ls changes) (changed_one change l e) ∙ changed_list changes (layer_changed id.number l change) ((edit_keeps id.number change).space l ∙ e)
 
   abbrev popped : Layer
   popped = with_frames id.number (λ frames. drop 1 frames) before

@@ -7,7 +7,7 @@ use Rattle.oz_semantics.specs.Configurations.{layer_at, thread_at, is_open, in_l
 use Rattle.oz_semantics.specs.Sights.{can_step}
 use Rattle.oz_semantics.specs.Readiness.{thread_ready}
 use Rattle.oz_semantics.specs.Spaces.{sight}
-use Rattle.oz_semantics.specs.Changes.{Change, GivesOut, CountsProcedure, Pushes, Spawns, changed_all}
+use Rattle.oz_semantics.specs.Changes.{Change, GivesOut, CountsProcedure, CountsName, Pushes, Spawns, AddsCell, Holds, AddsPort, EndsAt, changed_all}
 use Rattle.oz_semantics.specs.Settling.{Turned, is_inconsistent, is_among, mover_in, runnable_in, runnable, settled}
 use Rattle.oz_semantics.specs.Steps.{without_top, went_on}
 use Rattle.oz_semantics.specs.declared.configuration.Frame.{Frame}
@@ -27,6 +27,11 @@ spawned_from n (Spawns frames ∷ changes) = record { number = n; frames = frame
 spawned_from n (Pushes frames ∷ changes) = spawned_from n changes
 spawned_from n (GivesOut count ∷ changes) = spawned_from n changes
 spawned_from n (CountsProcedure ∷ changes) = spawned_from n changes
+spawned_from n (CountsName ∷ changes) = spawned_from n changes
+spawned_from n (AddsCell content ∷ changes) = spawned_from n changes
+spawned_from n (Holds number content ∷ changes) = spawned_from n changes
+spawned_from n (AddsPort end ∷ changes) = spawned_from n changes
+spawned_from n (EndsAt number end ∷ changes) = spawned_from n changes
 
 -- the layers are those before but for one, which is what such a step of the thread makes of it
 pub record MadeOf (id : Ident) (layers result : List Layer) (before : Layer) (news : List Thread) : Type 0 where

@@ -1,7 +1,7 @@
 use Rattle.std.proofs.Common.{◌∙◌, ap, sym}
 use Rattle.std.specs.Prelude.{is_some}
 use Rattle.oz_semantics.specs.Exceptions.{is_failure}
-use Rattle.oz_machine.proofs.PlaceLaws.{place_view, place_none}
+use Rattle.oz_acts.proofs.PlaceLaws.{place_view, place_none}
 use Rattle.oz_machine.proofs.raising.fails.Goals as goal
 
 pub returns-in-None : goal.returns-in-None

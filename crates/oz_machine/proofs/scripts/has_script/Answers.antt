@@ -4,7 +4,7 @@ use Rattle.oz_semantics.specs.Configurations.{is_of}
 use Rattle.oz_base.specs.Lists.{holds_of}
 use Rattle.oz_semantics.specs.Store.{value_of}
 use Rattle.oz_semantics.specs.Search.{is_script, script_variable}
-use Rattle.oz_machine.proofs.PlaceLaws.{place_none, place_view}
+use Rattle.oz_acts.proofs.PlaceLaws.{place_none, place_view}
 use Rattle.oz_machine.proofs.TopLaws.{no_top}
 use Rattle.oz_machine.proofs.scripts.has_script.Goals as goal
 

@@ -1,5 +1,5 @@
 use Rattle.oz_machine.specs.Courses.{config_of}
-use Rattle.oz_machine.proofs.PlaceLaws.{place_seen}
+use Rattle.oz_acts.proofs.PlaceLaws.{place_seen}
 use Rattle.oz_machine.proofs.SearchLaws.{root_by}
 use Rattle.oz_machine.proofs.searching.root.Goals as goal
 

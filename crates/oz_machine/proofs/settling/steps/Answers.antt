@@ -1,5 +1,5 @@
 use Rattle.oz_machine.proofs.QuietLaws.{nowhere_steps}
-use Rattle.oz_machine.proofs.PlaceLaws.{place_none}
+use Rattle.oz_acts.proofs.PlaceLaws.{place_none}
 use Rattle.oz_machine.proofs.settling.steps.Goals as goal
 
 pub returns-in_default : goal.returns-in_default

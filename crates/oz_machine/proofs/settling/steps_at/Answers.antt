@@ -5,7 +5,7 @@ use Rattle.oz_semantics.specs.Sights.{Sight, can_step}
 use Rattle.oz_semantics.specs.Spaces.{sight}
 use Rattle.oz_semantics.specs.Statements.{code_answer}
 use Rattle.oz_semantics.specs.Readiness.{answer_ready}
-use Rattle.oz_machine.proofs.PlaceLaws.{place_view}
+use Rattle.oz_acts.proofs.PlaceLaws.{place_view}
 use Rattle.oz_machine.proofs.TurnLaws.{top_answers}
 use Rattle.oz_machine.proofs.QuietLaws.{empty_steps}
 use Rattle.oz_machine.proofs.settling.steps_at.Goals as goal

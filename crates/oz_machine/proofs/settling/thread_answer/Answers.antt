@@ -1,4 +1,4 @@
-use Rattle.oz_machine.proofs.PlaceLaws.{place_none}
+use Rattle.oz_acts.proofs.PlaceLaws.{place_none}
 use Rattle.oz_machine.proofs.TurnLaws.{nowhere_answers}
 use Rattle.oz_machine.proofs.settling.thread_answer.Goals as goal
 

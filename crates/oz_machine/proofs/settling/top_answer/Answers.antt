@@ -4,7 +4,7 @@ use Rattle.oz_semantics.specs.Sights.{Sight}
 use Rattle.oz_semantics.specs.Store.{View}
 use Rattle.oz_semantics.specs.Spaces.{sight}
 use Rattle.oz_semantics.specs.Statements.{code_answer, stack_answer}
-use Rattle.oz_machine.proofs.PlaceLaws.{place_view}
+use Rattle.oz_acts.proofs.PlaceLaws.{place_view}
 use Rattle.oz_machine.proofs.TurnLaws.{empty_rests, top_answers, ok_answer}
 use Rattle.oz_machine.proofs.settling.top_answer.Goals as goal
 

@@ -8,7 +8,7 @@ use Rattle.oz_semantics.specs.declared.outcome.State.{State}
 use Rattle.oz_semantics.specs.declared.outcome.State.TheVariants.{Solved, Stuck, Running, Suspended, Failed, Alternatives}
 use Rattle.oz_semantics.specs.declared.configuration.Configuration.{Configuration}
 use Rattle.oz_machine.specs.Answers.{PrintsWithin}
-use Rattle.oz_machine.proofs.PlaceLaws.{place_view}
+use Rattle.oz_acts.proofs.PlaceLaws.{place_view}
 use Rattle.oz_machine.proofs.texts.state_text.Goals as goal
 
 -- a state in which there is nothing to show

@@ -3,7 +3,7 @@ use Rattle.std.specs.Prelude.{unwrap_or}
 use Rattle.std.specs.List.{list_all}
 use Rattle.oz_semantics.specs.Configurations.{is_numbered, new_layer}
 use Rattle.oz_semantics.specs.declared.configuration.Layer.{Layer}
-use Rattle.oz_machine.proofs.PlaceLaws.{place_some, place_none}
+use Rattle.oz_acts.proofs.PlaceLaws.{place_some, place_none}
 use Rattle.oz_machine.proofs.told.is_single.Goals as goal
 
 pub returns-in-None : goal.returns-in-None

@@ -10,7 +10,7 @@ use Rattle.builtins.specs.Answers.{act_of}
 use Rattle.oz_laws.proofs.SameLaws.{and-left, and-right}
 use Rattle.space_core.specs.Telling.{has_below}
 use Rattle.oz_machine.specs.Courses.{config_of, stepping}
-use Rattle.oz_machine.specs.Doings.{is_quiet}
+use Rattle.oz_acts.specs.Doings.{is_quiet}
 use Rattle.oz_machine.proofs.DoingLaws.{done_leaves, done_clashes, fits_popped, ok_turn}
 use Rattle.oz_machine.proofs.QuietLaws.{quiet_done}
 use Rattle.oz_machine.proofs.StepEdits.{effect_popped}

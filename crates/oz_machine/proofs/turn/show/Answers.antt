@@ -5,7 +5,7 @@ use Rattle.oz_semantics.specs.Steps.{shown_by, without_top}
 use Rattle.oz_semantics.specs.Texts.{Printed, term_text}
 use Rattle.settle_laws.proofs.EditLaws.{pop_view}
 use Rattle.oz_machine.specs.Courses.{stepping}
-use Rattle.oz_machine.proofs.PlaceLaws.{place_view}
+use Rattle.oz_acts.proofs.PlaceLaws.{place_view}
 use Rattle.oz_machine.proofs.DoingLaws.{settled_cost}
 use Rattle.oz_machine.proofs.turn.show.Goals as goal
 

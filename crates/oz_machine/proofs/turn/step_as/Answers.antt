@@ -1,4 +1,4 @@
-use Rattle.oz_machine.proofs.PlaceLaws.{place_there}
+use Rattle.oz_acts.proofs.PlaceLaws.{place_there}
 use Rattle.oz_machine.proofs.turn.step_as.Goals as goal
 
 pub make_step-requires : goal.make_step-requires

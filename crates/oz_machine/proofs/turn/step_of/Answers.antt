@@ -5,7 +5,7 @@ use Rattle.oz_semantics.specs.Statements.{stack_answer}
 use Rattle.builtins.specs.Answers.{IsAnswer}
 use Rattle.settle_laws.proofs.SettleLaws.{nothing_fails}
 use Rattle.oz_machine.specs.Courses.{stepping}
-use Rattle.oz_machine.proofs.PlaceLaws.{place_none}
+use Rattle.oz_acts.proofs.PlaceLaws.{place_none}
 use Rattle.oz_machine.proofs.DoingLaws.{nowhere_rests}
 use Rattle.oz_machine.proofs.turn.step_of.Goals as goal
 

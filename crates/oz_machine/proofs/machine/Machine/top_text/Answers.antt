@@ -6,7 +6,7 @@ use Rattle.oz_semantics.specs.Store.{View}
 use Rattle.oz_semantics.specs.Texts.{Printed, term_text}
 use Rattle.oz_machine.specs.Answers.{PrintsWithin}
 use Rattle.oz_machine.specs.Courses.{Loaded}
-use Rattle.oz_machine.proofs.PlaceLaws.{place_view}
+use Rattle.oz_acts.proofs.PlaceLaws.{place_view}
 use Rattle.oz_machine.proofs.machine.Machine.top_text.Goals as goal
 
 pub returns : goal.returns

@@ -1,0 +1,268 @@
+//! What a statement's act does to the layers.
+ghost use Rattle.std.specs.Prelude.{◌≡◌, ◌+◌, true, false, is_some, length, map, option_to_list, IfOk, OnOk, OnErr};
+ghost use Rattle.std.specs.List.{range_with_len};
+ghost use Rattle.environments.specs.Environments.{Environment, binding_all};
+ghost use Rattle.oz_semantics.specs.Names.{named};
+ghost use Rattle.oz_semantics.specs.Terms.{list_term, term_tells};
+ghost use Rattle.oz_semantics.specs.Configurations.{layer_of, layer_at};
+ghost use Rattle.oz_semantics.specs.Effects.{act_effect};
+ghost use Rattle.oz_semantics.specs.Steps.{without_top};
+ghost use Rattle.oz_semantics.specs.Answers as answers;
+ghost use Rattle.builtins.specs.Answers.{act_of};
+ghost use Rattle.oz_acts.specs.Doings.{IsDone, is_quiet, is_shown, started_by};
+
+use crate::numbers::next_of;
+use crate::objects::{exchange, make_cell, make_name, make_port, read_cell, send};
+use builtins::Act;
+use environments::Environment;
+use oz_base::{Copies, Ident, Sequence, Shared, SpaceName};
+use oz_language::{Constant, Identifier};
+use oz_raise::{list_term, term_tells};
+use oz_semantics::{Procedure, Tell, Value};
+use space_core::{Given, Levels};
+use statements::frames_of;
+use std::alloc::{AllocError, Global};
+use std::mem;
+
+/// The number that comes so many after this one. It refuses where that is more than 2^64 - 1.
+fn number_after(from: u64, count: usize) -> Result<u64, AllocError>
+    ensures { IfOk result (λ number. number ≡ from + count) }
+{
+    match from.checked_add(count as u64) {
+        Some(number) => Ok(number),
+        None => Err(AllocError),
+    }
+}
+
+/// The identifiers stand for as many variables of the space, from this number on.
+fn bind_from(
+    alloc: Global,
+    environment: &mut Environment,
+    names: &[Identifier],
+    space: &SpaceName,
+    from: u64,
+) -> Result<(), AllocError>
+    ensures { OnOk result (environment.new ≡ binding_all names.now (map (named space.now) (range_with_len from (length names.now))) environment.old) }
+{
+    let mut left = names.len();
+    'names: while left > 0 {
+        left -= 1;
+        let number = number_after(from, left)?;
+        let space = space.copied(alloc)?;
+        environment.bind(alloc, names[left], Ident { space, number })?;
+    }
+    Ok(())
+}
+
+/// A body goes on, in which the identifiers stand for new variables.
+fn declare(
+    alloc: Global,
+    levels: &mut Levels,
+    id: &Ident,
+    mut environment: Environment,
+    names: &[Identifier],
+    body: &[u32],
+) -> Result<(), AllocError>
+    ensures ok { IfOk result (λ done. IsDone id.now (act_effect (layer_of levels.old id.now.space) (answers.Declares environment names.now body.now)) levels.old levels.new true) }
+    ensures err { OnErr result (levels.new ≡ levels.old) }
+{
+    let next = next_of(levels, &id.space);
+    bind_from(alloc, &mut environment, names, &id.space, next.variable)?;
+    let frames = frames_of(alloc, &environment, body)?;
+    levels.declare(id, frames, names.len() as u64)
+}
+
+/// The variable is the list of these.
+fn give_list(
+    alloc: Global,
+    levels: &mut Levels,
+    id: &Ident,
+    variable: &Ident,
+    items: &[Constant],
+) -> Result<bool, AllocError>
+    requires { is_some (layer_at levels.old id.now.space) ≡ true }
+    ensures ok { IfOk result (IsDone id.now (act_effect (layer_of levels.old id.now.space) (answers.GivesTerm variable.now (list_term items.now))) levels.old levels.new) }
+    ensures err { OnErr result (levels.new ≡ levels.old) }
+{
+    let next = next_of(levels, &id.space);
+    let nodes = list_term(alloc, items)?;
+    let tells = term_tells(alloc, &id.space, next.variable, variable, &nodes)?;
+    let count = nodes.len().saturating_sub(1) as u64;
+    levels.tell_by(alloc, id, &tells, Given::Variables(count))
+}
+
+/// The same environment, with room for the new variables of a procedure that keeps it.
+fn gathered(alloc: Global, mut environment: Environment) -> Result<Environment, AllocError>
+    ensures { IfOk result (λ gathered. gathered ≡ environment) }
+{
+    environment.gather(alloc)?;
+    Ok(environment)
+}
+
+/// The variable is a new procedure.
+fn make_procedure(
+    alloc: Global,
+    levels: &mut Levels,
+    id: &Ident,
+    variable: Ident,
+    parameters: Sequence<Identifier>,
+    body: Sequence<u32>,
+    environment: Environment,
+) -> Result<bool, AllocError>
+    requires { is_some (layer_at levels.old id.now.space) ≡ true }
+    ensures ok { IfOk result (IsDone id.now (act_effect (layer_of levels.old id.now.space) (answers.MakesProcedure variable parameters body environment)) levels.old levels.new) }
+    ensures err { OnErr result (levels.new ≡ levels.old) }
+{
+    let next = next_of(levels, &id.space);
+    let environment = gathered(alloc, environment)?;
+    let procedure = Procedure {
+        name: Ident {
+            space: id.space.copied(alloc)?,
+            number: next.procedure,
+        },
+        parameters,
+        body,
+        environment,
+    };
+    let value = Value::Procedure(Shared::new(alloc, procedure)?);
+    levels.tell_by(alloc, id, &[Tell::Is { variable, value }], Given::Procedure)
+}
+
+/// Takes the statement off the top of a thread's stack, and lets go of it.
+pub fn take_off(levels: &mut Levels, id: &Ident)
+    ensures { levels.new ≡ without_top id.now levels.old }
+{
+    let _frame = levels.pop(id);
+}
+
+/// Whether an act tells its space nothing, and shows nothing.
+pub fn is_quiet(act: &Act) -> bool
+    ensures { result ≡ is_quiet (act_of act.now) }
+{
+    match act {
+        Act::Passes | Act::GoesOn(_) | Act::Declares { .. } | Act::Starts(_) | Act::Writes { .. } =>
+            true,
+        Act::GivesValue { .. }
+        | Act::GivesList { .. }
+        | Act::GivesVariable { .. }
+        | Act::MakesProcedure { .. }
+        | Act::MakesName { .. }
+        | Act::MakesCell { .. }
+        | Act::Reads { .. }
+        | Act::Exchanges { .. }
+        | Act::MakesPort { .. }
+        | Act::Sends { .. }
+        | Act::Shows(_) => false,
+    }
+}
+
+/// The thread that an act starts, if it starts one.
+pub fn started(
+    alloc: Global,
+    levels: &Levels,
+    id: &Ident,
+    act: &Act,
+) -> Result<Option<Ident>, AllocError>
+    ensures { IfOk result (λ started. option_to_list started ≡ started_by id.now.space (layer_of levels.now id.now.space) (act_of act.now)) }
+{
+    match act {
+        Act::Starts(_) => Ok(Some(Ident {
+            space: id.space.copied(alloc)?,
+            number: next_of(levels, &id.space).thread,
+        })),
+        Act::Passes
+        | Act::GoesOn(_)
+        | Act::Declares { .. }
+        | Act::GivesValue { .. }
+        | Act::GivesList { .. }
+        | Act::GivesVariable { .. }
+        | Act::MakesProcedure { .. }
+        | Act::MakesName { .. }
+        | Act::MakesCell { .. }
+        | Act::Reads { .. }
+        | Act::Writes { .. }
+        | Act::Exchanges { .. }
+        | Act::MakesPort { .. }
+        | Act::Sends { .. }
+        | Act::Shows(_) => Ok(None),
+    }
+}
+
+/// Takes the statement off a thread's stack and does what an act says that shows nothing. The act is of no use afterwards. False
+/// exactly where what is told clashes: then nothing was done.
+pub fn act(
+    alloc: Global,
+    levels: &mut Levels,
+    id: &Ident,
+    act: &mut Act,
+) -> Result<bool, AllocError>
+    requires there { is_some (layer_at levels.old id.now.space) ≡ true }
+    requires quiet { is_shown (act_of act.old) ≡ false }
+    ensures ok { IfOk result (IsDone id.now (act_effect (layer_of levels.old id.now.space) (act_of act.old)) levels.old levels.new) }
+    ensures err { OnErr result (levels.new ≡ levels.old) }
+{
+    match mem::replace(act, Act::Passes) {
+        Act::Passes => {
+            take_off(levels, id);
+            Ok(true)
+        }
+        Act::GoesOn(frames) => {
+            levels.go_on(id, frames.into_vec())?;
+            Ok(true)
+        }
+        Act::Declares {
+            environment,
+            names,
+            body,
+        } => {
+            declare(
+                alloc,
+                levels,
+                id,
+                environment,
+                names.as_slice(),
+                body.as_slice(),
+            )?;
+            Ok(true)
+        }
+        Act::Starts(frames) => {
+            levels.start(id, frames.into_vec())?;
+            Ok(true)
+        }
+        Act::GivesValue { variable, value } => {
+            let tell = Tell::Is { variable, value };
+            levels.tell_by(alloc, id, &[tell], Given::Nothing)
+        }
+        Act::GivesList { variable, items } => {
+            give_list(alloc, levels, id, &variable, items.as_slice())
+        }
+        Act::GivesVariable { variable, other } => {
+            let equation = Tell::Equal {
+                left: variable,
+                right: other,
+            };
+            levels.tell_by(alloc, id, &[equation], Given::Nothing)
+        }
+        Act::MakesProcedure {
+            variable,
+            parameters,
+            body,
+            environment,
+        } => make_procedure(alloc, levels, id, variable, parameters, body, environment),
+        Act::MakesName { variable } => make_name(alloc, levels, id, variable),
+        Act::MakesCell { variable, content } => make_cell(alloc, levels, id, variable, content),
+        Act::Reads { cell, variable } => read_cell(alloc, levels, id, cell, variable),
+        Act::Writes { cell, content } => {
+            levels.assign(alloc, id, cell, content)?;
+            Ok(true)
+        }
+        Act::Exchanges {
+            cell,
+            variable,
+            content,
+        } => exchange(alloc, levels, id, cell, variable, content),
+        Act::MakesPort { variable, stream } => make_port(alloc, levels, id, variable, stream),
+        Act::Sends { port, item } => send(alloc, levels, id, port, item),
+        Act::Shows(_) => unreachable!(),
+    }
+}
