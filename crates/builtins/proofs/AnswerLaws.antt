@@ -46,24 +46,42 @@ one_below_three = lit< tt
 two_below : 2 < 3
 two_below = lit< tt
 
-all_three : (view : View) (op : Operation) (x y z : Ident) (f : ℕ → Ident) → f 0 ≡ x → f 1 ≡ y → f 2 ≡ z → of_operation view op (f 0) (f 1) (f 2) ≡ of_operation view op x y z
-all_three view op x y z f h k l =
-    ap (λ a. of_operation view op a (f 1) (f 2)) h ∙ ap (λ a. of_operation view op x a (f 2)) k ∙ ap (λ a. of_operation view op x y a) l
+two_of : (to : Ident → Ident → answers.Answer) (x y : Ident) (f : ℕ → Ident) → f 0 ≡ x → f 1 ≡ y → to (f 0) (f 1) ≡ to x y
+two_of to x y f h k = ap (λ a. to a (f 1)) h ∙ ap (to x) k
+
+three_of : (to : Ident → Ident → Ident → answers.Answer) (x y z : Ident) (f : ℕ → Ident) → f 0 ≡ x → f 1 ≡ y → f 2 ≡ z → to (f 0) (f 1) (f 2) ≡ to x y z
+three_of to x y z f h k l = ap (λ a. to a (f 1) (f 2)) h ∙ ap (λ a. to x a (f 2)) k ∙ ap (to x y) l
 
 -- an operator, by its arguments
 of_given : (view : View) (op : Operation) (x y z : Ident) (f : ℕ → Ident) → Given (builtin.Operation op) x y z f → of_operation view op (f 0) (f 1) (f 2) ≡ of_operation view op x y z
 of_given view operation.Bound x y z f g = refl
 of_given view operation.BoundEach x y z f g = refl
-of_given view op x y z f g = all_three view op x y z f g.first (g.second one_below_three) (g.third two_below)
+of_given view op x y z f g = three_of (of_operation view op) x y z f g.first (g.second one_below_three) (g.third two_below)
+
+-- a built-in of two parameters reads the first two arguments
+of_two : (s : Sight) (b : Builtin) (x y z : Ident) (f : ℕ → Ident) → Given b x y z f → 1 < arguments_of b → answer s b (argument (f 0 ∷ f 1 ∷ z ∷ [])) ≡ answer s b (argument (x ∷ y ∷ z ∷ []))
+of_two s b x y z f g h = two_of (λ a c. answer s b (argument (a ∷ c ∷ z ∷ []))) x y f g.first (g.second h)
+
+-- and one of one parameter the first
+of_one : (s : Sight) (b : Builtin) (x y z : Ident) (f : ℕ → Ident) → Given b x y z f → answer s b (argument (f 0 ∷ y ∷ z ∷ [])) ≡ answer s b (argument (x ∷ y ∷ z ∷ []))
+of_one s b x y z f g = ap (λ a. answer s b (argument (a ∷ y ∷ z ∷ []))) g.first
 
 -- a built-in reads no more arguments than it takes
 pub answer_of_given : (s : Sight) (b : Builtin) (x y z : Ident) (f : ℕ → Ident) → Given b x y z f → answer s b f ≡ answer s b (argument (x ∷ y ∷ z ∷ []))
 answer_of_given s (builtin.Operation op) x y z f g = of_given s.view op x y z f g
-answer_of_given s builtin.Label x y z f g = ap (λ a. answer s builtin.Label (argument (a ∷ f 1 ∷ z ∷ []))) g.first ∙ ap (λ a. answer s builtin.Label (argument (x ∷ a ∷ z ∷ []))) (g.second one_below)
-answer_of_given s builtin.Width x y z f g = ap (λ a. answer s builtin.Width (argument (a ∷ f 1 ∷ z ∷ []))) g.first ∙ ap (λ a. answer s builtin.Width (argument (x ∷ a ∷ z ∷ []))) (g.second one_below)
-answer_of_given s builtin.Arity x y z f g = ap (λ a. answer s builtin.Arity (argument (a ∷ f 1 ∷ z ∷ []))) g.first ∙ ap (λ a. answer s builtin.Arity (argument (x ∷ a ∷ z ∷ []))) (g.second one_below)
-answer_of_given s builtin.Wait x y z f g = ap (λ a. answer s builtin.Wait (argument (a ∷ y ∷ z ∷ []))) g.first
-answer_of_given s builtin.Show x y z f g = ap (λ a. answer s builtin.Show (argument (a ∷ y ∷ z ∷ []))) g.first
+answer_of_given s builtin.Label x y z f g = of_two s builtin.Label x y z f g one_below
+answer_of_given s builtin.Width x y z f g = of_two s builtin.Width x y z f g one_below
+answer_of_given s builtin.Arity x y z f g = of_two s builtin.Arity x y z f g one_below
+answer_of_given s builtin.NewName x y z f g = of_one s builtin.NewName x y z f g
+answer_of_given s builtin.Wait x y z f g = of_one s builtin.Wait x y z f g
+answer_of_given s builtin.NewCell x y z f g = of_two s builtin.NewCell x y z f g one_below
+answer_of_given s builtin.Access x y z f g = of_two s builtin.Access x y z f g one_below
+answer_of_given s builtin.Assign x y z f g = of_two s builtin.Assign x y z f g one_below
+answer_of_given s builtin.Exchange x y z f g =
+    three_of (λ a b c. answer s builtin.Exchange (argument (a ∷ b ∷ c ∷ []))) x y z f g.first (g.second one_below_three) (g.third two_below)
+answer_of_given s builtin.NewPort x y z f g = of_two s builtin.NewPort x y z f g one_below
+answer_of_given s builtin.Send x y z f g = of_two s builtin.Send x y z f g one_below
+answer_of_given s builtin.Show x y z f g = of_one s builtin.Show x y z f g
 
 -- what the first arguments answer
 pub given_so : {E : Type 0} (space : List ℕ) (view : View) (b : Builtin) (x y z : Ident) (r : Result Answer E)
@@ -85,7 +103,14 @@ takes_one (builtin.Operation op) = operator_takes op
 takes_one builtin.Label = lit< tt
 takes_one builtin.Width = lit< tt
 takes_one builtin.Arity = lit< tt
+takes_one builtin.NewName = lit< tt
 takes_one builtin.Wait = lit< tt
+takes_one builtin.NewCell = lit< tt
+takes_one builtin.Access = lit< tt
+takes_one builtin.Assign = lit< tt
+takes_one builtin.Exchange = lit< tt
+takes_one builtin.NewPort = lit< tt
+takes_one builtin.Send = lit< tt
 takes_one builtin.Show = lit< tt
 
 -- a call with as many arguments as the built-in takes

@@ -1,6 +1,7 @@
 -- What calls of built-ins wait for is their inputs alone.
 use Rattle.std.proofs.Common.{◌≡◌, ◌<◌, ◌∷◌, [], ℕ, ℤ, refl, sym, ap, ◌∙◌, Bool, true, false, Option, Some, None, Result, Ok, Err, IfOk, List, length, subst, lit<, get_or, arith, if◌then◌else◌}
 use Rattle.std.specs.List.{list_any}
+use Rattle.oz_base.specs.Lists.{list_eq}
 use Rattle.oz_base.specs.Numbers.{sum, difference, product, quotient, remainder}
 use Rattle.oz_base.specs.declared.names.Ident.{Ident}
 use Rattle.oz_base.specs.declared.numbers.NumFault.{NumFault}
@@ -9,15 +10,16 @@ use Rattle.oz_language.specs.declared.kernel.Operation.{Operation}
 use Rattle.oz_language.specs.declared.kernel.Operation.TheVariants as operation
 use Rattle.oz_language.specs.declared.kernel.Statement.{Statement}
 use Rattle.oz_semantics.specs.Names.{is_top}
-use Rattle.oz_semantics.specs.Values.{fields_of, constant_in, integer_in}
+use Rattle.oz_semantics.specs.Values.{fields_of, constant_in, integer_in, cell_in, port_in}
 use Rattle.oz_semantics.specs.Store.{View, value_of, same}
 use Rattle.oz_semantics.specs.Sights.{Sight, Readiness, Steps, Waits}
-use Rattle.oz_semantics.specs.Answers.{Answer, Acts, RaisesKind, Shows, gives_constant, given, argument, with_value, of_kind}
-use Rattle.oz_semantics.specs.Builtins.{arguments_of, gives_number, gives_field, field_at, selects, label_in, arity_in, of_operation, answer}
+use Rattle.oz_semantics.specs.Answers.{Act, Answer, Acts, RaisesKind, Reads, Writes, Exchanges, Sends, Shows, gives_constant, given, argument, with_value, of_kind}
+use Rattle.oz_semantics.specs.Builtins.{arguments_of, gives_number, gives_field, field_at, selects, label_in, arity_in, own_act, on_cell, of_operation, answer}
 use Rattle.oz_semantics.specs.Readiness.{answer_ready}
 use Rattle.oz_semantics.specs.declared.value.Value.{Value}
 use Rattle.oz_semantics.specs.declared.value.Builtin.{Builtin}
 use Rattle.oz_semantics.specs.declared.value.Builtin.TheVariants as builtin
+use Rattle.oz_semantics.specs.declared.outcome.RaiseKind.{RaiseKind}
 use Rattle.oz_semantics.specs.declared.outcome.RaiseKind.TheVariants as raise
 use Rattle.builtins.specs.Answers.{IsReady}
 use Rattle.builtins.specs.Looks.{Inputs, ready_by, awaiting}
@@ -93,6 +95,33 @@ arity_waits s f = one_waits (f 0) (value_of s.view (f 0)) _ (λ v. kind_steps (a
 
 pub wait_waits : (s : Sight) (f : ℕ → Ident) → answer_ready (answer s builtin.Wait f) ≡ awaiting (f 0) (value_of s.view (f 0)) Steps
 wait_waits s f = one_waits (f 0) (value_of s.view (f 0)) _ (λ v. refl)
+
+-- one's own is used, and another's is refused
+own_steps : (s : Sight) (global : RaiseKind) (act : ℕ → Act) (owner : Ident) → answer_ready (own_act s global act owner) ≡ Steps
+own_steps s global act owner = by (list_eq owner.space s.space)
+  where
+    by : (b : Bool) → answer_ready (if b then Acts (act owner.number) else RaisesKind global) ≡ Steps
+    by true = refl
+    by false = refl
+
+cell_waits : (s : Sight) (x : Ident) (act : ℕ → Act) → answer_ready (on_cell s x act) ≡ awaiting x (value_of s.view x) Steps
+cell_waits s x act =
+    one_waits x (value_of s.view x) (λ v. of_kind (cell_in v) (own_act s raise.GlobalCell act))
+    (λ v. kind_steps (cell_in v) (own_act s raise.GlobalCell act) (own_steps s raise.GlobalCell act))
+
+pub access_waits : (s : Sight) (f : ℕ → Ident) → answer_ready (answer s builtin.Access f) ≡ awaiting (f 0) (value_of s.view (f 0)) Steps
+access_waits s f = cell_waits s (f 0) (λ n. Reads n (f 1))
+
+pub assign_waits : (s : Sight) (f : ℕ → Ident) → answer_ready (answer s builtin.Assign f) ≡ awaiting (f 0) (value_of s.view (f 0)) Steps
+assign_waits s f = cell_waits s (f 0) (λ n. Writes n (f 1))
+
+pub exchange_waits : (s : Sight) (f : ℕ → Ident) → answer_ready (answer s builtin.Exchange f) ≡ awaiting (f 0) (value_of s.view (f 0)) Steps
+exchange_waits s f = cell_waits s (f 0) (λ n. Exchanges n (f 1) (f 2))
+
+pub send_waits : (s : Sight) (f : ℕ → Ident) → answer_ready (answer s builtin.Send f) ≡ awaiting (f 0) (value_of s.view (f 0)) Steps
+send_waits s f =
+    one_waits (f 0) (value_of s.view (f 0)) (λ v. of_kind (port_in v) (own_act s raise.GlobalPort (λ n. Sends n (f 1))))
+    (λ v. kind_steps (port_in v) (own_act s raise.GlobalPort (λ n. Sends n (f 1))) (own_steps s raise.GlobalPort (λ n. Sends n (f 1))))
 
 pub show_steps : (s : Sight) (f : ℕ → Ident) → answer_ready (answer s builtin.Show f) ≡ Steps
 show_steps s f = by (is_top s.space)

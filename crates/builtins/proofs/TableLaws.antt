@@ -2,7 +2,6 @@
 use Rattle.std.proofs.Common.{◌≡◌, ◌∷◌, [], ℕ, refl, ap, sym, ◌∙◌, List, Option, map}
 use Rattle.std.specs.List.{filter_map, cons_option}
 use Rattle.oz_base.specs.Lists.{first}
-use Rattle.oz_semantics.specs.Builtins as builtins
 use Rattle.oz_semantics.specs.Builtins.{rows}
 use Rattle.oz_semantics.specs.declared.value.Builtin.{Builtin}
 use Rattle.builtins.specs.Tables.{row_of, called, named_builtin}

@@ -1,5 +1,6 @@
 -- Answers as values: they say what definitions do, except what a call rests for.
-use Rattle.std.specs.Prelude.{ℕ, ℤ, pos, int_lt, int_le, if◌then◌else◌, List, [], length}
+use Rattle.std.specs.Prelude.{ℕ, ℤ, pos, int_lt, int_le, if◌then◌else◌, List, [], length, Result, Ok, Err}
+use Rattle.oz_base.specs.Lists.{list_eq}
 use Rattle.oz_base.specs.Numbers.{sum, difference, product, quotient, remainder}
 use Rattle.oz_base.specs.declared.names.Ident.{Ident}
 use Rattle.oz_language.specs.declared.kernel.Constant.{Constant}
@@ -8,13 +9,14 @@ use Rattle.oz_language.specs.declared.kernel.Operation.{Operation}
 use Rattle.oz_language.specs.declared.kernel.Operation.TheVariants as operation
 use Rattle.oz_semantics.specs.Names.{is_top}
 use Rattle.oz_semantics.specs.Store.{View}
-use Rattle.oz_semantics.specs.Values.{integer_in, constant_in}
+use Rattle.oz_semantics.specs.Values.{integer_in, constant_in, cell_in, port_in}
 use Rattle.oz_semantics.specs.Terms.{list_term}
 use Rattle.oz_semantics.specs.Sights.{Waits}
 use Rattle.oz_semantics.specs.Answers as answers
 use Rattle.oz_semantics.specs.Answers.{gives_constant, with_value, of_kind}
 use Rattle.oz_semantics.specs.Builtins.{truth, gives_number, gives_field, field_at, selects, label_in, arity_in}
 use Rattle.oz_semantics.specs.declared.value.Value.{Value}
+use Rattle.oz_semantics.specs.declared.outcome.RaiseKind.{RaiseKind}
 use Rattle.oz_semantics.specs.declared.outcome.RaiseKind.TheVariants as raise
 use Rattle.builtins.specs.Answers.{act_of}
 use Rattle.builtins.specs.declared.answer.Answer.{Answer}
@@ -82,3 +84,19 @@ passes v = answers.Acts answers.Passes
 
 abbrev pub shows : List ℕ → Ident → answers.Answer
 shows space x = if is_top space then answers.Acts (answers.Shows x) else answers.RaisesKind raise.GlobalIo
+
+-- Cells and ports, by their numbers; what is another space's is not used
+
+abbrev pub own_act : List ℕ → RaiseKind → (ℕ → answers.Act) → Ident → answers.Answer
+own_act space global act owner = if list_eq owner.space space then answers.Acts (act owner.number) else answers.RaisesKind global
+
+abbrev pub on_cell : List ℕ → (ℕ → answers.Act) → Value → answers.Answer
+on_cell space act v = of_kind (cell_in v) (own_act space raise.GlobalCell act)
+
+abbrev pub on_port : List ℕ → (ℕ → answers.Act) → Value → answers.Answer
+on_port space act v = of_kind (port_in v) (own_act space raise.GlobalPort act)
+
+-- the act with a number, or the answer in its place
+abbrev pub acting : (ℕ → answers.Act) → Result ℕ Answer → answers.Answer
+acting act (Ok n) = answers.Acts (act n)
+acting act (Err a) = answer_of a

@@ -12,7 +12,7 @@ pub record Given (b : Builtin) (x y z : Ident) (given : ℕ → Ident) : Type 0 
   pub second : 1 < arguments_of b → given 1 ≡ y
   pub third : 2 < arguments_of b → given 2 ≡ z
 
--- the inputs of a call are these; the last argument is the output of all that take more than one
+-- the inputs of a call are these; the last argument of all that take more than one is no input that is waited for
 pub record Inputs (b : Builtin) (x y : Ident) (given : ℕ → Ident) : Type 0 where
   pub first : given 0 ≡ x
   pub second : 2 < arguments_of b → given 1 ≡ y

@@ -9,6 +9,7 @@ ghost use Rattle.builtins.specs.Looks.{Given};
 ghost use Rattle.builtins.specs.Exact.{answer_of, erased, gives_label, gives_width, gives_arity, passes, shows};
 
 use crate::answer::{Act, Answer};
+use crate::objects::{access, assign, exchange, new_cell, new_name, new_port, send};
 use crate::operations::of_operation;
 use crate::records::{gives_arity, gives_label, gives_width};
 use oz_base::{Copies, Ident, SpaceName};
@@ -37,7 +38,14 @@ pub fn arguments_of(builtin: Builtin) -> usize
         Builtin::Label => 2,
         Builtin::Width => 2,
         Builtin::Arity => 2,
+        Builtin::NewName => 1,
         Builtin::Wait => 1,
+        Builtin::NewCell => 2,
+        Builtin::Access => 2,
+        Builtin::Assign => 2,
+        Builtin::Exchange => 3,
+        Builtin::NewPort => 2,
+        Builtin::Send => 2,
         Builtin::Show => 1,
     }
 }
@@ -112,7 +120,14 @@ fn answers(
         Builtin::Label => label(alloc, store, first, second),
         Builtin::Width => width(alloc, store, first, second),
         Builtin::Arity => arity(alloc, store, first, second),
+        Builtin::NewName => new_name(alloc, first),
         Builtin::Wait => Ok(wait(store, first)),
+        Builtin::NewCell => new_cell(alloc, first, second),
+        Builtin::Access => access(alloc, store, space, first, second),
+        Builtin::Assign => assign(alloc, store, space, first, second),
+        Builtin::Exchange => exchange(alloc, store, space, first, second, third),
+        Builtin::NewPort => new_port(alloc, first, second),
+        Builtin::Send => send(alloc, store, space, first, second),
         Builtin::Show => show(alloc, space, first),
     }
 }

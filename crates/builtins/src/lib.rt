@@ -9,6 +9,7 @@ mod answer;
 mod calls;
 mod given;
 mod integers;
+mod objects;
 mod operations;
 mod readiness;
 mod records;

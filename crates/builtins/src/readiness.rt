@@ -129,7 +129,14 @@ pub fn ready_given(
         Builtin::Label => ready_one(alloc, store, first),
         Builtin::Width => ready_one(alloc, store, first),
         Builtin::Arity => ready_one(alloc, store, first),
+        Builtin::NewName => Ok(Readiness::Steps),
         Builtin::Wait => ready_one(alloc, store, first),
+        Builtin::NewCell => Ok(Readiness::Steps),
+        Builtin::Access => ready_one(alloc, store, first),
+        Builtin::Assign => ready_one(alloc, store, first),
+        Builtin::Exchange => ready_one(alloc, store, first),
+        Builtin::NewPort => Ok(Readiness::Steps),
+        Builtin::Send => ready_one(alloc, store, first),
         Builtin::Show => Ok(Readiness::Steps),
     }
 }

@@ -51,18 +51,46 @@ static ROWS: [Row; 36] = [
         name: b"Arity",
         builtin: Builtin::Arity,
     },
-    Row::Unserved,
+    Row::Named {
+        word: 6,
+        name: b"NewName",
+        builtin: Builtin::NewName,
+    },
     Row::Named {
         word: 7,
         name: b"Wait",
         builtin: Builtin::Wait,
     },
-    Row::Unserved,
-    Row::Unserved,
-    Row::Unserved,
-    Row::Unserved,
-    Row::Unserved,
-    Row::Unserved,
+    Row::Named {
+        word: 8,
+        name: b"NewCell",
+        builtin: Builtin::NewCell,
+    },
+    Row::Named {
+        word: 9,
+        name: b"Access",
+        builtin: Builtin::Access,
+    },
+    Row::Named {
+        word: 10,
+        name: b"Assign",
+        builtin: Builtin::Assign,
+    },
+    Row::Named {
+        word: 11,
+        name: b"Exchange",
+        builtin: Builtin::Exchange,
+    },
+    Row::Named {
+        word: 12,
+        name: b"NewPort",
+        builtin: Builtin::NewPort,
+    },
+    Row::Named {
+        word: 13,
+        name: b"Send",
+        builtin: Builtin::Send,
+    },
     Row::Unserved,
     Row::Named {
         word: 1,

@@ -95,6 +95,178 @@ fn waits_for_its_input(rt: HostRuntime) -> Result<(), Fail> {
     Ok(())
 }
 
+/// What an answer says of names, cells and ports, by the numbers in it.
+#[derive(Clone, Copy, Debug, PartialEq, Eq)]
+enum Said {
+    Rests,
+    Raises(RaiseKind),
+    MakesName(u64),
+    MakesCell(u64, u64),
+    Reads(u64, u64),
+    Writes(u64, u64),
+    Exchanges(u64, u64, u64),
+    MakesPort(u64, u64),
+    Sends(u64, u64),
+    Other,
+}
+
+fn done(act: &Act) -> Said {
+    match act {
+        Act::MakesName { variable } => Said::MakesName(variable.number),
+        Act::MakesCell { variable, content } => Said::MakesCell(variable.number, content.number),
+        Act::Reads { cell, variable } => Said::Reads(*cell, variable.number),
+        Act::Writes { cell, content } => Said::Writes(*cell, content.number),
+        Act::Exchanges {
+            cell,
+            variable,
+            content,
+        } => Said::Exchanges(*cell, variable.number, content.number),
+        Act::MakesPort { variable, stream } => Said::MakesPort(variable.number, stream.number),
+        Act::Sends { port, item } => Said::Sends(*port, item.number),
+        _ => Said::Other,
+    }
+}
+
+fn in_short(answer: &Answer) -> Said {
+    match answer {
+        Answer::Acts(act) => done(act),
+        Answer::RaisesKind(kind) => Said::Raises(*kind),
+        Answer::RaisesTerm(_) => Said::Other,
+        Answer::Rests => Said::Rests,
+    }
+}
+
+/// Variable 0 is cell 5 of the top, 1 its port 6, and 2 its name 7.
+fn objects(alloc: Global) -> Result<Store, AllocError> {
+    let values = [
+        Value::Cell(variable(5)),
+        Value::Port(variable(6)),
+        Value::Name(variable(7)),
+    ];
+    let mut tells = Vec::new(alloc);
+    for (number, value) in (0..3).zip(Vec::from_array(alloc, values)?) {
+        tells.push(Tell::Is {
+            variable: variable(number),
+            value,
+        })?;
+    }
+    let mut store = Store::new(alloc);
+    store.tell(alloc, tells.as_slice(), &mut Vec::new(alloc))?;
+    Ok(store)
+}
+
+fn variables(alloc: Global, numbers: &[u64]) -> Result<Vec<Ident>, AllocError> {
+    let mut variables = Vec::new(alloc);
+    for number in numbers {
+        variables.push(variable(*number))?;
+    }
+    Ok(variables)
+}
+
+/// What a call with these variables answers in a space.
+fn called(
+    alloc: Global,
+    space: &SpaceName,
+    builtin: Builtin,
+    numbers: &[u64],
+) -> Result<Said, AllocError> {
+    let store = objects(alloc)?;
+    let arguments = variables(alloc, numbers)?;
+    let answer = answer_call(alloc, &store, space, builtin, arguments.as_slice())?;
+    Ok(in_short(&answer))
+}
+
+/// And in the top.
+fn at_top(alloc: Global, builtin: Builtin, numbers: &[u64]) -> Result<Said, AllocError> {
+    called(alloc, &SpaceName::top(), builtin, numbers)
+}
+
+#[test]
+fn names_cells_and_ports_are_made(rt: HostRuntime) -> Result<(), Fail> {
+    let alloc = rt.alloc();
+    assert_eq!(rt; at_top(alloc, Builtin::NewName, &[9])?, Said::MakesName(9));
+    assert_eq!(rt;
+        at_top(alloc, Builtin::NewCell, &[8, 9])?,
+        Said::MakesCell(9, 8)
+    );
+    assert_eq!(rt;
+        at_top(alloc, Builtin::NewPort, &[8, 9])?,
+        Said::MakesPort(9, 8)
+    );
+    Ok(())
+}
+
+#[test]
+fn a_space_uses_its_own(rt: HostRuntime) -> Result<(), Fail> {
+    let alloc = rt.alloc();
+    assert_eq!(rt; at_top(alloc, Builtin::Access, &[0, 9])?, Said::Reads(5, 9));
+    assert_eq!(rt;
+        at_top(alloc, Builtin::Assign, &[0, 8])?,
+        Said::Writes(5, 8)
+    );
+    assert_eq!(rt;
+        at_top(alloc, Builtin::Exchange, &[0, 9, 8])?,
+        Said::Exchanges(5, 9, 8)
+    );
+    assert_eq!(rt; at_top(alloc, Builtin::Send, &[1, 8])?, Said::Sends(6, 8));
+    Ok(())
+}
+
+#[test]
+fn waits_for_the_cell_or_the_port(rt: HostRuntime) -> Result<(), Fail> {
+    let alloc = rt.alloc();
+    assert_eq!(rt; at_top(alloc, Builtin::Access, &[3, 9])?, Said::Rests);
+    assert_eq!(rt; at_top(alloc, Builtin::Assign, &[3, 8])?, Said::Rests);
+    assert_eq!(rt; at_top(alloc, Builtin::Exchange, &[3, 9, 8])?, Said::Rests);
+    assert_eq!(rt; at_top(alloc, Builtin::Send, &[3, 8])?, Said::Rests);
+    Ok(())
+}
+
+#[test]
+fn refuses_what_is_no_cell_or_no_port(rt: HostRuntime) -> Result<(), Fail> {
+    let alloc = rt.alloc();
+    let refused = Said::Raises(RaiseKind::BadKind);
+    assert_eq!(rt; at_top(alloc, Builtin::Access, &[1, 9])?, refused);
+    assert_eq!(rt; at_top(alloc, Builtin::Assign, &[2, 8])?, refused);
+    assert_eq!(rt; at_top(alloc, Builtin::Exchange, &[1, 9, 8])?, refused);
+    assert_eq!(rt; at_top(alloc, Builtin::Send, &[0, 8])?, refused);
+    Ok(())
+}
+
+#[test]
+fn a_child_does_not_use_those_of_the_top(rt: HostRuntime) -> Result<(), Fail> {
+    let alloc = rt.alloc();
+    let child = SpaceName::top().child(alloc, 1)?;
+    let cell = Said::Raises(RaiseKind::GlobalCell);
+    let port = Said::Raises(RaiseKind::GlobalPort);
+    assert_eq!(rt; called(alloc, &child, Builtin::Access, &[0, 9])?, cell);
+    assert_eq!(rt; called(alloc, &child, Builtin::Assign, &[0, 8])?, cell);
+    assert_eq!(rt; called(alloc, &child, Builtin::Exchange, &[0, 9, 8])?, cell);
+    assert_eq!(rt; called(alloc, &child, Builtin::Send, &[1, 8])?, port);
+    Ok(())
+}
+
+/// How many variables a call with these variables of the top waits for.
+fn awaited(alloc: Global, builtin: Builtin, numbers: &[u64]) -> Result<usize, AllocError> {
+    let store = objects(alloc)?;
+    let arguments = variables(alloc, numbers)?;
+    match ready_call(alloc, &store, builtin, arguments.as_slice())? {
+        Readiness::Waits(variables) => Ok(variables.len()),
+        _ => Ok(0),
+    }
+}
+
+#[test]
+fn is_ready_where_the_cell_or_the_port_is_there(rt: HostRuntime) -> Result<(), Fail> {
+    let alloc = rt.alloc();
+    assert_eq!(rt; awaited(alloc, Builtin::NewCell, &[3, 9])?, 0);
+    assert_eq!(rt; awaited(alloc, Builtin::Exchange, &[0, 9, 8])?, 0);
+    assert_eq!(rt; awaited(alloc, Builtin::Exchange, &[3, 9, 8])?, 1);
+    assert_eq!(rt; awaited(alloc, Builtin::Send, &[1, 3])?, 0);
+    assert_eq!(rt; awaited(alloc, Builtin::Send, &[3, 8])?, 1);
+    Ok(())
+}
+
 #[test]
 fn has_a_row_for_each(rt: HostRuntime) -> Result<(), Fail> {
     let named = match rows()[24] {
@@ -108,6 +280,9 @@ fn has_a_row_for_each(rt: HostRuntime) -> Result<(), Fail> {
 #[test]
 fn finds_a_built_in_by_its_name(rt: HostRuntime) -> Result<(), Fail> {
     assert!(rt; matches!(lookup(b"Arity"), Some(Builtin::Arity)));
+    assert!(rt; matches!(lookup(b"NewName"), Some(Builtin::NewName)));
+    assert!(rt; matches!(lookup(b"Exchange"), Some(Builtin::Exchange)));
+    assert!(rt; matches!(lookup(b"Send"), Some(Builtin::Send)));
     assert!(rt; lookup(b"arity").is_none());
     assert!(rt; lookup(b"").is_none());
     Ok(())

@@ -60,6 +60,8 @@ pub fn term(alloc: Global, kind: RaiseKind) -> Result<Vec<Node>, AllocError>
         RaiseKind::Feature => kernel_error(alloc, words::FEATURE),
         RaiseKind::Boolean => kernel_error(alloc, words::BOOLEAN),
         RaiseKind::NoElse => kernel_error(alloc, words::NO_ELSE),
+        RaiseKind::GlobalCell => global_error(alloc, words::CELL),
+        RaiseKind::GlobalPort => global_error(alloc, words::PORT),
         RaiseKind::GlobalIo => global_error(alloc, words::IO),
     }
 }

@@ -34,14 +34,27 @@ fn last_field(tells: &[Tell], place: usize) -> Option<u64> {
     }
 }
 
+/// `error(kernel(globalState X))`, where X is the word with this number.
+fn is_global(nodes: &[Node], what: u32) -> bool {
+    nodes.len() == 4
+        && width_at(nodes, 0) == Some(1)
+        && width_at(nodes, 1) == Some(2)
+        && atom_at(nodes, 2) == Some(46)
+        && atom_at(nodes, 3) == Some(what)
+}
+
 #[test]
 fn makes_the_exception_of_a_child_that_shows(rt: HostRuntime) -> Result<(), Fail> {
     let nodes = term(rt.alloc(), RaiseKind::GlobalIo)?;
-    assert_eq!(rt; nodes.len(), 4);
-    assert_eq!(rt; width_at(&nodes, 0), Some(1));
-    assert_eq!(rt; width_at(&nodes, 1), Some(2));
-    assert_eq!(rt; atom_at(&nodes, 2), Some(46));
-    assert_eq!(rt; atom_at(&nodes, 3), Some(49));
+    assert!(rt; is_global(&nodes, 49));
+    Ok(())
+}
+
+#[test]
+fn makes_those_of_a_child_that_uses_what_is_another_spaces(rt: HostRuntime) -> Result<(), Fail> {
+    let alloc = rt.alloc();
+    assert!(rt; is_global(&term(alloc, RaiseKind::GlobalCell)?, 47));
+    assert!(rt; is_global(&term(alloc, RaiseKind::GlobalPort)?, 48));
     Ok(())
 }
 

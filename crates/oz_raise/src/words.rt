@@ -34,4 +34,8 @@ pub const NO_ELSE: u32 = 40;
 
 pub const GLOBAL_STATE: u32 = 46;
 
+pub const CELL: u32 = 47;
+
+pub const PORT: u32 = 48;
+
 pub const IO: u32 = 49;

@@ -1,5 +1,5 @@
 -- One edit of a space after another, at the place that was looked up.
-use Rattle.std.proofs.Common.{◌≡◌, ℕ, ◌+◌, ◌<◌, ◌≤◌, arith, length, true, false, List, [], ◌∷◌, ◌++◌, slice_set, slice_index_or, refl, sym, ap, subst, ◌∙◌, drop, Option, Some, None, unwrap_or}
+use Rattle.std.proofs.Common.{◌≡◌, ℕ, ◌+◌, ◌<◌, ◌≤◌, arith, length, true, false, List, [], ◌∷◌, ◌++◌, slice_set, slice_index_or, refl, sym, ap, ap₂, subst, ◌∙◌, drop, Option, Some, None, unwrap_or, Bool}
 use Rattle.std.specs.Prelude.{MatchOption}
 use Rattle.std.specs.List.{list_all}
 use Rattle.std.proofs.lemmas.List.{get_or-set_same, get_or_default, set-set, set-get_or, length-set}
@@ -24,7 +24,7 @@ use Rattle.space_core.specs.Giving.{giving, objects_after, after_giving}
 use Rattle.space_core.specs.Places.{IsFirst}
 use Rattle.space_core.specs.Shown.{shown, shown_all, is_home, IsSound, IsQuiet}
 use Rattle.space_core.specs.Stacks.{cut_out}
-use Rattle.space_core.specs.Telling.{has_below, after_giving_at, ToldAt, ClashesAt, HasThread}
+use Rattle.space_core.specs.Telling.{has_below, after_giving_at, IsToldMore, ToldAt, ClashesAt, HasThread}
 use Rattle.space_core.specs.declared.given.Given.{Given}
 use Rattle.space_core.specs.declared.given.Given.TheVariants.{Nothing, Variables, Procedure, Name, Cell, Content, Port, End}
 use Rattle.space_core.specs.declared.level.Level.{Level}
@@ -248,6 +248,24 @@ clash_shows levels value viewed s space place h ts news t = (
   where
     name : t.before.space ≡ space
     name = ap (λ (k : Layer). k.space) (read_shown levels space place h.0 h.1 t.before t.read) ∙ space_of (shown_all levels) space h.0 h.1.found
+
+-- A space that gave something out and then was told
+module _ (levels : List Level) (place : ℕ) (within : place < length levels) (given : Given) (l1 g : Level) (r1 : l1 ≡ slice_index_or levels place l1) (e : g ≡ after_giving given l1)
+    (ts : List Tell) (seen : List Level) (at : seen ≡ slice_set levels place g) (k : Level) (rk : k ≡ slice_index_or (slice_set levels place g) place k)
+    (home : Bool) (homes : home ≡ list_all (λ t. list_all (is_home (shown_all seen) k.space) (named_by t)) ts)
+    (l2 t : Level) (r2 : l2 ≡ slice_index_or (slice_set levels place g) place l2) (told : IsToldMore home ts l2 t) where
+  pub told_at : ToldAt place ts given levels (slice_set (slice_set levels place g) place t)
+  told_at = record {
+    before = l1;
+    told = t;
+    home = home;
+    read = r1;
+    homes = homes
+        ∙ ap₂ (λ (ls : List Level) (s : List ℕ). list_all (λ u. list_all (is_home (shown_all ls) s) (named_by u)) ts) (at ∙ ap (slice_set levels place) e)
+        (ap (λ (n : Level). n.space) (read_set levels place g k within rk ∙ e));
+    tells = subst (λ (n : Level). IsToldMore home ts n t) (read_set levels place g l2 within r2 ∙ e) told;
+    left = ap (λ (n : Level). slice_set (slice_set levels place n) place t) e;
+  }
 
 -- What the cells and ports were, where what is given out changes them
 abbrev pub IsBefore : Given → Contents → Option Contents → Type 0

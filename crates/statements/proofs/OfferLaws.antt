@@ -2,6 +2,7 @@
 use Rattle.std.proofs.Common.{◌≡◌, ◌∷◌, [], ◌-◌, ◌++◌, drop, ℕ, ℤ, refl, sym, ap, ◌∙◌, Bool, true, false, Option, Some, None, Result, Ok, Err, List, length, map, if◌then◌else◌}
 use Rattle.std.specs.Prelude.{◌==◌, slice_get, unwrap_or, option_map}
 use Rattle.std.proofs.lemmas.Option.{slice_get-map}
+use Rattle.oz_base.specs.Lists.{list_eq}
 use Rattle.oz_base.specs.Numbers.{sum, difference, product, quotient, remainder}
 use Rattle.oz_base.specs.declared.names.Ident.{Ident}
 use Rattle.oz_base.specs.declared.numbers.NumFault.{NumFault}
@@ -12,13 +13,13 @@ use Rattle.oz_language.specs.declared.kernel.Operation.TheVariants as operation
 use Rattle.oz_language.specs.declared.kernel.Statement.{Statement}
 use Rattle.oz_language.specs.declared.kernel.Statement.TheVariants as statement
 use Rattle.oz_semantics.specs.Names.{is_top}
-use Rattle.oz_semantics.specs.Values.{fields_of, constant_in, integer_in}
+use Rattle.oz_semantics.specs.Values.{fields_of, constant_in, integer_in, cell_in, port_in}
 use Rattle.oz_semantics.specs.Store.{View, value_of}
 use Rattle.oz_semantics.specs.Entailment.{Equality, Entailed, Contradicted, Undecided, equality}
 use Rattle.oz_semantics.specs.Sights.{Sight, Offer, Bodies, offer_of}
 use Rattle.oz_semantics.specs.Edits.{chosen}
-use Rattle.oz_semantics.specs.Answers.{Answer, Acts, RaisesKind, Shows, gives_constant, argument, given, with_value, of_kind}
-use Rattle.oz_semantics.specs.Builtins.{arguments_of, gives_number, gives_field, field_at, of_equality, label_in, arity_in, of_operation, answer, call_answer}
+use Rattle.oz_semantics.specs.Answers.{Act, Answer, Acts, RaisesKind, Reads, Writes, Exchanges, Sends, Shows, gives_constant, argument, given, with_value, of_kind}
+use Rattle.oz_semantics.specs.Builtins.{arguments_of, gives_number, gives_field, field_at, of_equality, label_in, arity_in, own_act, on_cell, on_port, of_operation, answer, call_answer}
 use Rattle.oz_semantics.specs.Configurations.{frames_of}
 use Rattle.oz_semantics.specs.Matching.{Match, Matches, Differs, MatchWaits, matched}
 use Rattle.oz_semantics.specs.Statements.{value_called, called, branch, clause, numbered_answer}
@@ -28,6 +29,7 @@ use Rattle.oz_semantics.specs.declared.value.Value.{Value}
 use Rattle.oz_semantics.specs.declared.value.Value.TheVariants as value
 use Rattle.oz_semantics.specs.declared.value.Builtin.{Builtin}
 use Rattle.oz_semantics.specs.declared.value.Builtin.TheVariants as builtin
+use Rattle.oz_semantics.specs.declared.outcome.RaiseKind.{RaiseKind}
 use Rattle.oz_semantics.specs.declared.outcome.RaiseKind.TheVariants as raise
 use Rattle.statements.specs.Offers.{alternative_in, alternative_of}
 use Rattle.statements.proofs.ReadyLaws.{procedure_steps, branch_steps}
@@ -86,12 +88,28 @@ operation_quiet view operation.Select x y z =
 operation_quiet view operation.Bound x y z = refl
 operation_quiet view operation.BoundEach x y z = refl
 
+own_quiet : (s : Sight) (global : RaiseKind) (act : ℕ → Act) (owner : Ident) → IsQuiet (own_act s global act owner)
+own_quiet s global act owner = if_quiet (list_eq owner.space s.space) (Acts (act owner.number)) (RaisesKind global) refl refl
+
+cell_quiet : (s : Sight) (x : Ident) (act : ℕ → Act) → IsQuiet (on_cell s x act)
+cell_quiet s x act = given_quiet x (value_of s.view x) _ (λ v. kind_quiet (cell_in v) _ (own_quiet s raise.GlobalCell act))
+
+port_quiet : (s : Sight) (x : Ident) (act : ℕ → Act) → IsQuiet (on_port s x act)
+port_quiet s x act = given_quiet x (value_of s.view x) _ (λ v. kind_quiet (port_in v) _ (own_quiet s raise.GlobalPort act))
+
 builtin_quiet : (s : Sight) (b : Builtin) (f : ℕ → Ident) → IsQuiet (answer s b f)
 builtin_quiet s (builtin.Operation op) f = operation_quiet s.view op (f 0) (f 1) (f 2)
 builtin_quiet s builtin.Label f = given_quiet (f 0) (value_of s.view (f 0)) _ (λ v. kind_quiet (label_in v) (gives_constant (f 1)) (λ c. refl))
 builtin_quiet s builtin.Width f = given_quiet (f 0) (value_of s.view (f 0)) _ (λ v. kind_quiet (arity_in v) _ (λ fs. refl))
 builtin_quiet s builtin.Arity f = given_quiet (f 0) (value_of s.view (f 0)) _ (λ v. kind_quiet (arity_in v) _ (λ fs. refl))
+builtin_quiet s builtin.NewName f = refl
 builtin_quiet s builtin.Wait f = given_quiet (f 0) (value_of s.view (f 0)) _ (λ v. refl)
+builtin_quiet s builtin.NewCell f = refl
+builtin_quiet s builtin.Access f = cell_quiet s (f 0) (λ n. Reads n (f 1))
+builtin_quiet s builtin.Assign f = cell_quiet s (f 0) (λ n. Writes n (f 1))
+builtin_quiet s builtin.Exchange f = cell_quiet s (f 0) (λ n. Exchanges n (f 1) (f 2))
+builtin_quiet s builtin.NewPort f = refl
+builtin_quiet s builtin.Send f = port_quiet s (f 0) (λ n. Sends n (f 1))
 builtin_quiet s builtin.Show f = if_quiet (is_top s.space) (Acts (Shows (f 0))) (RaisesKind raise.GlobalIo) refl refl
 
 call_quiet : (s : Sight) (b : Builtin) (xs : List Ident) → IsQuiet (call_answer s b xs)

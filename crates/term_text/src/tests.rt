@@ -156,6 +156,27 @@ fn a_builtin_procedure(rt: HostRuntime) -> Result<(), Fail> {
     Ok(())
 }
 
+/// `x=v`
+fn is(x: u64, value: Value) -> Tell {
+    Tell::Is {
+        variable: var(x),
+        value,
+    }
+}
+
+#[test]
+fn a_name_a_cell_and_a_port(rt: HostRuntime) -> Result<(), Fail> {
+    let alloc = rt.alloc();
+    let tells = vec![in alloc;
+        tuple(alloc, 0, F, &[1, 2, 3])?,
+        is(1, Value::Name(var(1))),
+        is(2, Value::Cell(var(0))),
+        is(3, Value::Port(var(0))),
+    ]?;
+    assert!(rt; is_text(&text(alloc, tells, 4)?, b"f(<name> <cell> <port>)", 4));
+    Ok(())
+}
+
 #[test]
 fn fields_with_keys(rt: HostRuntime) -> Result<(), Fail> {
     let alloc = rt.alloc();

@@ -1,5 +1,5 @@
-use Rattle.oz_semantics.specs.declared.value.Builtin.TheVariants.{Label, Width, Arity, Wait}
-use Rattle.builtins.proofs.ReadyLaws.{ready_one_input, ready_two_inputs, label_waits, width_waits, arity_waits, wait_waits}
+use Rattle.oz_semantics.specs.declared.value.Builtin.TheVariants.{Label, Width, Arity, Wait, Access, Assign, Exchange, Send}
+use Rattle.builtins.proofs.ReadyLaws.{ready_one_input, ready_two_inputs, label_waits, width_waits, arity_waits, wait_waits, access_waits, assign_waits, exchange_waits, send_waits}
 use Rattle.builtins.proofs.readiness.ready_given.Goals as goal
 
 pub returns-in-Operation : goal.returns-in-Operation
@@ -21,3 +21,19 @@ returns-in-Arity c =
 pub returns-in-Wait : goal.returns-in-Wait
 returns-in-Wait c =
     ready_one_input c.args.store.now c.args.builtin Wait c.args.first.now c.args.second.now c.ready_one-in-Wait.result c.in-Wait.is wait_waits c.ready_one-in-Wait.ensures
+
+pub returns-in-Access : goal.returns-in-Access
+returns-in-Access c =
+    ready_one_input c.args.store.now c.args.builtin Access c.args.first.now c.args.second.now c.ready_one-in-Access.result c.in-Access.is access_waits c.ready_one-in-Access.ensures
+
+pub returns-in-Assign : goal.returns-in-Assign
+returns-in-Assign c =
+    ready_one_input c.args.store.now c.args.builtin Assign c.args.first.now c.args.second.now c.ready_one-in-Assign.result c.in-Assign.is assign_waits c.ready_one-in-Assign.ensures
+
+pub returns-in-Exchange : goal.returns-in-Exchange
+returns-in-Exchange c =
+    ready_one_input c.args.store.now c.args.builtin Exchange c.args.first.now c.args.second.now c.ready_one-in-Exchange.result c.in-Exchange.is exchange_waits c.ready_one-in-Exchange.ensures
+
+pub returns-in-Send : goal.returns-in-Send
+returns-in-Send c =
+    ready_one_input c.args.store.now c.args.builtin Send c.args.first.now c.args.second.now c.ready_one-in-Send.result c.in-Send.is send_waits c.ready_one-in-Send.ensures
