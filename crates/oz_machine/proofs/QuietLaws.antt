@@ -14,8 +14,8 @@ use Rattle.oz_semantics.specs.Sights.{Sight, can_step}
 use Rattle.oz_semantics.specs.Statements.{stack_answer}
 use Rattle.oz_semantics.specs.Readiness.{answer_ready, thread_ready}
 use Rattle.oz_semantics.specs.Spaces.{sight}
-use Rattle.oz_semantics.specs.Changes.{Change, Pushes, Spawns, changed_all}
-use Rattle.oz_semantics.specs.Answers.{Act, Passes, GoesOn, Declares, Starts, GivesValue, GivesTerm, GivesVariable, MakesProcedure, Shows}
+use Rattle.oz_semantics.specs.Changes.{Change, Pushes, Spawns, Holds, changed_all}
+use Rattle.oz_semantics.specs.Answers.{Act, Passes, GoesOn, Declares, Starts, GivesValue, GivesTerm, GivesVariable, MakesProcedure, MakesName, MakesCell, Reads, Writes, Exchanges, MakesPort, Sends, Shows}
 use Rattle.oz_semantics.specs.Effects.{Makes, declared_changes, act_effect}
 use Rattle.oz_acts.specs.Doings.{IsDone, is_quiet, started_by}
 use Rattle.oz_semantics.specs.Settling.{Turned, is_among, mover_in, queue_after, runnable_in, runnable}
@@ -90,13 +90,18 @@ edited_at space edit before (l ∷ ls) e same = by (is_of space l) refl e (λ re
         rw is (ap (λ (b : Bool). cond b (Some (edit before)) (find (is_of space) ls)) same)
     by false t rest more = ap (λ (b : Bool). cond b (Some l) (find (is_of space) (in_layer space edit ls))) t ∙ more rest
 
+-- the layer of the thread that a statement was taken off
+pub popped_layer : (id : Ident) (layers : List Layer) → layer_at layers id.space ≡ Some (layer_of layers id.space)
+    → layer_of (without_top id layers) id.space ≡ with_frames id.number (λ frames. drop 1 frames) (layer_of layers id.space)
+popped_layer id layers at =
+    let pops : Layer → Layer = with_frames id.number (λ (frames : List Frame). drop 1 frames) in
+    ap (λ (o : Option Layer). unwrap_or o (new_layer id.space))
+    (edited_at id.space pops (layer_of layers id.space) layers at (subst (λ s. list_eq s id.space ≡ true) (sym (layer_of_name layers id.space)) (list_eq-equivalence.refl id.space)))
+
 -- what a layer gives out next does not depend on the stacks of its threads
 pub popped_next : (id : Ident) (layers : List Layer) → layer_at layers id.space ≡ Some (layer_of layers id.space)
     → (layer_of (without_top id layers) id.space).next ≡ (layer_of layers id.space).next
-popped_next id layers at =
-    let pops : Layer → Layer = with_frames id.number (λ (frames : List Frame). drop 1 frames) in
-    ap (λ (o : Option Layer). (unwrap_or o (new_layer id.space)).next)
-    (edited_at id.space pops (layer_of layers id.space) layers at (subst (λ s. list_eq s id.space ≡ true) (sym (layer_of_name layers id.space)) (list_eq-equivalence.refl id.space)))
+popped_next id layers at = ap (λ (l : Layer). l.next) (popped_layer id layers at)
 
 -- it is as open as before
 made_open : (id : Ident) (layers result : List Layer) (before : Layer) (news : List Thread) (made : MadeOf id layers result before news) → layer_at layers id.space ≡ Some before → is_of id.space before ≡ true
@@ -280,6 +285,13 @@ quiet_done id l (GivesValue x v) old new e h = absurd (false≢true e)
 quiet_done id l (GivesTerm x t) old new e h = absurd (false≢true e)
 quiet_done id l (GivesVariable x y) old new e h = absurd (false≢true e)
 quiet_done id l (MakesProcedure x parameters body environment) old new e h = absurd (false≢true e)
+quiet_done id l (MakesName x) old new e h = absurd (false≢true e)
+quiet_done id l (MakesCell x content) old new e h = absurd (false≢true e)
+quiet_done id l (Reads n x) old new e h = absurd (false≢true e)
+quiet_done id l (Writes n content) old new e h = record { changes = Holds n content ∷ []; effect = refl; made = h; started = refl }
+quiet_done id l (Exchanges n x content) old new e h = absurd (false≢true e)
+quiet_done id l (MakesPort x stream) old new e h = absurd (false≢true e)
+quiet_done id l (Sends n item) old new e h = absurd (false≢true e)
 quiet_done id l (Shows x) old new e h = absurd (false≢true e)
 
 -- What is kept from turn to turn

@@ -1,5 +1,6 @@
 -- A statement that rests cannot step: it waits or offers.
 use Rattle.std.proofs.Common.{◌≡◌, ◌==◌, ℕ, ℤ, Bool, true, false, if◌then◌else◌, List, [], ◌∷◌, map, length, slice_get, Option, Some, None, Result, Ok, Err, refl}
+use Rattle.oz_base.specs.Lists.{list_eq}
 use Rattle.oz_base.specs.declared.names.Ident.{Ident}
 use Rattle.oz_base.specs.declared.numbers.NumFault.{NumFault}
 use Rattle.oz_base.specs.declared.numbers.NumFault.TheVariants as faults
@@ -14,17 +15,18 @@ use Rattle.oz_language.specs.declared.kernel.Statement.{Statement}
 use Rattle.oz_language.specs.declared.kernel.Statement.TheVariants as statement
 use Rattle.oz_semantics.specs.Names.{is_top}
 use Rattle.oz_semantics.specs.Store.{View, value_of}
-use Rattle.oz_semantics.specs.Values.{integer_in, constant_in, fields_of}
+use Rattle.oz_semantics.specs.Values.{integer_in, constant_in, fields_of, cell_in, port_in}
 use Rattle.oz_semantics.specs.Entailment.{Equality, Entailed, Contradicted, Undecided, equality}
 use Rattle.oz_semantics.specs.Matching.{Match, Matches, Differs, MatchWaits, matched}
 use Rattle.oz_semantics.specs.Sights.{Sight, Readiness, can_step}
-use Rattle.oz_semantics.specs.Answers.{Answer, Acts, RaisesKind, RaisesTerm, Rests, Shows, argument, given, of_kind}
+use Rattle.oz_semantics.specs.Answers.{Act, Answer, Acts, RaisesKind, RaisesTerm, Rests, Reads, Writes, Exchanges, Sends, Shows, argument, given, of_kind}
 use Rattle.oz_semantics.specs.Readiness.{answer_ready}
-use Rattle.oz_semantics.specs.Builtins.{arguments_of, gives_number, with_integers, of_equality, label_in, arity_in, gives_field, field_at, of_operation, answer, call_answer}
+use Rattle.oz_semantics.specs.Builtins.{arguments_of, gives_number, with_integers, of_equality, label_in, arity_in, gives_field, field_at, own_act, on_cell, on_port, of_operation, answer, call_answer}
 use Rattle.oz_semantics.specs.Statements.{procedure_called, value_called, called, literal_branch, constant_branch, branch, clause, statement_answer, numbered_answer, code_answer, stack_answer}
 use Rattle.oz_semantics.specs.declared.configuration.Code.{Code}
 use Rattle.oz_semantics.specs.declared.configuration.Code.TheVariants as code
 use Rattle.oz_semantics.specs.declared.configuration.Frame.{Frame}
+use Rattle.oz_semantics.specs.declared.outcome.RaiseKind.{RaiseKind}
 use Rattle.oz_semantics.specs.declared.outcome.RaiseKind.TheVariants as raise
 use Rattle.oz_semantics.specs.declared.value.Builtin.{Builtin}
 use Rattle.oz_semantics.specs.declared.value.Builtin.TheVariants as builtin
@@ -89,11 +91,27 @@ operation_stays view operation.Select x y z =
 operation_stays view operation.Bound x y z = refl
 operation_stays view operation.BoundEach x y z = refl
 
+own_stays : (s : Sight) (global : RaiseKind) (act : ℕ → Act) (owner : Ident) → Stays (own_act s global act owner)
+own_stays s global act owner = if_stays (list_eq owner.space s.space) (Acts (act owner.number)) (RaisesKind global) tt tt
+
+cell_stays : (s : Sight) (x : Ident) (act : ℕ → Act) → Stays (on_cell s x act)
+cell_stays s x act = given_stays x (value_of s.view x) _ (λ v. kind_stays (cell_in v) _ (own_stays s raise.GlobalCell act))
+
+port_stays : (s : Sight) (x : Ident) (act : ℕ → Act) → Stays (on_port s x act)
+port_stays s x act = given_stays x (value_of s.view x) _ (λ v. kind_stays (port_in v) _ (own_stays s raise.GlobalPort act))
+
 answer_stays : (s : Sight) (b : Builtin) (x : ℕ → Ident) → Stays (answer s b x)
 answer_stays s (builtin.Operation op) x = operation_stays s.view op (x 0) (x 1) (x 2)
 answer_stays s builtin.Label x = given_stays (x 0) (value_of s.view (x 0)) _ (λ v. kind_stays (label_in v) _ (λ l. tt))
 answer_stays s builtin.Width x = given_stays (x 0) (value_of s.view (x 0)) _ (λ v. kind_stays (arity_in v) _ (λ fs. tt))
 answer_stays s builtin.Arity x = given_stays (x 0) (value_of s.view (x 0)) _ (λ v. kind_stays (arity_in v) _ (λ fs. tt))
+answer_stays s builtin.NewName x = tt
+answer_stays s builtin.NewCell x = tt
+answer_stays s builtin.Access x = cell_stays s (x 0) (λ n. Reads n (x 1))
+answer_stays s builtin.Assign x = cell_stays s (x 0) (λ n. Writes n (x 1))
+answer_stays s builtin.Exchange x = cell_stays s (x 0) (λ n. Exchanges n (x 1) (x 2))
+answer_stays s builtin.NewPort x = tt
+answer_stays s builtin.Send x = port_stays s (x 0) (λ n. Sends n (x 1))
 answer_stays s builtin.Wait x = given_stays (x 0) (value_of s.view (x 0)) _ (λ v. tt)
 answer_stays s builtin.Show x = if_stays (is_top s.space) (Acts (Shows (x 0))) (RaisesKind raise.GlobalIo) tt tt
 

@@ -7,7 +7,7 @@ use Rattle.oz_base.specs.ListLaws.{list_eq-equivalence}
 use Rattle.oz_base.specs.declared.names.Ident.{Ident}
 use Rattle.oz_semantics.specs.Names.{is_properly_below, named, parent_of}
 use Rattle.oz_semantics.specs.Configurations.{is_of, is_numbered, layer_at, layer_of, new_layer, thread_at, frames_in, stack_of, in_layer, in_thread, with_frames, telling, giving_out}
-use Rattle.oz_semantics.specs.Answers.{Act, Passes, GoesOn, Declares, Starts, GivesValue, GivesTerm, GivesVariable, MakesProcedure, Shows}
+use Rattle.oz_semantics.specs.Answers.{Act, Passes, GoesOn, Declares, Starts, GivesValue, GivesTerm, GivesVariable, MakesProcedure, MakesName, MakesCell, Reads, Writes, Exchanges, MakesPort, Sends, Shows}
 use Rattle.oz_semantics.specs.Changes.{GivesOut, done}
 use Rattle.oz_semantics.specs.Effects.{act_effect}
 use Rattle.oz_semantics.specs.Exceptions.{raise_term, new_term_tells, with_term, unwound}
@@ -31,7 +31,7 @@ use Rattle.space_core.specs.Advances.{taken_on}
 use Rattle.space_core.specs.Shown.{seen_above}
 use Rattle.oz_machine.specs.Raising.{EndsOver}
 use Rattle.oz_acts.proofs.PlaceLaws.{layer_of_name}
-use Rattle.oz_machine.proofs.QuietLaws.{edited_at, popped_next}
+use Rattle.oz_machine.proofs.QuietLaws.{edited_at, popped_layer, popped_next}
 
 -- A space that is there
 
@@ -200,23 +200,26 @@ ends_told id ts n layers after above settles h = ends_same layers after id.space
 
 -- The effect of an act
 
--- depends on the name of the space and its next numbers alone
-effect_by : (l : Layer) (act : Act) → act_effect l act ≡ act_effect (record (new_layer l.space) { next = l.next }) act
-effect_by l Passes = refl
-effect_by l (GoesOn frames) = refl
-effect_by l (Declares environment names body) = refl
-effect_by l (Starts frames) = refl
-effect_by l (GivesValue x v) = refl
-effect_by l (GivesTerm x t) = refl
-effect_by l (GivesVariable x y) = refl
-effect_by l (MakesProcedure x parameters body environment) = refl
-effect_by l (Shows x) = refl
+-- does not depend on stacks
+effect_same : (number : ℕ) (change : List Frame → List Frame) (l : Layer) (act : Act) → act_effect (with_frames number change l) act ≡ act_effect l act
+effect_same number change l Passes = refl
+effect_same number change l (GoesOn frames) = refl
+effect_same number change l (Declares environment names body) = refl
+effect_same number change l (Starts frames) = refl
+effect_same number change l (GivesValue x v) = refl
+effect_same number change l (GivesTerm x t) = refl
+effect_same number change l (GivesVariable x y) = refl
+effect_same number change l (MakesProcedure x parameters body environment) = refl
+effect_same number change l (MakesName x) = refl
+effect_same number change l (MakesCell x content) = refl
+effect_same number change l (Reads n x) = refl
+effect_same number change l (Writes n content) = refl
+effect_same number change l (Exchanges n x content) = refl
+effect_same number change l (MakesPort x stream) = refl
+effect_same number change l (Sends n item) = refl
+effect_same number change l (Shows x) = refl
 
--- and so not on stacks
 pub effect_popped : (id : Ident) (layers : List Layer) (act : Act) → is_some (layer_at layers id.space) ≡ true
     → act_effect (layer_of (without_top id layers) id.space) act ≡ act_effect (layer_of layers id.space) act
 effect_popped id layers act e =
-    effect_by (layer_of (without_top id layers) id.space) act
-    ∙ ap₂ (λ (s : List ℕ) (k : Next). act_effect (record (new_layer s) { next = k }) act)
-    (layer_of_name (without_top id layers) id.space ∙ sym (layer_of_name layers id.space)) (popped_next id layers (found_there layers id.space e))
-    ∙ sym (effect_by (layer_of layers id.space) act)
+    ap (λ (l : Layer). act_effect l act) (popped_layer id layers (found_there layers id.space e)) ∙ effect_same id.number (λ frames. drop 1 frames) (layer_of layers id.space) act

@@ -9,9 +9,9 @@ use Rattle.oz_base.specs.declared.names.Ident.{Ident}
 use Rattle.oz_language.specs.declared.kernel.Statement.{Statement}
 use Rattle.oz_semantics.specs.Names.{is_properly_below, named}
 use Rattle.oz_semantics.specs.Store.{is_consistent}
-use Rattle.oz_semantics.specs.Answers.{Act, Passes, GoesOn, Declares, Starts, GivesValue, GivesTerm, GivesVariable, MakesProcedure, Shows}
-use Rattle.oz_semantics.specs.Configurations.{is_of, is_numbered, is_open, layer_at, layer_of, new_layer, view, in_layer, with_frames, without_terminated, telling, giving_out, counting_procedure, spawning}
-use Rattle.oz_semantics.specs.Changes.{Change, GivesOut, CountsProcedure, Pushes, Spawns, changed_all, done}
+use Rattle.oz_semantics.specs.Answers.{Act, Passes, GoesOn, Declares, Starts, GivesValue, GivesTerm, GivesVariable, MakesProcedure, MakesName, MakesCell, Reads, Writes, Exchanges, MakesPort, Sends, Shows}
+use Rattle.oz_semantics.specs.Configurations.{is_of, is_numbered, is_open, layer_at, layer_of, new_layer, view, in_layer, with_frames, without_terminated, telling}
+use Rattle.oz_semantics.specs.Changes.{Change, changed, changed_all, done}
 use Rattle.oz_semantics.specs.Effects.{Tells, act_effect}
 use Rattle.oz_semantics.specs.Settling.{Turned, is_inconsistent, inconsistent_spaces, failing, is_among, mover_in, runnable_in, runnable}
 use Rattle.oz_semantics.specs.Steps.{went_on, without_top}
@@ -27,6 +27,7 @@ use Rattle.settle_laws.specs.Settles.{Settles}
 use Rattle.space_core.specs.Telling.{has_below}
 use Rattle.turn_laws.specs.Telling.{IsAlone, others_of, staying}
 use Rattle.view_laws.proofs.QueueLaws.{can_from}
+use Rattle.view_laws.proofs.ChangeLaws.{edit_of, changed_by, edit_keeps}
 use Rattle.turn_laws.specs.Orderly.{AreOrderly}
 use Rattle.turn_laws.proofs.OrderlyLaws.{done_orderly}
 use Rattle.turn_laws.proofs.HeadLaws.{kept_head, kept_layers}
@@ -68,12 +69,10 @@ same_below space other edit (l ∷ ls) names = by (is_of other l) refl (same_bel
 
 changes_below : (space : List ℕ) (id : Ident) (changes : List Change) (layers : List Layer) → has_below (changed_all id changes layers) space ≡ has_below layers space
 changes_below space id [] layers = refl
-changes_below space id (GivesOut n ∷ changes) layers = changes_below space id changes (in_layer id.space (giving_out n) layers) ∙ same_below space id.space (giving_out n) layers (λ l. refl)
-changes_below space id (CountsProcedure ∷ changes) layers = changes_below space id changes (in_layer id.space counting_procedure layers) ∙ same_below space id.space counting_procedure layers (λ l. refl)
-changes_below space id (Pushes frames ∷ changes) layers =
-    changes_below space id changes (in_layer id.space (with_frames id.number (λ rest. frames ++ rest)) layers)
-    ∙ same_below space id.space (with_frames id.number (λ rest. frames ++ rest)) layers (λ l. refl)
-changes_below space id (Spawns frames ∷ changes) layers = changes_below space id changes (in_layer id.space (spawning frames) layers) ∙ same_below space id.space (spawning frames) layers (λ l. refl)
+changes_below space id (change ∷ changes) layers =
+    changes_below space id changes (changed id layers change)
+    ∙ ap (λ ls. has_below ls space) (changed_by id layers change)
+    ∙ same_below space id.space (edit_of id.number change) layers (edit_keeps id.number change).space
 
 pub done_below : (id : Ident) (ts : List Tell) (changes : List Change) (layers : List Layer) → has_below layers id.space ≡ false → has_below (done id ts changes layers) id.space ≡ false
 done_below id ts changes layers e =
@@ -114,13 +113,10 @@ open_edit space edit layers names same h =
 
 open_changes : (id : Ident) (changes : List Change) (layers : List Layer) → IsOpenAt layers id.space → IsOpenAt (changed_all id changes layers) id.space
 open_changes id [] layers h = h
-open_changes id (GivesOut n ∷ changes) layers h = open_changes id changes (in_layer id.space (giving_out n) layers) (open_edit id.space (giving_out n) layers (λ l. refl) (λ l. refl) h)
-open_changes id (CountsProcedure ∷ changes) layers h =
-    open_changes id changes (in_layer id.space counting_procedure layers) (open_edit id.space counting_procedure layers (λ l. refl) (λ l. refl) h)
-open_changes id (Pushes frames ∷ changes) layers h =
-    open_changes id changes (in_layer id.space (with_frames id.number (λ rest. frames ++ rest)) layers)
-    (open_edit id.space (with_frames id.number (λ rest. frames ++ rest)) layers (λ l. refl) (λ l. refl) h)
-open_changes id (Spawns frames ∷ changes) layers h = open_changes id changes (in_layer id.space (spawning frames) layers) (open_edit id.space (spawning frames) layers (λ l. refl) (λ l. refl) h)
+open_changes id (change ∷ changes) layers h =
+    let kept = edit_keeps id.number change in
+    open_changes id changes (changed id layers change)
+    (subst (λ (ls : List Layer). IsOpenAt ls id.space) (sym (changed_by id layers change)) (open_edit id.space (edit_of id.number change) layers kept.space kept.status h))
 
 open_done : (id : Ident) (ts : List Tell) (changes : List Change) (layers : List Layer) → IsOpenAt layers id.space
     → IsOpenAt (in_layer id.space without_terminated (done id ts changes (without_top id layers))) id.space
@@ -208,4 +204,11 @@ told_done id l (GivesValue x v) old new e h = record { tells = _; changes = []; 
 told_done id l (GivesTerm x t) old new e h = record { tells = _; changes = _; effect = refl; fits = h.0; settles = h.1 }
 told_done id l (GivesVariable x y) old new e h = record { tells = _; changes = []; effect = refl; fits = h.0; settles = h.1 }
 told_done id l (MakesProcedure x parameters body environment) old new e h = record { tells = _; changes = _; effect = refl; fits = h.0; settles = h.1 }
+told_done id l (MakesName x) old new e h = record { tells = _; changes = _; effect = refl; fits = h.0; settles = h.1 }
+told_done id l (MakesCell x content) old new e h = record { tells = _; changes = _; effect = refl; fits = h.0; settles = h.1 }
+told_done id l (Reads n x) old new e h = record { tells = _; changes = []; effect = refl; fits = h.0; settles = h.1 }
+told_done id l (Writes n content) old new e h = absurd (false≢true (sym e))
+told_done id l (Exchanges n x content) old new e h = record { tells = _; changes = _; effect = refl; fits = h.0; settles = h.1 }
+told_done id l (MakesPort x stream) old new e h = record { tells = _; changes = _; effect = refl; fits = h.0; settles = h.1 }
+told_done id l (Sends n item) old new e h = record { tells = _; changes = _; effect = refl; fits = h.0; settles = h.1 }
 told_done id l (Shows x) old new e h = absurd h

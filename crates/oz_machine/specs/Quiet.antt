@@ -1,5 +1,5 @@
 -- Steps that told nothing, and the queue after them.
-use Rattle.std.specs.Prelude.{ℕ, ◌≡◌, Bool, true, if◌then◌else◌, List, [], ◌∷◌, Option, Some, None, map, drop}
+use Rattle.std.specs.Prelude.{ℕ, ◌≡◌, Bool, true, false, if◌then◌else◌, List, [], ◌∷◌, Option, Some, None, map, drop}
 use Rattle.oz_base.specs.Lists.{first}
 use Rattle.oz_base.specs.declared.names.Ident.{Ident}
 use Rattle.oz_language.specs.declared.kernel.Statement.{Statement}
@@ -12,10 +12,12 @@ use Rattle.oz_semantics.specs.Spaces.{sight}
 use Rattle.oz_semantics.specs.Changes.{Change}
 use Rattle.oz_semantics.specs.declared.configuration.Thread.{Thread}
 use Rattle.oz_semantics.specs.declared.configuration.Layer.{Layer}
-use Rattle.builtins.specs.Answers.{IsAnswer}
+use Rattle.builtins.specs.Answers.{act_of, IsAnswer}
 use Rattle.builtins.specs.declared.answer.Answer.{Answer}
+use Rattle.builtins.specs.declared.answer.Answer.TheVariants.{Acts, RaisesKind, RaisesTerm, Rests}
 use Rattle.view_laws.specs.Steps.{spawned_from}
 use Rattle.turn_laws.specs.Kept.{IsKept}
+use Rattle.oz_acts.specs.Doings.{is_shown}
 use Rattle.oz_machine.specs.declared.course.Course.{Course}
 
 -- whether the statement on top of a thread's stack can step
@@ -44,6 +46,13 @@ abbrev pub IsHeadAnswer : List Statement → List Layer → List Ident → Optio
 IsHeadAnswer statements layers queue None = Unit {0}
 IsHeadAnswer statements layers queue (Some answer) =
     (id : Ident) → first queue ≡ Some id → IsAnswer (stack_answer (sight statements layers id.space) (stack_of layers id)) answer
+
+-- an answer that shows a text
+abbrev pub shows : Answer → Bool
+shows (Acts act) = is_shown (act_of act)
+shows (RaisesKind kind) = false
+shows (RaisesTerm x) = false
+shows Rests = false
 
 -- the threads that changes start in a space with this layer
 abbrev pub news_of : Layer → List Change → List Thread

@@ -1,5 +1,5 @@
 //! One turn of the machine: the head of the queue makes one step.
-ghost use Rattle.std.specs.Prelude.{◌≡◌, ◌≤◌, ◌<◌, ◌+◌, ◌&&◌, not, true, is_some, length, position, List, IfOk, IfSome, OnErr, Some};
+ghost use Rattle.std.specs.Prelude.{◌≡◌, ◌≤◌, ◌<◌, ◌+◌, ◌&&◌, not, true, false, is_some, length, position, List, IfOk, IfSome, OnErr, Some, MatchOption, option_copied};
 ghost use Rattle.oz_base.specs.Lists.{first};
 ghost use Rattle.oz_language.specs.declared.kernel.Statement.{Statement};
 ghost use Rattle.oz_semantics.specs.Configurations.{is_of, layer_at};
@@ -7,11 +7,13 @@ ghost use Rattle.oz_semantics.specs.Answers as answers;
 ghost use Rattle.oz_semantics.specs.Steps.{without_top, after_answer, shown_by, stepped};
 ghost use Rattle.oz_semantics.specs.Schedule.{turn};
 ghost use Rattle.builtins.specs.Answers.{act_of, IsAnswer};
+ghost use Rattle.builtins.specs.declared.answer.Act;
+ghost use Rattle.builtins.specs.declared.answer.Answer;
 ghost use Rattle.space_core.specs.Telling.{has_below};
 ghost use Rattle.oz_machine.specs.declared.course.Due.TheVariants.{Nobody};
 ghost use Rattle.oz_machine.specs.Courses.{config_of, stepping, Keeps};
-ghost use Rattle.oz_acts.specs.Doings.{is_quiet};
-ghost use Rattle.oz_machine.specs.Quiet.{IsHeadAnswer, KeepsHead};
+ghost use Rattle.oz_acts.specs.Doings.{is_quiet, is_shown};
+ghost use Rattle.oz_machine.specs.Quiet.{IsHeadAnswer, KeepsHead, shows};
 ghost use Rattle.oz_machine.specs.Turns.{cost_of, CostsWithin, HasNotEnded, IsTurn};
 
 use oz_acts::{act, is_quiet, started, take_off};
@@ -55,6 +57,7 @@ fn make_act(
     requires head { first course.old.queue ≡ Some id.now }
     requires there { is_some (layer_at course.old.levels id.now.space) ≡ true }
     requires kept { KeepsHead kernel.now.statements id.now kept course.old }
+    requires shown { is_shown (act_of what.old) ≡ false }
     ensures turn { IfOk result (λ stepped. after_answer kernel.now id.now (without_top id.now course.old.levels) (stepping course.old) (answers.Acts (act_of what.old)) ≡ (stepped, config_of kernel.now.statements course.new)) }
     ensures cost { IfOk result (λ stepped. cost_of stepped ≡ 1) }
     ensures err { OnErr result (course.new ≡ course.old) }
@@ -87,6 +90,7 @@ fn make_step(
     requires head { first course.old.queue ≡ Some id.now }
     requires there { is_some (layer_at course.old.levels id.now.space) ≡ true }
     requires kept { KeepsHead kernel.now.statements id.now kept course.old }
+    requires shown { shows answer.old ≡ false }
     ensures turn { (a : answers.Answer) → IsAnswer a answer.old → IfOk result (λ stepped. after_answer kernel.now id.now (without_top id.now course.old.levels) (stepping course.old) a ≡ (stepped, config_of kernel.now.statements course.new)) }
     ensures cost { IfOk result (λ stepped. cost_of stepped ≡ 1) }
     ensures err { OnErr result (course.new ≡ course.old) }
@@ -164,6 +168,26 @@ fn show(
     }
 }
 
+/// The variable that an act shows, if it shows one.
+fn shown_by(what: &Act) -> Option<&Ident>
+    ensures { MatchOption (option_copied result) (is_shown (act_of what.now) ≡ false) (λ x. what.now ≡ Act.Shows x) }
+{
+    match what {
+        Act::Shows(variable) => Some(variable),
+        _ => None,
+    }
+}
+
+/// The variable that a thread shows by an answer, if it shows one.
+fn shown(answer: &Answer) -> Option<&Ident>
+    ensures { MatchOption (option_copied result) (shows answer.now ≡ false) (λ x. answer.now ≡ Answer.Acts (Act.Shows x)) }
+{
+    match answer {
+        Answer::Acts(what) => shown_by(what),
+        Answer::RaisesKind(_) | Answer::RaisesTerm(_) | Answer::Rests => None,
+    }
+}
+
 /// The thread steps as its statement answered, unless that costs more than the fuel: then nothing changes. The answer is of no use
 /// afterwards.
 fn step_as(
@@ -185,7 +209,7 @@ fn step_as(
     ensures cost { IfOk result (λ turned. IfSome turned (CostsWithin fuel)) }
     ensures err { OnErr result (course.new ≡ course.old) }
 {
-    if let Answer::Acts(Act::Shows(variable)) = &*answer {
+    if let Some(variable) = shown(answer) {
         return show(alloc, kernel, place, id, variable, kept, course, fuel);
     }
     Ok(Some(make_step(alloc, kernel, id, answer, kept, course)?))

@@ -3,4 +3,4 @@ use Rattle.oz_machine.proofs.turn.step_as.Goals as goal
 
 pub make_step-requires : goal.make_step-requires
 make_step-requires c =
-    record { head = c.requires.head; there = place_there c.args.course.now.levels c.args.id.now.space c.args.place c.requires.place; kept = c.requires.kept }
+    record { head = c.requires.head; there = place_there c.args.course.now.levels c.args.id.now.space c.args.place c.requires.place; kept = c.requires.kept; shown = c.in_default.ensures }
