@@ -12,9 +12,7 @@ use oz_lex::{lexemes, one_reading, unquoted};
 use std::alloc::{AllocError, Global};
 
 /// Symbols.
-static TOKENS: [&[u8]; 8] = [
-    b"::", b":::", b"=:", b"\\=:", b"<:", b"=<:", b">:", b">=:",
-];
+static TOKENS: [&[u8]; 8] = [b"::", b":::", b"=:", b"\\=:", b"<:", b"=<:", b">:", b">=:"];
 
 /// Variables, whether the text binds them itself or not.
 static NAMES: [&[u8]; 9] = [
