@@ -7,7 +7,7 @@ use Rattle.std.proofs.lemmas.List.Filters.{length-filter_both}
 use Rattle.oz_base.specs.Lists.{is_empty, list_eq}
 use Rattle.oz_language.specs.declared.kernel.Statement.{Statement}
 use Rattle.oz_semantics.specs.Store.{View}
-use Rattle.oz_semantics.specs.Configurations.{is_of, is_open}
+use Rattle.oz_semantics.specs.Configurations.{is_of, is_open, view}
 use Rattle.oz_semantics.specs.Sights.{waits_of}
 use Rattle.oz_semantics.specs.Readiness.{thread_ready}
 use Rattle.oz_semantics.specs.Triggers.{is_needed, is_needed_in, beginning, fired, has_needed, fired_for}
@@ -17,7 +17,7 @@ use Rattle.oz_laws.proofs.SameLaws.{In}
 use Rattle.view_laws.specs.Needs.{NoneNeeded}
 use Rattle.view_laws.proofs.Members.{or_cases}
 use Rattle.view_laws.proofs.ListLaws.{filter_all, filter_none}
-use Rattle.need_laws.specs.Needs.{AllFire, has_triggers, NoneThere, NoneLeft, UnneededStays}
+use Rattle.need_laws.specs.Needs.{has_triggers, NoneThere, NoneLeft, UnneededStays}
 use Rattle.need_laws.proofs.FireLaws.{fires_fired, all_round}
 use Rattle.need_laws.proofs.AfterLaws.{fired_view}
 
@@ -27,7 +27,7 @@ or_none : (a b : Bool) → (a || b) ≡ false → (a ≡ false) × (b ≡ false)
 or_none true b e = absurd (false≢true (sym e))
 or_none false b e = (refl, e)
 
-none_in : {A : Type 0} (p : A → Bool) (xs : List A) → list_any p xs ≡ false → (x : A) → In x xs → p x ≡ false
+pub none_in : {A : Type 0} (p : A → Bool) (xs : List A) → list_any p xs ≡ false → (x : A) → In x xs → p x ≡ false
 none_in p [] e x h = elim h [ ]
 none_in p (y ∷ ys) e x (inl k) = ap p (sym k) ∙ (or_none (p y) (list_any p ys) e).0
 none_in p (y ∷ ys) e x (inr h) = none_in p ys (or_none (p y) (list_any p ys) e).1 x h
@@ -115,8 +115,8 @@ abbrev needed_by : List Statement → Layer → View → Bool
 needed_by statements l v =
     list_any (λ t. is_open l.status && is_needed v (flat_map waits_of (if is_open l.status then map (thread_ready (record { statements = statements; space = l.space; view = v })) l.threads else [])) t) l.triggers
 
-needed_again : (statements : List Statement) (layers after : List Layer) (l : Layer) → AllFire layers after → has_needed statements after l ≡ has_needed statements layers l
-needed_again statements layers after l f = ap (needed_by statements l) (fired_view layers after l.space f)
+pub needed_same : (statements : List Statement) (layers after : List Layer) (l : Layer) → view after l.space ≡ view layers l.space → has_needed statements after l ≡ has_needed statements layers l
+needed_same statements layers after l e = ap (needed_by statements l) e
 
 unneeded_same : (statements : List Statement) (layers : List Layer) (l : Layer) → has_needed statements layers l ≡ false → fired statements layers l ≡ l
 unneeded_same statements layers l e =
@@ -143,7 +143,7 @@ stays_for statements (suc n) layers space l at e =
     by (list_any (has_needed statements layers) layers)
     (stays_for statements n (map (fired statements layers) layers) space l
     (found_map (fired statements layers) (λ k. (fires_fired statements layers k).space) space layers l at ∙ ap (λ (m : Layer). Some m) (unneeded_same statements layers l e))
-    (needed_again statements layers (map (fired statements layers) layers) l (all_round statements layers) ∙ e))
+    (needed_same statements layers (map (fired statements layers) layers) l (fired_view layers (map (fired statements layers) layers) l.space (all_round statements layers)) ∙ e))
   where
     by : (b : Bool) → find (is_of space) (fired_for statements n (map (fired statements layers) layers)) ≡ Some l
         → find (is_of space) (if b then fired_for statements n (map (fired statements layers) layers) else layers) ≡ Some l
