@@ -34,7 +34,7 @@ none_of p xs e x h = elim (decide (p x)) [ inl k ↦ absurd (not_both _ (by_some
 
 -- Two layers of one name stand at one place
 
-other_name : (ls : List Layer) (k p : ℕ) (a b : Layer) → is_ascending (names_of ls) ≡ true → k < length ls → p < length ls → get_or ls k a ≡ a → get_or ls p b ≡ b → k ≢ p → a.space ≡ b.space → ⊥
+pub other_name : (ls : List Layer) (k p : ℕ) (a b : Layer) → is_ascending (names_of ls) ≡ true → k < length ls → p < length ls → get_or ls k a ≡ a → get_or ls p b ≡ b → k ≢ p → a.space ≡ b.space → ⊥
 other_name [] k p a b o l m e f n q = absurd (omega arith)
 other_name (c ∷ ls) zero zero a b o l m e f n q = n refl
 other_name (c ∷ ls) zero (suc p) a b o l m e f n q =

@@ -1,10 +1,11 @@
 //! By-need computations of a space that begin.
-ghost use Rattle.std.specs.Prelude.{◌≡◌, false, not, slice_index_or, IfOk, OnOk};
+ghost use Rattle.std.specs.Prelude.{◌≡◌, false, not, slice_index_or, IfOk, OnOk, OnErr};
 ghost use Rattle.std.specs.List.{list_any, fold};
 ghost use Rattle.oz_base.specs.Lists.{is_empty};
+ghost use Rattle.need_laws.specs.Needs.{has_triggers};
 ghost use Rattle.oz_semantics.specs.Triggers.{beginning};
 ghost use Rattle.space_core.specs.Firing.{marked, unmarked, firing};
-ghost use Rattle.space_core.specs.Shown.{IsQuiet};
+ghost use Rattle.space_core.specs.Shown.{shown_all, IsQuiet, IsChanged};
 ghost use Rattle.space_core.specs.declared.level.Level.{Level};
 
 use crate::edits::spawn;
@@ -17,14 +18,20 @@ use std::alloc::{AllocError, Global};
 fn has_trigger(level: &Level) -> bool
     ensures { result ≡ not (is_empty level.now.triggers) }
 {
-    !level.triggers.as_slice().is_empty()
+    level.triggers.as_slice().first().is_some()
 }
 
-/// Whether a space has by-need computations that have not begun.
-pub fn any_trigger(levels: &[Level]) -> bool
+fn any_level(levels: &[Level]) -> bool
     ensures { result ≡ list_any (λ (l : Level). not (is_empty l.triggers)) levels.now }
 {
     levels.iter().any(has_trigger)
+}
+
+/// Whether a space has by-need computations that have not begun.
+pub fn has_triggers(levels: &[Level]) -> bool
+    ensures { result ≡ has_triggers (shown_all levels.now) }
+{
+    any_level(levels)
 }
 
 /// Whether there is a mark at this place.
@@ -70,7 +77,8 @@ fn unmarked(
 
 /// A thread begins that applies the procedure of a trigger to its variable.
 fn begin(alloc: Global, level: &mut Level, trigger: &Trigger) -> Result<(), AllocError>
-    ensures { OnOk result (IsQuiet (λ l. beginning l trigger.now) level.old level.new) }
+    ensures ok { OnOk result (IsQuiet (λ l. beginning l trigger.now) level.old level.new) }
+    ensures err { OnErr result (level.new ≡ level.old) }
 {
     let mut frames = Vec::new(alloc);
     frames.push(Frame {
@@ -85,7 +93,8 @@ fn begin(alloc: Global, level: &mut Level, trigger: &Trigger) -> Result<(), Allo
 
 /// A thread begins for each of these triggers, one after another.
 fn begin_all(alloc: Global, level: &mut Level, triggers: &[Trigger]) -> Result<(), AllocError>
-    ensures { OnOk result (IsQuiet (λ l. fold beginning l triggers.now) level.old level.new) }
+    ensures ok { OnOk result (IsQuiet (λ l. fold beginning l triggers.now) level.old level.new) }
+    ensures err { OnErr result (IsChanged level.old level.new) }
 {
     for trigger in triggers {
         begin(alloc, level, trigger)?;
@@ -95,7 +104,8 @@ fn begin_all(alloc: Global, level: &mut Level, triggers: &[Trigger]) -> Result<(
 
 /// The marked triggers of the space begin, one after another, and leave it.
 pub fn fire(alloc: Global, level: &mut Level, marks: &[bool]) -> Result<(), AllocError>
-    ensures { OnOk result (IsQuiet (firing marks.now) level.old level.new) }
+    ensures ok { OnOk result (IsQuiet (firing marks.now) level.old level.new) }
+    ensures err { OnErr result (IsChanged level.old level.new) }
 {
     let begun = marked(alloc, level.triggers.as_slice(), marks)?;
     level.triggers = unmarked(alloc, level.triggers.as_slice(), marks)?;

@@ -16,7 +16,7 @@ ghost use Rattle.space_core.specs.Firing.{firing, at_place};
 ghost use Rattle.space_core.specs.Shown.{seen_above};
 
 use crate::advances::{tell_at, tell_under};
-use crate::firing::{self, any_trigger};
+use crate::firing::{fire, has_triggers};
 use crate::given::Given;
 use crate::homes::{all_home, has_below};
 use crate::level::{Level, top_level};
@@ -368,7 +368,7 @@ impl Levels {
     pub fn has_triggers(&self) -> bool
         ensures { result ≡ has_triggers self.now }
     {
-        any_trigger(self.levels.as_slice())
+        has_triggers(self.levels.as_slice())
     }
 
     /// The by-need computations of the space at a place that have not begun, in the order in which they came.
@@ -397,7 +397,7 @@ impl Levels {
         requires { place < length self.old }
         ensures ok { OnOk result (self.new ≡ at_place place (firing marks.now) self.old) }
     {
-        firing::fire(alloc, &mut self.levels[place], marks)
+        fire(alloc, &mut self.levels[place], marks)
     }
 
     /// The statement on top of a thread's stack is taken off, its space is told this and gives out what comes with it, its cells and
