@@ -99,7 +99,7 @@ fn rounds(
     ensures { IfOk result (λ after. unwrap_or after levels.now ≡ fired_for statements.now most levels.now) }
 {
     let mut after = None;
-    for _ in 0..most {
+    'passes: for _ in 0..most {
         match round(alloc, statements, latest(&after, levels))? {
             None => return Ok(after),
             Some(next) => after = Some(next),

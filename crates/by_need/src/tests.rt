@@ -131,6 +131,6 @@ fn needs_what_is_determined_or_equal(rt: HostRuntime) -> Result<(), Fail> {
     assert!(rt; store.tell(alloc, &[one, equal], &mut touched)?);
     let triggers = &[trigger(7, 1), trigger(7, 2), trigger(7, 4)];
     let marks = needed(alloc, &store, triggers, &[of_top(3)])?;
-    assert!(rt; marks.as_slice() == &[true, true, false]);
+    assert!(rt; marks.as_slice() == [true, true, false].as_slice());
     Ok(())
 }

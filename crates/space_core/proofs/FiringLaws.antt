@@ -1,8 +1,8 @@
 -- By-need computations of a space that begin, at the place of the space.
-use Rattle.std.proofs.Common.{◌≡◌, inl, inr, ℕ, zero, suc, ◌+◌, ◌<◌, nat_eq, Bool, true, false, if◌then◌else◌, List, [], ◌∷◌, ◌++◌, length, take, get_or, slice_set, slice_index_or, refl, sym, ap, subst, ◌∙◌, arith, Option, Some, None, Result, Ok, Err}
+use Rattle.std.proofs.Common.{◌≡◌, inl, inr, ℕ, zero, suc, ◌+◌, ◌<◌, nat_eq, Bool, true, false, if◌then◌else◌, List, [], ◌∷◌, ◌++◌, length, take, get_or, slice_set, slice_index_or, refl, sym, ap, ap₂, subst, ◌∙◌, arith, Option, Some, None, Result, Ok, Err}
 use Rattle.std.specs.Prelude.{OnOk, OnErr, position}
 use Rattle.std.specs.List.{fold}
-use Rattle.std.proofs.lemmas.List.{get_or-map, map-set, length-map, take_more}
+use Rattle.std.proofs.lemmas.List.{get_or-map, map-set, length-map, take_more, append-nil}
 use Rattle.oz_semantics.specs.Configurations.{is_of, layer_at}
 use Rattle.oz_semantics.specs.Triggers.{beginning}
 use Rattle.oz_semantics.specs.declared.configuration.Trigger.{Trigger}
@@ -49,17 +49,42 @@ unmarked_suc (suc n) [] (x ∷ xs) t within e = ap (λ ys. x ∷ ys) (unmarked_s
 unmarked_suc (suc n) (true ∷ marks) (x ∷ xs) t within e = unmarked_suc n marks xs t (omega (arith, within)) e
 unmarked_suc (suc n) (false ∷ marks) (x ∷ xs) t within e = ap (λ ys. x ∷ ys) (unmarked_suc n marks xs t (omega (arith, within)) e)
 
-pub marked_more : (marks : List Bool) (ts : List Trigger) (n : ℕ) (t : Trigger) → n < length ts → t ≡ get_or ts n t → (b : Bool) → b ≡ get_or marks n false
+-- an item stands at each place within a list
+item_in : (ts : List Trigger) (n : ℕ) → n < length ts → (t : Trigger) × (t ≡ get_or ts n t)
+item_in [] n h = absurd (omega (arith, h))
+item_in (x ∷ xs) zero h = (x, refl)
+item_in (x ∷ xs) (suc n) h = item_in xs n (omega (arith, h))
+
+marked_more : (marks : List Bool) (ts : List Trigger) (n : ℕ) (t : Trigger) → n < length ts → t ≡ get_or ts n t → (b : Bool) → b ≡ get_or marks n false
     → marked marks (take (n + 1) ts) ≡ marked marks (take n ts) ++ (if b then t ∷ [] else [])
 marked_more marks ts n t within e b k =
     let more : n + 1 ≡ suc n = omega arith in
     ap (λ i. marked marks (take i ts)) more ∙ marked_suc n marks ts t within e ∙ ap (λ c. marked marks (take n ts) ++ (if c then t ∷ [] else [])) (sym k)
 
-pub unmarked_more : (marks : List Bool) (ts : List Trigger) (n : ℕ) (t : Trigger) → n < length ts → t ≡ get_or ts n t → (b : Bool) → b ≡ get_or marks n false
+unmarked_more : (marks : List Bool) (ts : List Trigger) (n : ℕ) (t : Trigger) → n < length ts → t ≡ get_or ts n t → (b : Bool) → b ≡ get_or marks n false
     → unmarked marks (take (n + 1) ts) ≡ unmarked marks (take n ts) ++ (if b then [] else t ∷ [])
 unmarked_more marks ts n t within e b k =
     let more : n + 1 ≡ suc n = omega arith in
     ap (λ i. unmarked marks (take i ts)) more ∙ unmarked_suc n marks ts t within e ∙ ap (λ c. unmarked marks (take n ts) ++ (if c then [] else t ∷ [])) (sym k)
+
+-- one that is marked, and one that is not
+pub marked_joins : (marks : List Bool) (ts : List Trigger) (n : ℕ) (t : Trigger) → n < length ts → t ≡ get_or ts n t → (old new : List Trigger) (y : Trigger) → old ≡ marked marks (take n ts)
+    → new ≡ old ++ y ∷ [] → y ≡ t → true ≡ get_or marks n false → new ≡ marked marks (take (n + 1) ts)
+marked_joins marks ts n t within e old new y o a same k =
+    a ∙ ap₂ (λ (xs : List Trigger) (x : Trigger). xs ++ x ∷ []) o same ∙ sym (marked_more marks ts n t within e true k)
+
+pub marked_passes : (marks : List Bool) (ts : List Trigger) (n : ℕ) → n < length ts → (old : List Trigger) → old ≡ marked marks (take n ts) → false ≡ get_or marks n false → old ≡ marked marks (take (n + 1) ts)
+marked_passes marks ts n within old o k =
+    let item = item_in ts n within in o ∙ sym (append-nil (marked marks (take n ts))) ∙ sym (marked_more marks ts n item.0 within item.1 false k)
+
+pub unmarked_joins : (marks : List Bool) (ts : List Trigger) (n : ℕ) (t : Trigger) → n < length ts → t ≡ get_or ts n t → (old new : List Trigger) (y : Trigger) → old ≡ unmarked marks (take n ts)
+    → new ≡ old ++ y ∷ [] → y ≡ t → false ≡ get_or marks n false → new ≡ unmarked marks (take (n + 1) ts)
+unmarked_joins marks ts n t within e old new y o a same k =
+    a ∙ ap₂ (λ (xs : List Trigger) (x : Trigger). xs ++ x ∷ []) o same ∙ sym (unmarked_more marks ts n t within e false k)
+
+pub unmarked_passes : (marks : List Bool) (ts : List Trigger) (n : ℕ) → n < length ts → (old : List Trigger) → old ≡ unmarked marks (take n ts) → true ≡ get_or marks n false → old ≡ unmarked marks (take (n + 1) ts)
+unmarked_passes marks ts n within old o k =
+    let item = item_in ts n within in o ∙ sym (append-nil (unmarked marks (take n ts))) ∙ sym (unmarked_more marks ts n item.0 within item.1 true k)
 
 -- Threads that begin
 
@@ -73,6 +98,10 @@ began_more ts n t k l m within e p q =
     subst (λ (f : Layer → Layer). IsQuiet f k m)
     (λ i j. sym (ap (fold beginning j) (take_more ts n t within ∙ ap (λ (y : Trigger). take n ts ++ y ∷ []) (sym e)) ∙ fold_end (take n ts) t j) i)
     (quiet_twice (λ j. fold beginning j (take n ts)) (λ j. beginning j t) k l m p q)
+
+-- nothing is changed
+pub nothing_yet : (l : Level) → IsQuiet (λ k. k) l l
+nothing_yet l = record { becomes = refl; space = refl; store = refl; told_from = refl; touched = refl; traced = refl; variables = omega arith; children = omega arith }
 
 -- other triggers are left
 pub left_quietly : (l : Level) (left : List Trigger) → IsQuiet (λ k. record k { triggers = left }) l (record l { triggers = left })
@@ -96,11 +125,21 @@ pub changed_quietly : (l m : Level) (left : List Trigger) → IsChanged (record 
 changed_quietly l m left h =
     (λ k. h.0 (record k { triggers = left }), quiet_twice (λ k. record k { triggers = left }) h.0 l (record l { triggers = left }) m (left_quietly l left) h.1)
 
+pub changed_so_far : (change : Layer → Layer) (k l m : Level) → IsQuiet change k l → m ≡ l → IsChanged k m
+changed_so_far change k l m q e = (change, subst (IsQuiet change k) (sym e) q)
+
 pub nothing_changed : (l m : Level) → m ≡ l → IsChanged l m
-nothing_changed l m e = (
-  (λ k. k),
-  subst (IsQuiet (λ k. k) l) (sym e) (record { becomes = refl; space = refl; store = refl; told_from = refl; touched = refl; traced = refl; variables = omega arith; children = omega arith }),
-)
+nothing_changed l m e = ((λ k. k), subst (IsQuiet (λ k. k) l) (sym e) (nothing_yet l))
+
+-- by what a call answers
+pub fired_result : {A E : Type 0} (marks : List Bool) (l m : Level) (begun left : List Trigger) → begun ≡ marked marks l.triggers → left ≡ unmarked marks l.triggers → (r : Result A E)
+    → OnOk r (IsQuiet (λ k. fold beginning k begun) (record l { triggers = left }) m) → OnOk r (IsQuiet (firing marks) l m)
+fired_result marks l m begun left b e (Ok a) q = fired_quietly marks l m begun left b e q
+fired_result marks l m begun left b e (Err a) q = q
+
+pub changed_result : {A E : Type 0} (l m : Level) (left : List Trigger) (r : Result A E) → OnErr r (IsChanged (record l { triggers = left }) m) → OnErr r (IsChanged l m)
+changed_result l m left (Ok a) q = q
+changed_result l m left (Err a) q = changed_quietly l m left q
 
 -- The place of a space
 
