@@ -1,10 +1,15 @@
 -- What a round comes to.
-use Rattle.std.proofs.Common.{◌≡◌, ℕ, zero, suc, ◌+◌, ◌<◌, Bool, true, false, not, ◌||◌, cond, if◌then◌else◌, List, [], ◌∷◌, map, filter, length, take, get_or, Some, None, refl, sym, ap, ap₂, ◌∙◌, arith}
-use Rattle.std.specs.List.{list_any, fold}
+use Rattle.std.proofs.Common.{◌≡◌, ℕ, zero, suc, ◌+◌, ◌<◌, Bool, true, false, not, ◌||◌, cond, if◌then◌else◌, List, [], ◌∷◌, ◌++◌, map, filter, length, take, get_or, Some, None, refl, sym, ap, ap₂, ◌∙◌, arith}
+use Rattle.std.specs.Prelude.{slice_get}
+use Rattle.std.specs.List.{list_any, fold, sum_by}
+use Rattle.std.proofs.lemmas.List.{take_more, map_push}
+use Rattle.std.proofs.lemmas.List.Sums.{sum_by_more}
+use Rattle.std.proofs.lemmas.Option.{get_or_from_slice_get}
 use Rattle.oz_language.specs.declared.kernel.Statement.{Statement}
 use Rattle.oz_semantics.specs.Triggers.{is_needed_in, beginning, fired, has_needed, fired_for}
 use Rattle.oz_semantics.specs.declared.configuration.Trigger.{Trigger}
 use Rattle.oz_semantics.specs.declared.configuration.Layer.{Layer}
+use Rattle.oz_threads.proofs.PlaceLaws.{item_at}
 use Rattle.space_core.specs.Firing.{marked, unmarked, firing, at_place}
 use Rattle.by_need.specs.Rounds.{is_mark, fire_each, IsRound}
 
@@ -65,6 +70,21 @@ pub length_each : (marks : List (List Bool)) (ls : List Layer) → length (fire_
 length_each [] ls = refl
 length_each (m ∷ ms) [] = refl
 length_each (m ∷ ms) (l ∷ ls) = omega (arith, length_each ms ls)
+
+-- Gathered, place by place
+pub mapped_more : {A B : Type 0} (f : A → B) (xs : List A) (n : ℕ) → n < length xs → (old new : List B) (y : B) → old ≡ map f (take n xs) → new ≡ old ++ y ∷ []
+    → ((x : A) → slice_get xs n ≡ Some x → y ≡ f x) → new ≡ map f (take (n + 1) xs)
+mapped_more f xs n within old new y o a made =
+    let item = item_at xs n within in
+    let here = get_or_from_slice_get xs n item.0 item.0 item.1 in
+    a ∙ ap₂ (λ ys z. ys ++ z ∷ []) o (made item.0 item.1) ∙ sym (map_push f (take n xs) item.0) ∙ ap (λ x. map f (take n xs ++ x ∷ [])) (sym here) ∙ ap (λ ys. map f ys) (sym (take_more xs n item.0 within))
+
+pub counted_more : (f : Layer → ℕ) (xs : List Layer) (n : ℕ) → n < length xs → (old new y : ℕ) → old ≡ sum_by f (take n xs) → new ≡ old + y
+    → ((x : Layer) → slice_get xs n ≡ Some x → y ≡ f x) → new ≡ sum_by f (take (n + 1) xs)
+counted_more f xs n within old new y o a made =
+    let item = item_at xs n within in
+    let here = get_or_from_slice_get xs n item.0 item.0 item.1 in
+    a ∙ ap₂ (λ b d. b + d) o (made item.0 item.1) ∙ ap (λ (x : Layer). sum_by f (take n xs) + f x) (sym here) ∙ sym (sum_by_more f xs n item.0 within)
 
 -- So many rounds
 

@@ -1,5 +1,6 @@
 -- The variables that threads wait for, by their classes.
-use Rattle.std.proofs.Common.{◌≡◌, ℕ, ◌+◌, ◌<◌, Bool, true, false, ◌&&◌, ◌||◌, if◌then◌else◌, List, [], ◌∷◌, ◌++◌, map, length, take, get_or, refl, sym, ap, ap₂, ◌∙◌, arith, append_assoc}
+use Rattle.std.proofs.Common.{◌≡◌, ℕ, ◌+◌, ◌<◌, Bool, true, false, ◌&&◌, ◌||◌, if◌then◌else◌, List, [], ◌∷◌, ◌++◌, map, length, take, get_or, refl, sym, ap, ap₂, subst, ◌∙◌, arith, Result}
+use Rattle.std.specs.Prelude.{IfOk}
 use Rattle.std.specs.List.{list_any, flat_map}
 use Rattle.std.proofs.lemmas.List.{take_more, append-nil}
 use Rattle.std.proofs.lemmas.List.Folds.{list_any-append}
@@ -21,6 +22,10 @@ use Rattle.builtins.specs.Answers.{IsReady}
 use Rattle.builtins.specs.declared.answer.Readiness.TheVariants as readiness
 use Rattle.tree_equal.specs.Answers.{SameClasses}
 use Rattle.by_need.specs.Waited.{AddsClasses}
+
+-- marks by other words
+pub same_marks : {A E : Type 0} (r : Result A E) {a b : A} → a ≡ b → IfOk r (λ x. x ≡ a) → IfOk r (λ x. x ≡ b)
+same_marks {A} {E} r {a} {b} e h = subst (λ (y : A). IfOk r (λ x. x ≡ y)) e h
 
 or_false : (b : Bool) → b ≡ (b || false)
 or_false true = refl
@@ -48,7 +53,7 @@ pub waits_more : (view : View) (f : Thread → List Ident) (ts : List Thread) (n
     → SameClasses view old (flat_map f (take n ts)) → AddsClasses view (f t) old new → SameClasses view new (flat_map f (take (n + 1) ts))
 waits_more view f ts n t old new within e s a =
     let whole : flat_map f (take (n + 1) ts) ≡ flat_map f (take n ts) ++ f t =
-        ap (flat_map f) (take_more ts n t within ∙ ap (λ (y : Thread). take n ts ++ y ∷ []) (sym e)) ∙ flat_map-append f (take n ts) (t ∷ []) ∙ ap (λ ys. flat_map f (take n ts) ++ ys) (append-nil (f t)) in
+    ap (flat_map f) (take_more ts n t within ∙ ap (λ (y : Thread). take n ts ++ y ∷ []) (sym e)) ∙ flat_map-append f (take n ts) (t ∷ []) ∙ ap (λ ys. flat_map f (take n ts) ++ ys) (append-nil (f t)) in
     λ z. a z ∙ ap (λ b. b || list_any (same view z) (f t)) (s z) ∙ sym (ap (list_any (same view z)) whole ∙ list_any-append (same view z) (flat_map f (take n ts)) (f t))
 
 -- What is needed for them
@@ -62,9 +67,6 @@ waits_mapped f [] = refl
 waits_mapped f (t ∷ ts) = ap (λ xs. waits_of (f t) ++ xs) (waits_mapped f ts)
 
 module _ (statements : List Statement) (layers : List Layer) (l : Layer) where
-  waits : List Ident
-  waits = flat_map (λ t. waits_of (thread_ready (sight statements layers l.space) t)) l.threads
-
   waited_open : l.status ≡ status.Open → waited_in statements layers l ≡ flat_map (λ t. waits_of (thread_ready (sight statements layers l.space) t)) l.threads
   waited_open e =
       ap (λ (s : Status). flat_map waits_of (if is_open s then map (thread_ready (sight statements layers l.space)) l.threads else [])) e

@@ -99,11 +99,13 @@ fn rounds(
     ensures { IfOk result (λ after. unwrap_or after levels.now ≡ fired_for statements.now most levels.now) }
 {
     let mut after = None;
-    'passes: for _ in 0..most {
-        match round(alloc, statements, latest(&after, levels))? {
-            None => return Ok(after),
-            Some(next) => after = Some(next),
-        }
+    let mut more = most;
+    'passes: while more > 0 {
+        let Some(next) = round(alloc, statements, latest(&after, levels))? else {
+            return Ok(after);
+        };
+        after = Some(next);
+        more -= 1;
     }
     Ok(after)
 }
