@@ -14,8 +14,6 @@ use Rattle.oz_semantics.specs.Readiness.{thread_ready}
 use Rattle.oz_semantics.specs.Spaces.{sight, waited_in}
 use Rattle.oz_semantics.specs.Triggers.{is_needed, is_needed_in}
 use Rattle.oz_semantics.specs.declared.configuration.Layer.{Layer}
-use Rattle.oz_semantics.specs.declared.configuration.Status.{Status}
-use Rattle.oz_semantics.specs.declared.configuration.Status.TheVariants as status
 use Rattle.oz_semantics.specs.declared.configuration.Thread.{Thread}
 use Rattle.oz_semantics.specs.declared.configuration.Trigger.{Trigger}
 use Rattle.builtins.specs.Answers.{IsReady}
@@ -67,15 +65,18 @@ waits_mapped f [] = refl
 waits_mapped f (t ∷ ts) = ap (λ xs. waits_of (f t) ++ xs) (waits_mapped f ts)
 
 module _ (statements : List Statement) (layers : List Layer) (l : Layer) where
-  waited_open : l.status ≡ status.Open → waited_in statements layers l ≡ flat_map (λ t. waits_of (thread_ready (sight statements layers l.space) t)) l.threads
+  abbrev waits : List Ident
+  waits = flat_map (λ t. waits_of (thread_ready (sight statements layers l.space) t)) l.threads
+
+  waited_open : is_open l.status ≡ true → waited_in statements layers l ≡ waits
   waited_open e =
-      ap (λ (s : Status). flat_map waits_of (if is_open s then map (thread_ready (sight statements layers l.space)) l.threads else [])) e
+      ap (λ (b : Bool). flat_map waits_of (if b then map (thread_ready (sight statements layers l.space)) l.threads else [])) e
       ∙ waits_mapped (thread_ready (sight statements layers l.space)) l.threads
 
-  pub needed_open : l.status ≡ status.Open → map (is_needed (view layers l.space) (flat_map (λ t. waits_of (thread_ready (sight statements layers l.space) t)) l.threads)) l.triggers ≡ map (is_needed_in statements layers l) l.triggers
+  pub needed_open : is_open l.status ≡ true → map (is_needed (view layers l.space) waits) l.triggers ≡ map (is_needed_in statements layers l) l.triggers
   needed_open e =
       ap (λ (xs : List Ident). map (is_needed (view layers l.space) xs) l.triggers) (sym (waited_open e))
-      ∙ sym (ap (λ (s : Status). map (λ t. is_open s && is_needed (view layers l.space) (waited_in statements layers l) t) l.triggers) e)
+      ∙ sym (ap (λ (b : Bool). map (λ t. b && is_needed (view layers l.space) (waited_in statements layers l) t) l.triggers) e)
 
   pub needed_ended : is_open l.status ≡ false → map (λ (t : Trigger). false) l.triggers ≡ map (is_needed_in statements layers l) l.triggers
   needed_ended e = sym (ap (λ (b : Bool). map (λ t. b && is_needed (view layers l.space) (waited_in statements layers l) t) l.triggers) e)

@@ -2,7 +2,7 @@
 ghost use Rattle.std.specs.Prelude.{◌≡◌, ◌<◌, false, length, map, IfOk, OnOk};
 ghost use Rattle.std.specs.List.{list_any, flat_map};
 ghost use Rattle.oz_semantics.specs.Store.{View, same};
-ghost use Rattle.oz_semantics.specs.Configurations.{view};
+ghost use Rattle.oz_semantics.specs.Configurations.{is_open, view};
 ghost use Rattle.oz_semantics.specs.Sights as sights;
 ghost use Rattle.oz_semantics.specs.Sights.{waits_of};
 ghost use Rattle.oz_semantics.specs.Readiness.{thread_ready};
@@ -68,8 +68,12 @@ fn add_waits(waited: &mut Sequence<Ident>, ready: Readiness) -> Result<(), Alloc
     ensures { OnOk result ((view : View) (defined : sights.Readiness) → IsReady view defined ready → AddsClasses view (waits_of defined) waited.old waited.new) }
 {
     match ready {
-        Readiness::Waits(waits) => waited.append(waits.into_vec()),
-        Readiness::Steps | Readiness::Offers(_) => Ok(()),
+        Readiness::Waits(waits) => {
+            waited.append(waits.into_vec())?;
+            Ok(())
+        }
+        Readiness::Steps => Ok(()),
+        Readiness::Offers(_) => Ok(()),
     }
 }
 
@@ -107,6 +111,12 @@ fn needed_where(
     needed(alloc, store, triggers, waited.as_slice())
 }
 
+fn is_open(status: &Status) -> bool
+    ensures { result ≡ is_open status.now }
+{
+    matches!(status, Status::Open)
+}
+
 /// Which triggers of the space at a place are needed. A space that is not open needs none.
 pub fn needed_at(
     alloc: Global,
@@ -118,15 +128,15 @@ pub fn needed_at(
     ensures { OfLayer levels.now place (λ l. IfOk result (λ marks. marks ≡ map (is_needed_in statements.now levels.now l) l.triggers)) }
 {
     let triggers = levels.triggers_at(place);
-    match levels.status_at(place) {
-        Status::Open => needed_where(
+    if is_open(levels.status_at(place)) {
+        return needed_where(
             alloc,
             statements,
             levels.space_at(place),
             levels.store_at(place),
             levels.threads_at(place),
             triggers,
-        ),
-        Status::Failed | Status::Raised(_) => unneeded(alloc, triggers),
+        );
     }
+    unneeded(alloc, triggers)
 }

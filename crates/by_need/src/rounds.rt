@@ -101,10 +101,10 @@ fn rounds(
     let mut after = None;
     let mut more = most;
     'passes: while more > 0 {
-        let Some(next) = round(alloc, statements, latest(&after, levels))? else {
-            return Ok(after);
-        };
-        after = Some(next);
+        match round(alloc, statements, latest(&after, levels))? {
+            None => return Ok(after),
+            Some(next) => after = Some(next),
+        }
         more -= 1;
     }
     Ok(after)

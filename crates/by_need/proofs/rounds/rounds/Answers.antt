@@ -9,9 +9,9 @@ passes-preserved c =
     (rw c.latest.ensures at (subst (IsRound c.args.statements.now c.latest.result.now) c.in-Some.is c.in_ok-round.ensures)))
     ∙ c.passes.invariant
 
-pub returns-not-Some : goal.returns-not-Some
-returns-not-Some c =
-    sym (no_round c.args.statements.now c.passes.more _ (rw c.latest.ensures at (subst (IsRound c.args.statements.now c.latest.result.now) c.not-Some c.in_ok-round.ensures)))
+pub returns-in-None : goal.returns-in-None
+returns-in-None c =
+    sym (no_round c.args.statements.now c.passes.more _ (rw c.latest.ensures at (subst (IsRound c.args.statements.now c.latest.result.now) c.in-None.is c.in_ok-round.ensures)))
     ∙ c.passes.invariant
 
 pub returns : goal.returns
