@@ -3,8 +3,9 @@ use Rattle.std.proofs.Common.{◌≡◌, inl, inr, ℕ, zero, suc, ◌+◌, ◌<
 use Rattle.std.specs.Prelude.{OnOk, OnErr, position}
 use Rattle.std.specs.List.{fold}
 use Rattle.std.proofs.lemmas.List.{get_or-map, map-set, length-map, take_more, append-nil}
-use Rattle.oz_semantics.specs.Configurations.{is_of, layer_at}
+use Rattle.oz_semantics.specs.Configurations.{is_of, layer_at, spawning, applying}
 use Rattle.oz_semantics.specs.Triggers.{beginning}
+use Rattle.oz_semantics.specs.declared.configuration.Frame.{Frame}
 use Rattle.oz_semantics.specs.declared.configuration.Trigger.{Trigger}
 use Rattle.oz_semantics.specs.declared.configuration.Layer.{Layer}
 use Rattle.oz_laws.proofs.SameLaws.{eq-true}
@@ -87,6 +88,10 @@ unmarked_passes marks ts n within old o k =
     let item = item_in ts n within in o ∙ sym (append-nil (unmarked marks (take n ts))) ∙ sym (unmarked_more marks ts n item.0 within item.1 true k)
 
 -- Threads that begin
+
+pub begun_as : {A E : Type 0} (r : Result A E) (fs : List Frame) (t : Trigger) (l m : Level) → fs ≡ applying t.procedure t.variable ∷ [] → OnOk r (IsQuiet (spawning fs) l m)
+    → OnOk r (IsQuiet (λ k. beginning k t) l m)
+begun_as r fs t l m e q = subst (λ (gs : List Frame). OnOk r (IsQuiet (spawning gs) l m)) e q
 
 fold_end : (ts : List Trigger) (t : Trigger) (l : Layer) → fold beginning l (ts ++ t ∷ []) ≡ beginning (fold beginning l ts) t
 fold_end [] t l = refl

@@ -1,8 +1,9 @@
 //! By-need computations of a space that begin.
-ghost use Rattle.std.specs.Prelude.{◌≡◌, false, not, slice_index_or, IfOk, OnOk, OnErr};
+ghost use Rattle.std.specs.Prelude.{◌≡◌, ◌∷◌, [], false, not, slice_index_or, IfOk, OnOk, OnErr};
 ghost use Rattle.std.specs.List.{list_any, fold};
 ghost use Rattle.oz_base.specs.Lists.{is_empty};
 ghost use Rattle.need_laws.specs.Needs.{has_triggers};
+ghost use Rattle.oz_semantics.specs.Configurations.{applying};
 ghost use Rattle.oz_semantics.specs.Triggers.{beginning};
 ghost use Rattle.space_core.specs.Firing.{marked, unmarked, firing};
 ghost use Rattle.space_core.specs.Shown.{shown_all, IsQuiet, IsChanged};
@@ -75,10 +76,9 @@ fn unmarked(
     Ok(left)
 }
 
-/// A thread begins that applies the procedure of a trigger to its variable.
-fn begin(alloc: Global, level: &mut Level, trigger: &Trigger) -> Result<(), AllocError>
-    ensures ok { OnOk result (IsQuiet (λ l. beginning l trigger.now) level.old level.new) }
-    ensures err { OnErr result (level.new ≡ level.old) }
+/// `{P X}` of the procedure and the variable of a trigger.
+fn frames_of(alloc: Global, trigger: &Trigger) -> Result<Vec<Frame>, AllocError>
+    ensures { IfOk result (λ frames. frames.items ≡ applying trigger.now.procedure trigger.now.variable ∷ []) }
 {
     let mut frames = Vec::new(alloc);
     frames.push(Frame {
@@ -88,6 +88,15 @@ fn begin(alloc: Global, level: &mut Level, trigger: &Trigger) -> Result<(), Allo
         },
         environment: Environment::new(),
     })?;
+    Ok(frames)
+}
+
+/// A thread begins that applies the procedure of a trigger to its variable.
+fn begin(alloc: Global, level: &mut Level, trigger: &Trigger) -> Result<(), AllocError>
+    ensures ok { OnOk result (IsQuiet (λ l. beginning l trigger.now) level.old level.new) }
+    ensures err { OnErr result (level.new ≡ level.old) }
+{
+    let frames = frames_of(alloc, trigger)?;
     spawn(alloc, level, frames)
 }
 
