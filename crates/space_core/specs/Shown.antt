@@ -94,3 +94,7 @@ pub record IsQuiet (change : Layer → Layer) (old new : Level) : Type 0 where
   pub traced : new.traced ≡ old.traced
   pub variables : old.numbers.variable ≤ new.numbers.variable
   pub children : old.numbers.child ≤ new.numbers.child
+
+-- it is changed in some way
+abbrev pub IsChanged : Level → Level → Type 0
+IsChanged old new = (change : Layer → Layer) × IsQuiet change old new

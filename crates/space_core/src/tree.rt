@@ -97,6 +97,7 @@ pub fn raise(alloc: Global, level: &mut Level, exception: Ident)
 {
     level.status = Status::Raised(exception);
     level.threads.stop_all(alloc);
+    level.triggers = Sequence::new(alloc);
 }
 
 /// `{P X}` of the procedure and the space's root variable.
