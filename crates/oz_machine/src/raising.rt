@@ -18,10 +18,10 @@ ghost use Rattle.oz_machine.specs.Quiet.{IsHead, KeepsHead};
 ghost use Rattle.oz_machine.specs.Raising.{EndsOver, IsTermOf};
 ghost use Rattle.oz_machine.specs.Turns.{cost_of};
 
-use oz_acts::{next_of, take_off};
 use crate::course::Course;
 use crate::following::{follow, go_on, leave_to_none};
 use crate::quiet::go_on_unwound;
+use oz_acts::{next_of, take_off};
 use oz_base::{Ident, SpaceName};
 use oz_raise::{NewTerm, is_failure, new_term, term};
 use oz_semantics::{RaiseKind, Stepped};

@@ -16,7 +16,6 @@ ghost use Rattle.oz_acts.specs.Doings.{is_quiet, is_shown};
 ghost use Rattle.oz_machine.specs.Quiet.{IsHeadAnswer, KeepsHead, shows};
 ghost use Rattle.oz_machine.specs.Turns.{cost_of, CostsWithin, HasNotEnded, IsTurn};
 
-use oz_acts::{act, is_quiet, started, take_off};
 use crate::course::Course;
 use crate::following::{follow, go_on};
 use crate::quiet::go_on_quietly;
@@ -24,6 +23,7 @@ use crate::raising::{raise, raise_kind};
 use crate::settling::{settle, top_answer};
 use crate::told::go_on_told;
 use builtins::{Act, Answer};
+use oz_acts::{act, is_quiet, started, take_off};
 use oz_base::{Copies, Ident, Sequence};
 use oz_language::Kernel;
 use oz_semantics::{RaiseKind, Stepped};
