@@ -19,3 +19,6 @@ mod turn;
 pub use machine::Machine;
 pub use runs::Ran;
 pub use texts::Text;
+
+#[cfg(test)]
+mod tests;
