@@ -19,6 +19,3 @@ mod turn;
 pub use machine::Machine;
 pub use runs::Ran;
 pub use texts::Text;
-
-#[cfg(test)]
-mod tests;
