@@ -147,12 +147,19 @@ fn threads_cross()
     shares::<Sequence<Thread>>();
 }
 
+fn ident_lists_cross()
+    ensures send { IsSend (list.the_row ident.the_row) }
+    ensures sync { IsSync (list.the_row ident.the_row) }
+{
+    ident_crosses();
+    list_crosses::<Ident>();
+}
+
 fn objects_cross()
     ensures send { IsSend objects.the_row }
     ensures sync { IsSync objects.the_row }
 {
-    ident_crosses();
-    list_crosses::<Ident>();
+    ident_lists_cross();
 }
 
 fn kernel_crosses()
