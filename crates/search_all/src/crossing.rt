@@ -14,6 +14,7 @@ ghost use Rattle.oz_semantics.specs.contracts.value.Tell as told;
 ghost use Rattle.oz_semantics.specs.contracts.configuration.Status as status;
 ghost use Rattle.oz_semantics.specs.contracts.configuration.Thread as thread;
 ghost use Rattle.shared_list.specs.contracts.list.SharedList as list;
+ghost use Rattle.cells_ports.specs.contracts.objects.Objects as objects;
 ghost use Rattle.term_store.specs.contracts.classes.Classes as classes;
 ghost use Rattle.term_store.specs.contracts.store.Store as store;
 ghost use Rattle.space_core.specs.contracts.levels.Levels as levels;
@@ -146,6 +147,21 @@ fn threads_cross()
     shares::<Sequence<Thread>>();
 }
 
+fn ident_lists_cross()
+    ensures send { IsSend (list.the_row ident.the_row) }
+    ensures sync { IsSync (list.the_row ident.the_row) }
+{
+    ident_crosses();
+    list_crosses::<Ident>();
+}
+
+fn objects_cross()
+    ensures send { IsSend objects.the_row }
+    ensures sync { IsSync objects.the_row }
+{
+    ident_lists_cross();
+}
+
 fn kernel_crosses()
     ensures send { IsSend (shared.the_row kernel.the_row) }
     ensures sync { IsSync (shared.the_row kernel.the_row) }
@@ -188,6 +204,7 @@ fn levels_cross()
     status_crosses();
     idents_cross();
     threads_cross();
+    objects_cross();
 }
 
 fn machine_crosses()
