@@ -133,6 +133,10 @@ changed_quietly l m left h =
 pub changed_so_far : (change : Layer → Layer) (k l m : Level) → IsQuiet change k l → m ≡ l → IsChanged k m
 changed_so_far change k l m q e = (change, subst (IsQuiet change k) (sym e) q)
 
+pub changed_err : {A E : Type 0} (r : Result A E) (k m : Level) → IsChanged k m → OnErr r (IsChanged k m)
+changed_err (Ok a) k m q = tt
+changed_err (Err b) k m q = q
+
 pub nothing_changed : (l m : Level) → m ≡ l → IsChanged l m
 nothing_changed l m e = ((λ k. k), subst (IsQuiet (λ k. k) l) (sym e) (nothing_yet l))
 

@@ -1,8 +1,15 @@
+use Rattle.std.proofs.Common.{ap, List}
+use Rattle.std.specs.List.{list_any}
+use Rattle.oz_base.specs.declared.names.Ident.{Ident}
+use Rattle.oz_semantics.specs.Store.{same}
 use Rattle.oz_semantics.specs.Sights.{waits_of}
 use Rattle.oz_semantics.specs.Readiness.{thread_ready}
 use Rattle.oz_threads.specs.Sights.{sight_of}
 use Rattle.by_need.proofs.WaitLaws.{waits_more}
 use Rattle.by_need.proofs.needed.waited_where.Goals as goal
+
+pub loop-thread-init : goal.loop-thread-init
+loop-thread-init c = λ z. ap (λ (xs : List Ident). list_any (same c.args.store.now z) xs) c.new-waited.ensures
 
 pub loop-thread-preserved : goal.loop-thread-preserved
 loop-thread-preserved c =

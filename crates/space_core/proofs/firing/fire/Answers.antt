@@ -1,15 +1,15 @@
 use Rattle.std.proofs.Common.{refl}
-use Rattle.space_core.proofs.FiringLaws.{nothing_changed, fired_result, changed_result}
+use Rattle.space_core.proofs.FiringLaws.{changed_err, nothing_changed, fired_result, changed_result}
 use Rattle.space_core.proofs.firing.fire.Goals as goal
 
-pub returns-in_err-marked-clause-err : goal.returns-in_err-marked-clause-err
-returns-in_err-marked-clause-err c = nothing_changed _ _ refl
+pub returns-in_err-begun-clause-err : goal.returns-in_err-begun-clause-err
+returns-in_err-begun-clause-err c = changed_err c.from_residual.result _ _ (nothing_changed _ _ refl)
 
-pub returns-in_err-unmarked-clause-err : goal.returns-in_err-unmarked-clause-err
-returns-in_err-unmarked-clause-err c = nothing_changed _ _ refl
+pub returns-in_err-level-clause-err : goal.returns-in_err-level-clause-err
+returns-in_err-level-clause-err c = changed_err c.from_residual.result _ _ (nothing_changed _ _ refl)
 
 pub returns-clause-ok : goal.returns-clause-ok
-returns-clause-ok c = fired_result c.args.marks.now _ _ _ _ c.in_ok-begun.ensures c.in_ok-unmarked.ensures c.begin_all.result c.begin_all.ensures.ok
+returns-clause-ok c = fired_result c.args.marks.now _ _ _ _ c.in_ok-begun.ensures c.in_ok-level.ensures c.begin_all.result c.begin_all.ensures.ok
 
 pub returns-clause-err : goal.returns-clause-err
 returns-clause-err c = changed_result _ _ _ c.begin_all.result c.begin_all.ensures.err

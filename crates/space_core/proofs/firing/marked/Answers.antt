@@ -4,7 +4,7 @@ use Rattle.space_core.proofs.firing.marked.Goals.{then-is_marked+in_ok-copied+in
 use Rattle.space_core.proofs.firing.marked.Goals as goal
 
 pub loop-place-init : goal.loop-place-init
-loop-place-init c = sym (marked_none c.args.marks.now)
+loop-place-init c = c.new-begun.ensures ∙ sym (marked_none c.args.marks.now)
 
 pub loop-place-preserved : goal.loop-place-preserved
 loop-place-preserved c = elim c.if-is_marked.branch [

@@ -4,7 +4,7 @@ use Rattle.space_core.proofs.firing.unmarked.Goals.{then-not-is_marked+in_ok-cop
 use Rattle.space_core.proofs.firing.unmarked.Goals as goal
 
 pub loop-place-init : goal.loop-place-init
-loop-place-init c = sym (unmarked_none c.args.marks.now)
+loop-place-init c = c.new-left.ensures ∙ sym (unmarked_none c.args.marks.now)
 
 pub loop-place-preserved : goal.loop-place-preserved
 loop-place-preserved c = elim c.if-not-is_marked.branch [

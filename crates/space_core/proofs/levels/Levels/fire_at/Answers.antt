@@ -8,6 +8,7 @@ invariant_of-self c =
     (firing c.args.marks.now) c.fire.result c.fire.ensures.ok c.fire.ensures.err
 
 pub returns : goal.returns
-returns c =
-    placed_shows c.self.inside.levels.items c.args.self.now c.self.view_is c.self.invariant c.args.place c.requires c.index_mut.result.now c.fire.new.level c.index_mut.ensures.value
-    (firing c.args.marks.now) c.fire.result c.fire.ensures.ok
+returns c = record {
+  ok = placed_shows c.self.inside.levels.items c.args.self.now c.self.view_is c.self.invariant c.args.place c.requires c.index_mut.result.now c.fire.new.level c.index_mut.ensures.value
+      (firing c.args.marks.now) c.fire.result c.fire.ensures.ok;
+}
