@@ -153,7 +153,7 @@ pub fn is_quiet(act: &Act) -> bool
     ensures { result ≡ is_quiet (act_of act.now) }
 {
     match act {
-        Act::Passes | Act::GoesOn(_) | Act::Declares { .. } | Act::Starts(_) => true,
+        Act::Passes | Act::GoesOn(_) | Act::Declares(_) | Act::Starts(_) => true,
         Act::GivesValue { .. }
         | Act::GivesList { .. }
         | Act::GivesVariable { .. }
@@ -178,7 +178,7 @@ pub fn started(
         })),
         Act::Passes
         | Act::GoesOn(_)
-        | Act::Declares { .. }
+        | Act::Declares(_)
         | Act::GivesValue { .. }
         | Act::GivesList { .. }
         | Act::GivesVariable { .. }
@@ -199,54 +199,65 @@ pub fn act(
     ensures ok { IfOk result (IsDone id.now (act_effect (layer_of levels.old id.now.space) (act_of act.old)) levels.old levels.new) }
     ensures err { OnErr result (levels.new ≡ levels.old) }
 {
-    match mem::replace(act, Act::Passes) {
+    match act {
         Act::Passes => {
             take_off(levels, id);
             Ok(true)
         }
         Act::GoesOn(frames) => {
+            let frames = mem::replace(frames, Sequence::new(alloc));
             levels.go_on(id, frames.into_vec())?;
             Ok(true)
         }
-        Act::Declares {
-            environment,
-            names,
-            body,
-        } => {
+        Act::Declares(declaration) => {
+            let declaration = declaration.get();
             declare(
                 alloc,
                 levels,
                 id,
-                environment,
-                names.as_slice(),
-                body.as_slice(),
+                declaration.environment.copied(alloc)?,
+                declaration.names.as_slice(),
+                declaration.body.as_slice(),
             )?;
             Ok(true)
         }
         Act::Starts(frames) => {
+            let frames = mem::replace(frames, Sequence::new(alloc));
             levels.start(id, frames.into_vec())?;
             Ok(true)
         }
         Act::GivesValue { variable, value } => {
-            let tell = Tell::Is { variable, value };
+            let tell = Tell::Is {
+                variable: variable.copied(alloc)?,
+                value: value.copied(alloc)?,
+            };
             levels.tell_by(alloc, id, &[tell], Given::Nothing)
         }
         Act::GivesList { variable, items } => {
-            give_list(alloc, levels, id, &variable, items.as_slice())
+            give_list(alloc, levels, id, variable, items.as_slice())
         }
         Act::GivesVariable { variable, other } => {
             let equation = Tell::Equal {
-                left: variable,
-                right: other,
+                left: variable.copied(alloc)?,
+                right: other.copied(alloc)?,
             };
             levels.tell_by(alloc, id, &[equation], Given::Nothing)
         }
         Act::MakesProcedure {
             variable,
-            parameters,
-            body,
-            environment,
-        } => make_procedure(alloc, levels, id, variable, parameters, body, environment),
+            procedure,
+        } => {
+            let closure = procedure.get();
+            make_procedure(
+                alloc,
+                levels,
+                id,
+                variable.copied(alloc)?,
+                closure.parameters.copied(alloc)?,
+                closure.body.copied(alloc)?,
+                closure.environment.copied(alloc)?,
+            )
+        }
         Act::Shows(_) => Err(AllocError),
     }
 }

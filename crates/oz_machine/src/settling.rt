@@ -12,7 +12,8 @@ ghost use Rattle.oz_machine.specs.Quiet.{top_steps, able_in, IsHeadAnswer};
 use crate::course::{Course, Due};
 use builtins::Answer;
 use oz_base::{Copies, Ident};
-use oz_language::Statement;
+use oz_language::{Identifier, Statement};
+use oz_semantics::{Code, Frame};
 use oz_threads::{Queue, is_step, runnable};
 use space_core::Levels;
 use statements::{answer, ready};
@@ -135,6 +136,24 @@ fn join_both(
     queue.push_both(alloc, first, second)
 }
 
+/// The names and the body of a declaration on top of a thread's stack.
+pub fn declared<'a>(statements: &'a [Statement], frame: Option<&Frame>) -> Option<(&'a [Identifier], &'a [u32])> {
+    let Some(frame) = frame else {
+        return None;
+    };
+    let Code::Statement(number) = &frame.code else {
+        return None;
+    };
+    match statements.get(*number as usize) {
+        Some(Statement::Local { names, body }) => Some((names.as_slice(), body.as_slice())),
+        _ => None,
+    }
+}
+
+fn declares(statements: &[Statement], levels: &Levels, id: &Ident) -> bool {
+    declared(statements, levels.top_frame(id)).is_some()
+}
+
 /// A thread joins the queue, in which no other is, if it can step. Its answer is left in `answered`.
 fn join_alone(
     alloc: Global,
@@ -149,6 +168,9 @@ fn join_alone(
     ensures answer { OnOk result (IsHeadAnswer statements.now levels.now queue.new answered.new) }
     ensures err { OnErr result (queue.new ≡ queue.old) }
 {
+    if declares(statements, levels, id) {
+        return queue.push(id.copied(alloc)?);
+    }
     let answer = answered.insert(thread_answer(alloc, statements, levels, id)?);
     if let Answer::Rests = answer {
         return Ok(());

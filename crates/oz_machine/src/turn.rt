@@ -19,7 +19,7 @@ use crate::course::Course;
 use crate::following::{follow, go_on};
 use crate::quiet::go_on_quietly;
 use crate::raising::{raise, raise_kind};
-use crate::settling::{settle, top_answer};
+use crate::settling::{declared, settle, top_answer};
 use crate::told::go_on_told;
 use builtins::{Act, Answer};
 use oz_base::{Copies, Ident, Sequence};
@@ -216,10 +216,43 @@ fn step_of(
     };
     match answered {
         Some(answer) => step_as(alloc, kernel, place, id, answer, kept, course, fuel),
-        None => {
-            let statements = kernel.statements.as_slice();
-            let mut answer = top_answer(alloc, statements, &course.levels, place, id)?;
-            step_as(alloc, kernel, place, id, &mut answer, kept, course, fuel)
+        None => step_anew(alloc, kernel, place, id, kept, course, fuel),
+    }
+}
+
+fn step_answering(
+    alloc: Global,
+    kernel: &Kernel,
+    place: usize,
+    id: &Ident,
+    kept: bool,
+    course: &mut Course,
+    fuel: u64,
+) -> Result<Option<Stepped>, AllocError> {
+    let statements = kernel.statements.as_slice();
+    let mut answer = top_answer(alloc, statements, &course.levels, place, id)?;
+    step_as(alloc, kernel, place, id, &mut answer, kept, course, fuel)
+}
+
+#[inline(never)]
+fn step_anew(
+    alloc: Global,
+    kernel: &Kernel,
+    place: usize,
+    id: &Ident,
+    kept: bool,
+    course: &mut Course,
+    fuel: u64,
+) -> Result<Option<Stepped>, AllocError> {
+    match declared(kernel.statements.as_slice(), course.levels.top_frame(id)) {
+        None => step_answering(alloc, kernel, place, id, kept, course, fuel),
+        Some((names, body)) => {
+            course.levels.declare_in(alloc, id, names, body)?;
+            if kept {
+                return Ok(Some(go_on_quietly(id, None, 1, course)));
+            }
+            course.levels.consistent();
+            Ok(Some(go_on(id, 1, course)))
         }
     }
 }

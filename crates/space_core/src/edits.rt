@@ -11,7 +11,9 @@ ghost use Rattle.space_core.specs.Unwinding.{IsLevelCaught};
 use crate::given::Given;
 use crate::level::{Level, Numbers};
 use crate::stacks::Landing;
-use oz_base::Ident;
+use environments::Environment;
+use oz_base::{Copies, Ident, SpaceName};
+use oz_language::Identifier;
 use oz_semantics::Frame;
 use std::alloc::{AllocError, Global};
 
@@ -118,6 +120,51 @@ pub fn declare(
 {
     let next = level.numbers.variable.checked_add(count).ok_or(AllocError)?;
     level.threads.replace_top(number, frames)?;
+    level.numbers.variable = next;
+    Ok(())
+}
+
+fn number_after(from: u64, count: usize) -> Result<u64, AllocError> {
+    match from.checked_add(count as u64) {
+        Some(number) => Ok(number),
+        None => Err(AllocError),
+    }
+}
+
+/// The identifiers stand for as many variables of the space, from this number on.
+fn bind_from(
+    alloc: Global,
+    environment: &mut Environment,
+    names: &[Identifier],
+    space: &SpaceName,
+    from: u64,
+) -> Result<(), AllocError> {
+    let mut left = names.len();
+    'names: while left > 0 {
+        left -= 1;
+        let number = number_after(from, left)?;
+        let space = space.copied(alloc)?;
+        environment.bind(alloc, names[left], Ident { space, number })?;
+    }
+    Ok(())
+}
+
+/// The statement on top of a thread's stack gives way to a body, in which these stand for new variables.
+pub fn declare_in(
+    alloc: Global,
+    level: &mut Level,
+    number: u64,
+    names: &[Identifier],
+    body: &[u32],
+) -> Result<(), AllocError> {
+    let Some(frame) = level.threads.top_frame(number) else {
+        return Err(AllocError);
+    };
+    let mut environment = frame.environment.copied(alloc)?;
+    let from = level.numbers.variable;
+    let next = number_after(from, names.len())?;
+    bind_from(alloc, &mut environment, names, &level.space, from)?;
+    level.threads.go_on_in(alloc, number, environment, body)?;
     level.numbers.variable = next;
     Ok(())
 }

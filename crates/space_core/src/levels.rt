@@ -22,6 +22,7 @@ use crate::stacks::Landing;
 use crate::tree::{self, add_level, child_count, child_of, drop_below, store_above};
 use crate::{edits, silence, telling};
 use oz_base::{Copies, Ident, SpaceName, copies_of};
+use oz_language::Identifier;
 use oz_semantics::{Frame, Next, Status, Tell, Thread};
 use std::alloc::{AllocError, Global};
 use std::marker::Model;
@@ -296,6 +297,20 @@ impl Levels {
             return Ok(());
         };
         edits::declare(&mut self.levels[place], id.number, frames, count)
+    }
+
+    /// The statement on top of a thread's stack is taken off, and a body goes on in its place, in which these stand for new variables.
+    pub fn declare_in(
+        &mut self,
+        alloc: Global,
+        id: &Ident,
+        names: &[Identifier],
+        body: &[u32],
+    ) -> Result<(), AllocError> {
+        let Some(place) = level_place(self.levels.as_slice(), &id.space) else {
+            return Ok(());
+        };
+        edits::declare_in(alloc, &mut self.levels[place], id.number, names, body)
     }
 
     /// The statement on top of a thread's stack is taken off, and a new thread of its space begins with these. It refuses for want of

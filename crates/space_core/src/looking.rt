@@ -12,6 +12,11 @@ use oz_base::{SpaceName, same_space};
 fn position_in(levels: &[Level], space: &SpaceName) -> Option<usize>
     ensures { result ≡ position (λ (l : Level). is_of space.now (shown l)) levels.now }
 {
+    if let Some(level) = levels.first() {
+        if same_space(&level.space, space) {
+            return Some(0);
+        }
+    }
     levels
         .iter()
         .position(|level| same_space(&level.space, space))

@@ -28,6 +28,64 @@ fn frames_of(
     Ok(frames)
 }
 
+/// A statement of a body.
+fn frame_of(alloc: Global, environment: &Environment, number: u32) -> Result<Frame, AllocError>
+{
+    Ok(Frame {
+        code: Code::Statement(number),
+        environment: environment.copied(alloc)?,
+    })
+}
+
+fn push_frame(
+    alloc: Global,
+    stack: &mut Stack<Frame>,
+    environment: &Environment,
+    number: u32,
+) -> Result<(), AllocError> {
+    stack.push(frame_of(alloc, environment, number)?)
+}
+
+/// Puts the statements of a body on top.
+fn push_body(
+    alloc: Global,
+    stack: &mut Stack<Frame>,
+    environment: &Environment,
+    body: &[u32],
+) -> Result<(), AllocError> {
+    let mut left = body.len();
+    'statements: while left > 0 {
+        left -= 1;
+        if push_frame(alloc, stack, environment, body[left]).is_err() {
+            stack.cut(0, body.len() - left - 1);
+            return Err(AllocError);
+        }
+    }
+    Ok(())
+}
+
+/// Puts the statements of a body in the place of the one on top, each with the environment.
+pub fn go_on_in(
+    alloc: Global,
+    stack: &mut Stack<Frame>,
+    environment: Environment,
+    body: &[u32],
+) -> Result<(), AllocError> {
+    let Some((last, upper)) = body.split_last() else {
+        let _frame = stack.pop();
+        return Ok(());
+    };
+    push_body(alloc, stack, &environment, upper)?;
+    stack.put_below(
+        upper.len(),
+        Frame {
+            code: Code::Statement(*last),
+            environment,
+        },
+    );
+    Ok(())
+}
+
 /// The statements of the handler at a mark, with the exception. None if it is no mark.
 fn handler_of(
     alloc: Global,

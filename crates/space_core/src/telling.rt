@@ -35,6 +35,24 @@ pub fn tell(
     ensures told { IfOk result (IsLevelTold home tells.now level.old level.new) }
     ensures err { OnErr result (level.new ≡ level.old) }
 {
+    if level.space.is_top() {
+        if !level.store.tell_only(alloc, tells)? {
+            return Ok(false);
+        }
+        level.traced = level.traced && home;
+        return Ok(true);
+    }
+    tell_noted(alloc, level, home, tells)
+}
+
+#[inline(never)]
+fn tell_noted(
+    alloc: Global,
+    level: &mut Level,
+    home: bool,
+    tells: &[Tell],
+) -> Result<bool, AllocError>
+{
     let mut noted = Vec::new(alloc);
     if !level.store.tell(alloc, tells, &mut noted)? {
         return Ok(false);

@@ -8,7 +8,8 @@ ghost use Rattle.space_core.specs.Places.{IsAbsent, IsFirst};
 ghost use Rattle.space_core.specs.Stacks.{IsLanding, cut_out};
 ghost use Rattle.space_core.specs.Threads.{goes_on, with_stack, with_new, without_ended, IsPopped};
 
-use crate::stacks::{Landing, nearest_mark};
+use crate::stacks::{Landing, go_on_in, nearest_mark};
+use environments::Environment;
 use oz_base::{Copies, Ident, Sequence, Stack};
 use oz_semantics::{Frame, Thread};
 use std::alloc::{AllocError, Global};
@@ -122,6 +123,22 @@ impl Threads {
             return Ok(());
         };
         self.threads.get_mut(place).frames.replace_top(frames)?;
+        self.ended |= is_terminated(self.threads.get(place));
+        Ok(())
+    }
+
+    /// Puts the statements of a body in the place of the one on top of a thread's stack, each with the environment.
+    pub fn go_on_in(
+        &mut self,
+        alloc: Global,
+        number: u64,
+        environment: Environment,
+        body: &[u32],
+    ) -> Result<(), AllocError> {
+        let Some(place) = self.place(number) else {
+            return Ok(());
+        };
+        go_on_in(alloc, &mut self.threads.get_mut(place).frames, environment, body)?;
         self.ended |= is_terminated(self.threads.get(place));
         Ok(())
     }

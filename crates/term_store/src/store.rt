@@ -219,12 +219,44 @@ impl Store {
         }
         let root = found.root.copied(alloc)?;
         let rank = found.rank;
-        let tell = binding(alloc, variable, value)?;
         touched.push(variable.copied(alloc)?)?;
-        self.log.make_room(alloc)?;
-        self.classes.mark(alloc, &root, rank, self.log.len())?;
-        self.log.put(tell);
+        self.bind(alloc, variable, value, &root, rank)?;
         Ok(true)
+    }
+
+    fn bind(
+        &mut self,
+        alloc: Global,
+        variable: &Ident,
+        value: &Value,
+        root: &Ident,
+        rank: u8,
+    ) -> Result<(), AllocError> {
+        let tell = binding(alloc, variable, value)?;
+        self.log.make_room(alloc)?;
+        self.classes.mark(alloc, root, rank, self.log.len())?;
+        self.log.put(tell);
+        Ok(())
+    }
+
+    #[inline(never)]
+    fn tell_unnoted(&mut self, alloc: Global, tells: &[Tell]) -> Result<bool, AllocError> {
+        let mut touched = Vec::new(alloc);
+        self.tell(alloc, tells, &mut touched)
+    }
+
+    /// The same, and what is touched is not noted.
+    pub fn tell_only(&mut self, alloc: Global, tells: &[Tell]) -> Result<bool, AllocError> {
+        if let [Tell::Is { variable, value }] = tells {
+            let found = self.classes.find(variable);
+            if found.first.is_none() {
+                let root = found.root.copied(alloc)?;
+                let rank = found.rank;
+                self.bind(alloc, variable, value, &root, rank)?;
+                return Ok(true);
+            }
+        }
+        self.tell_unnoted(alloc, tells)
     }
 
     fn tell_one(
