@@ -81,6 +81,7 @@ answer_of_given s builtin.Exchange x y z f g =
     three_of (λ a b c. answer s builtin.Exchange (argument (a ∷ b ∷ c ∷ []))) x y z f g.first (g.second one_below_three) (g.third two_below)
 answer_of_given s builtin.NewPort x y z f g = of_two s builtin.NewPort x y z f g one_below
 answer_of_given s builtin.Send x y z f g = of_two s builtin.Send x y z f g one_below
+answer_of_given s builtin.ByNeed x y z f g = of_two s builtin.ByNeed x y z f g one_below
 answer_of_given s builtin.Show x y z f g = of_one s builtin.Show x y z f g
 
 -- what the first arguments answer
@@ -111,6 +112,7 @@ takes_one builtin.Assign = lit< tt
 takes_one builtin.Exchange = lit< tt
 takes_one builtin.NewPort = lit< tt
 takes_one builtin.Send = lit< tt
+takes_one builtin.ByNeed = lit< tt
 takes_one builtin.Show = lit< tt
 
 -- a call with as many arguments as the built-in takes

@@ -10,11 +10,11 @@ use Rattle.oz_language.specs.declared.kernel.Operation.{Operation}
 use Rattle.oz_language.specs.declared.kernel.Operation.TheVariants as operation
 use Rattle.oz_language.specs.declared.kernel.Statement.{Statement}
 use Rattle.oz_semantics.specs.Names.{is_top}
-use Rattle.oz_semantics.specs.Values.{fields_of, constant_in, integer_in, cell_in, port_in}
+use Rattle.oz_semantics.specs.Values.{fields_of, constant_in, integer_in, cell_in, port_in, is_procedure}
 use Rattle.oz_semantics.specs.Store.{View, value_of, same}
 use Rattle.oz_semantics.specs.Sights.{Sight, Readiness, Steps, Waits}
-use Rattle.oz_semantics.specs.Answers.{Act, Answer, Acts, RaisesKind, Reads, Writes, Exchanges, Sends, Shows, gives_constant, given, argument, with_value, of_kind}
-use Rattle.oz_semantics.specs.Builtins.{arguments_of, gives_number, gives_field, field_at, selects, label_in, arity_in, own_act, on_cell, of_operation, answer}
+use Rattle.oz_semantics.specs.Answers.{Act, Answer, Acts, RaisesKind, Reads, Writes, Exchanges, Sends, Delays, Shows, gives_constant, given, argument, with_value, of_kind}
+use Rattle.oz_semantics.specs.Builtins.{arguments_of, gives_number, gives_field, field_at, selects, label_in, arity_in, own_act, on_cell, delays, of_operation, answer}
 use Rattle.oz_semantics.specs.Readiness.{answer_ready}
 use Rattle.oz_semantics.specs.declared.value.Value.{Value}
 use Rattle.oz_semantics.specs.declared.value.Builtin.{Builtin}
@@ -122,6 +122,16 @@ pub send_waits : (s : Sight) (f : ℕ → Ident) → answer_ready (answer s buil
 send_waits s f =
     one_waits (f 0) (value_of s.view (f 0)) (λ v. of_kind (port_in v) (own_act s raise.GlobalPort (λ n. Sends n (f 1))))
     (λ v. kind_steps (port_in v) (own_act s raise.GlobalPort (λ n. Sends n (f 1))) (own_steps s raise.GlobalPort (λ n. Sends n (f 1))))
+
+delay_steps : (procedure x : Ident) (v : Value) → answer_ready (delays procedure x v) ≡ Steps
+delay_steps procedure x v = by (is_procedure v)
+  where
+    by : (b : Bool) → answer_ready (if b then Acts (Delays procedure x) else RaisesKind raise.BadKind) ≡ Steps
+    by true = refl
+    by false = refl
+
+pub by_need_waits : (s : Sight) (f : ℕ → Ident) → answer_ready (answer s builtin.ByNeed f) ≡ awaiting (f 0) (value_of s.view (f 0)) Steps
+by_need_waits s f = one_waits (f 0) (value_of s.view (f 0)) (delays (f 0) (f 1)) (delay_steps (f 0) (f 1))
 
 pub show_steps : (s : Sight) (f : ℕ → Ident) → answer_ready (answer s builtin.Show f) ≡ Steps
 show_steps s f = by (is_top s.space)

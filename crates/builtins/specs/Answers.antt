@@ -30,6 +30,7 @@ act_of (act.Writes n content) = answers.Writes n content
 act_of (act.Exchanges n x content) = answers.Exchanges n x content
 act_of (act.MakesPort x stream) = answers.MakesPort x stream
 act_of (act.Sends n item) = answers.Sends n item
+act_of (act.Delays procedure x) = answers.Delays procedure x
 act_of (act.Shows x) = answers.Shows x
 
 -- a step does just this

@@ -76,6 +76,11 @@ pub enum Act {
         port: u64,
         item: Ident,
     },
+    /// The procedure is applied to the variable once that is needed.
+    Delays {
+        procedure: Ident,
+        variable: Ident,
+    },
     /// The text of the variable is shown.
     Shows(Ident),
 }

@@ -9,6 +9,7 @@ ghost use Rattle.builtins.specs.Looks.{Given};
 ghost use Rattle.builtins.specs.Exact.{answer_of, erased, gives_label, gives_width, gives_arity, passes, shows};
 
 use crate::answer::{Act, Answer};
+use crate::delays::by_need;
 use crate::objects::{access, assign, exchange, new_cell, new_name, new_port, send};
 use crate::operations::of_operation;
 use crate::records::{gives_arity, gives_label, gives_width};
@@ -46,6 +47,7 @@ pub fn arguments_of(builtin: Builtin) -> usize
         Builtin::Exchange => 3,
         Builtin::NewPort => 2,
         Builtin::Send => 2,
+        Builtin::ByNeed => 2,
         Builtin::Show => 1,
     }
 }
@@ -128,6 +130,7 @@ fn answers(
         Builtin::Exchange => exchange(alloc, store, space, first, second, third),
         Builtin::NewPort => new_port(alloc, first, second),
         Builtin::Send => send(alloc, store, space, first, second),
+        Builtin::ByNeed => by_need(alloc, store, first, second),
         Builtin::Show => show(alloc, space, first),
     }
 }

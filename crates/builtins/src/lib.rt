@@ -7,6 +7,7 @@
 
 mod answer;
 mod calls;
+mod delays;
 mod given;
 mod integers;
 mod objects;

@@ -137,6 +137,7 @@ pub fn ready_given(
         Builtin::Exchange => ready_one(alloc, store, first),
         Builtin::NewPort => Ok(Readiness::Steps),
         Builtin::Send => ready_one(alloc, store, first),
+        Builtin::ByNeed => ready_one(alloc, store, first),
         Builtin::Show => Ok(Readiness::Steps),
     }
 }

@@ -91,7 +91,11 @@ static ROWS: [Row; 36] = [
         name: b"Send",
         builtin: Builtin::Send,
     },
-    Row::Unserved,
+    Row::Named {
+        word: 14,
+        name: b"ByNeed",
+        builtin: Builtin::ByNeed,
+    },
     Row::Named {
         word: 1,
         name: b"Show",

@@ -95,7 +95,7 @@ fn waits_for_its_input(rt: HostRuntime) -> Result<(), Fail> {
     Ok(())
 }
 
-/// What an answer says of names, cells and ports, by the numbers in it.
+/// What an answer says of names, cells, ports and by-need computations, by the numbers in it.
 #[derive(Clone, Copy, Debug, PartialEq, Eq)]
 enum Said {
     Rests,
@@ -107,6 +107,7 @@ enum Said {
     Exchanges(u64, u64, u64),
     MakesPort(u64, u64),
     Sends(u64, u64),
+    Delays(u64, u64),
     Other,
 }
 
@@ -123,6 +124,10 @@ fn done(act: &Act) -> Said {
         } => Said::Exchanges(*cell, variable.number, content.number),
         Act::MakesPort { variable, stream } => Said::MakesPort(variable.number, stream.number),
         Act::Sends { port, item } => Said::Sends(*port, item.number),
+        Act::Delays {
+            procedure,
+            variable,
+        } => Said::Delays(procedure.number, variable.number),
         _ => Said::Other,
     }
 }
@@ -136,15 +141,20 @@ fn in_short(answer: &Answer) -> Said {
     }
 }
 
-/// Variable 0 is cell 5 of the top, 1 its port 6, and 2 its name 7.
+/// Variable 0 is cell 5 of the top, 1 its port 6, 2 its name 7, 4 a built-in, and 5 the number 8.
 fn objects(alloc: Global) -> Result<Store, AllocError> {
     let values = [
         Value::Cell(variable(5)),
         Value::Port(variable(6)),
         Value::Name(variable(7)),
+        Value::Builtin(Builtin::Wait),
+        Value::Constant(Constant::Int(8)),
     ];
     let mut tells = Vec::new(alloc);
-    for (number, value) in (0..3).zip(Vec::from_array(alloc, values)?) {
+    for (number, value) in [0, 1, 2, 4, 5]
+        .into_iter()
+        .zip(Vec::from_array(alloc, values)?)
+    {
         tells.push(Tell::Is {
             variable: variable(number),
             value,
@@ -268,6 +278,23 @@ fn is_ready_where_the_cell_or_the_port_is_there(rt: HostRuntime) -> Result<(), F
 }
 
 #[test]
+fn a_procedure_is_delayed(rt: HostRuntime) -> Result<(), Fail> {
+    let alloc = rt.alloc();
+    assert_eq!(rt;
+        at_top(alloc, Builtin::ByNeed, &[4, 9])?,
+        Said::Delays(4, 9)
+    );
+    assert_eq!(rt; at_top(alloc, Builtin::ByNeed, &[3, 9])?, Said::Rests);
+    assert_eq!(rt;
+        at_top(alloc, Builtin::ByNeed, &[5, 9])?,
+        Said::Raises(RaiseKind::BadKind)
+    );
+    assert_eq!(rt; awaited(alloc, Builtin::ByNeed, &[4, 3])?, 0);
+    assert_eq!(rt; awaited(alloc, Builtin::ByNeed, &[3, 9])?, 1);
+    Ok(())
+}
+
+#[test]
 fn has_a_row_for_each(rt: HostRuntime) -> Result<(), Fail> {
     let named = match rows()[24] {
         Row::Named { name, .. } => name == b"Show".as_slice(),
@@ -283,6 +310,7 @@ fn finds_a_built_in_by_its_name(rt: HostRuntime) -> Result<(), Fail> {
     assert!(rt; matches!(lookup(b"NewName"), Some(Builtin::NewName)));
     assert!(rt; matches!(lookup(b"Exchange"), Some(Builtin::Exchange)));
     assert!(rt; matches!(lookup(b"Send"), Some(Builtin::Send)));
+    assert!(rt; matches!(lookup(b"ByNeed"), Some(Builtin::ByNeed)));
     assert!(rt; lookup(b"arity").is_none());
     assert!(rt; lookup(b"").is_none());
     Ok(())

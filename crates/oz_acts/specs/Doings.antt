@@ -3,7 +3,7 @@ use Rattle.std.specs.Prelude.{ℕ, ◌≡◌, Bool, true, false, List, [], ◌�
 use Rattle.oz_base.specs.declared.names.Ident.{Ident}
 use Rattle.oz_semantics.specs.Names.{named}
 use Rattle.oz_semantics.specs.Store.{is_consistent}
-use Rattle.oz_semantics.specs.Answers.{Act, Passes, GoesOn, Declares, Starts, GivesValue, GivesTerm, GivesVariable, MakesProcedure, MakesName, MakesCell, Reads, Writes, Exchanges, MakesPort, Sends, Shows}
+use Rattle.oz_semantics.specs.Answers.{Act, Passes, GoesOn, Declares, Starts, GivesValue, GivesTerm, GivesVariable, MakesProcedure, MakesName, MakesCell, Reads, Writes, Exchanges, MakesPort, Sends, Delays, Shows}
 use Rattle.oz_semantics.specs.Configurations.{view}
 use Rattle.oz_semantics.specs.Changes.{changed_all, done}
 use Rattle.oz_semantics.specs.Steps.{without_top}
@@ -38,6 +38,7 @@ is_quiet (Writes n content) = true
 is_quiet (Exchanges n x content) = false
 is_quiet (MakesPort x stream) = false
 is_quiet (Sends n item) = false
+is_quiet (Delays procedure x) = true
 is_quiet (Shows x) = false
 
 -- an act that shows a text
@@ -58,6 +59,7 @@ is_shown (Writes n content) = false
 is_shown (Exchanges n x content) = false
 is_shown (MakesPort x stream) = false
 is_shown (Sends n item) = false
+is_shown (Delays procedure x) = false
 
 -- the thread that an act starts, in a space with this layer
 abbrev pub started_by : List ℕ → Layer → Act → List Ident
@@ -76,4 +78,5 @@ started_by space l (Writes n content) = []
 started_by space l (Exchanges n x content) = []
 started_by space l (MakesPort x stream) = []
 started_by space l (Sends n item) = []
+started_by space l (Delays procedure x) = []
 started_by space l (Shows x) = []

@@ -140,8 +140,12 @@ pub fn is_quiet(act: &Act) -> bool
     ensures { result ≡ is_quiet (act_of act.now) }
 {
     match act {
-        Act::Passes | Act::GoesOn(_) | Act::Declares { .. } | Act::Starts(_) | Act::Writes { .. } =>
-            true,
+        Act::Passes
+        | Act::GoesOn(_)
+        | Act::Declares { .. }
+        | Act::Starts(_)
+        | Act::Writes { .. }
+        | Act::Delays { .. } => true,
         Act::GivesValue { .. }
         | Act::GivesList { .. }
         | Act::GivesVariable { .. }
@@ -184,6 +188,7 @@ pub fn started(
         | Act::Exchanges { .. }
         | Act::MakesPort { .. }
         | Act::Sends { .. }
+        | Act::Delays { .. }
         | Act::Shows(_) => Ok(None),
     }
 }
@@ -263,6 +268,13 @@ pub fn act(
         } => exchange(alloc, levels, id, cell, variable, content),
         Act::MakesPort { variable, stream } => make_port(alloc, levels, id, variable, stream),
         Act::Sends { port, item } => send(alloc, levels, id, port, item),
+        Act::Delays {
+            procedure,
+            variable,
+        } => {
+            levels.delay(alloc, id, procedure, variable)?;
+            Ok(true)
+        }
         Act::Shows(_) => unreachable!(),
     }
 }

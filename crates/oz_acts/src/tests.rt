@@ -156,6 +156,29 @@ fn a_cell_is_exchanged_unless_that_clashes(rt: HostRuntime) -> Result<(), Fail> 
     Ok(())
 }
 
+/// The numbers of the procedure and of the variable of the top's by-need computation, where it has just one.
+fn delayed(levels: &Levels) -> Option<(u64, u64)> {
+    let place = levels.place(&SpaceName::top())?;
+    match levels.triggers_at(place) {
+        [trigger] => Some((trigger.procedure.number, trigger.variable.number)),
+        _ => None,
+    }
+}
+
+#[test]
+fn a_procedure_is_delayed(rt: HostRuntime) -> Result<(), Fail> {
+    let alloc = rt.alloc();
+    let mut levels = opened(alloc)?;
+    assert_eq!(rt; delayed(&levels), None);
+    let what = Act::Delays {
+        procedure: of_top(1),
+        variable: of_top(2),
+    };
+    assert!(rt; done(alloc, &mut levels, what)?);
+    assert_eq!(rt; delayed(&levels), Some((1, 2)));
+    Ok(())
+}
+
 #[test]
 fn a_port_gets_two_items(rt: HostRuntime) -> Result<(), Fail> {
     let alloc = rt.alloc();

@@ -45,6 +45,8 @@ pub data Act : Type 0 where
   MakesPort : Ident → Ident → Act
   -- x is the next in the stream of the port
   Sends : ℕ → Ident → Act
+  -- the procedure is applied to x once x is needed
+  Delays : Ident → Ident → Act
   -- the text of x is shown
   Shows : Ident → Act
 

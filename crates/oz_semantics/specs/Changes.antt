@@ -2,7 +2,7 @@
 use Rattle.std.specs.Prelude.{ℕ, List, ◌++◌}
 use Rattle.std.specs.List.{fold}
 use Rattle.oz_base.specs.declared.names.Ident.{Ident}
-use Rattle.oz_semantics.specs.Configurations.{in_layer, with_frames, telling, giving_out, counting_procedure, counting_name, spawning, adding_cell, with_content, adding_port, with_end}
+use Rattle.oz_semantics.specs.Configurations.{in_layer, with_frames, telling, giving_out, counting_procedure, counting_name, spawning, adding_cell, with_content, adding_port, with_end, adding_trigger}
 use Rattle.oz_semantics.specs.declared.value.Tell.{Tell}
 use Rattle.oz_semantics.specs.declared.configuration.Frame.{Frame}
 use Rattle.oz_semantics.specs.declared.configuration.Layer.{Layer}
@@ -23,6 +23,8 @@ pub data Change : Type 0 where
   -- a new port with this stream, and where the stream of a port ends from now on
   AddsPort : Ident → Change
   EndsAt : ℕ → Ident → Change
+  -- a trigger, by its procedure and its variable
+  AddsTrigger : Ident → Ident → Change
 
 -- by this thread
 abbrev pub changed : Ident → List Layer → Change → List Layer
@@ -35,6 +37,7 @@ changed id layers (AddsCell content) = in_layer id.space (adding_cell content) l
 changed id layers (Holds n content) = in_layer id.space (with_content n content) layers
 changed id layers (AddsPort end) = in_layer id.space (adding_port end) layers
 changed id layers (EndsAt n end) = in_layer id.space (with_end n end) layers
+changed id layers (AddsTrigger procedure variable) = in_layer id.space (adding_trigger procedure variable) layers
 
 abbrev pub changed_all : Ident → List Change → List Layer → List Layer
 changed_all id changes layers = fold (changed id) layers changes

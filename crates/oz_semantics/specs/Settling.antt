@@ -1,5 +1,5 @@
--- What follows a step of the machine: spaces that see what is inconsistent fail, and the queue loses the threads that cannot step and
--- gains those that can.
+-- What follows a step of the machine: spaces that see what is inconsistent fail, by-need computations that are needed begin, and the queue
+-- loses the threads that cannot step and gains those that can.
 use Rattle.std.specs.Prelude.{ℕ, Bool, true, false, not, ◌&&◌, if◌then◌else◌, List, [], ◌∷◌, ◌++◌, Option, Some, None, map, filter}
 use Rattle.std.specs.List.{list_any, flat_map, fold}
 use Rattle.oz_base.specs.Names.{ident_eq}
@@ -12,6 +12,7 @@ use Rattle.oz_semantics.specs.Sights.{can_step}
 use Rattle.oz_semantics.specs.Readiness.{thread_ready}
 use Rattle.oz_semantics.specs.Spaces.{sight}
 use Rattle.oz_semantics.specs.Exceptions.{raise_term, with_term}
+use Rattle.oz_semantics.specs.Triggers.{triggered}
 use Rattle.oz_semantics.specs.declared.configuration.Thread.{Thread}
 use Rattle.oz_semantics.specs.declared.configuration.Status.{Status}
 use Rattle.oz_semantics.specs.declared.configuration.Status.TheVariants as status
@@ -97,4 +98,4 @@ requeued statements mover c layers = record c { layers = layers; queue = queue_a
 abbrev pub settled : List Statement → Option Ident → ℕ → Configuration → Turned
 settled statements mover cost c =
     if top_is_inconsistent c.layers then top_failed cost c
-    else (Moved cost, requeued statements mover c (without_inconsistent c.layers))
+    else (Moved cost, requeued statements mover c (triggered statements (without_inconsistent c.layers)))

@@ -48,6 +48,8 @@ pub enum Builtin {
     NewPort,
     /// `Send`, of two parameters: puts something at the end of a port's stream.
     Send,
+    /// `ByNeed`, of two parameters: a procedure is applied to a variable once that is needed.
+    ByNeed,
     /// `Show`, of one parameter: writes the text of a term as a line.
     Show,
 }

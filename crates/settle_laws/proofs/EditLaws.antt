@@ -37,6 +37,7 @@ are_quiet = record {
   content = λ number content. record { space = λ l. refl; status = λ l. refl; tells = λ l. refl };
   port = λ end. record { space = λ l. refl; status = λ l. refl; tells = λ l. refl };
   end = λ number end. record { space = λ l. refl; status = λ l. refl; tells = λ l. refl };
+  trigger = λ procedure variable. record { space = λ l. refl; status = λ l. refl; tells = λ l. refl };
   both = λ f g p q. record {
     space = λ l. p.space (g l) ∙ q.space l;
     status = λ l. p.status (g l) ∙ q.status l;

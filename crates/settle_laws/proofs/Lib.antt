@@ -7,3 +7,4 @@ pub mod OpeningLaws
 pub mod StepLaws
 pub mod TurnLaws
 pub mod TreeSteps
+pub mod ContentLaws

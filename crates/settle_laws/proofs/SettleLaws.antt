@@ -6,6 +6,7 @@ use Rattle.oz_semantics.specs.Names.{is_below, is_properly_below, is_top, named}
 use Rattle.oz_semantics.specs.Store.{View, is_consistent}
 use Rattle.oz_semantics.specs.Configurations.{is_of, layer_at, layer_of, new_layer, frames_in, thread_at, view, in_layer, failed, ending}
 use Rattle.oz_semantics.specs.Changes.{changed_all}
+use Rattle.oz_semantics.specs.Triggers.{triggered}
 use Rattle.oz_semantics.specs.Settling.{may_fail, is_inconsistent, inconsistent_spaces, failing, without_inconsistent, top_is_inconsistent, top_failed, requeued}
 use Rattle.oz_semantics.specs.declared.configuration.Status.{Status}
 use Rattle.oz_semantics.specs.declared.configuration.Layer.{Layer}
@@ -181,8 +182,8 @@ changes_settle id (change ∷ changes) before after settles =
 pub settled_by : Settled
 settled_by statements mover cost space before after queue shown settles =
     let left : Configuration = record { layers = before; queue = queue; shown = shown } in
-    ap (λ (b : Bool). if b then top_failed cost left else (Moved cost, requeued statements mover left (without_inconsistent before))) (settled_top space before after settles)
-    ∙ ap (λ (ls : List Layer). (Moved cost, requeued statements mover left ls)) (sym settles.left)
+    ap (λ (b : Bool). if b then top_failed cost left else (Moved cost, requeued statements mover left (triggered statements (without_inconsistent before)))) (settled_top space before after settles)
+    ∙ ap (λ (ls : List Layer). (Moved cost, requeued statements mover left (triggered statements ls))) (sym settles.left)
 
 pub tell_settles : TellSettles
 tell_settles space ts old new below left = record { below = below; left = left }

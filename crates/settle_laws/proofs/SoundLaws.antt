@@ -4,11 +4,13 @@ use Rattle.std.specs.List.{find}
 use Rattle.std.proofs.lemmas.Bool.{false≢true}
 use Rattle.oz_base.specs.Lists.{list_eq}
 use Rattle.oz_base.specs.declared.names.Ident.{Ident}
+use Rattle.oz_language.specs.declared.kernel.Statement.{Statement}
 use Rattle.oz_semantics.specs.Names.{is_below, is_properly_below, parent_of, child_name, space_lt}
 use Rattle.oz_semantics.specs.Store.{View, is_consistent}
 use Rattle.oz_semantics.specs.Configurations.{is_of, layer_at, layer_of, view, in_layer, failed, next_child, new_layer, counting_child}
 use Rattle.oz_semantics.specs.Edits.{starting, created, committing}
 use Rattle.oz_semantics.specs.Spaces.{sight}
+use Rattle.oz_semantics.specs.Triggers.{triggered}
 use Rattle.oz_semantics.specs.Settling.{Turned, may_fail, is_inconsistent, inconsistent_spaces, failing, without_inconsistent, top_is_inconsistent, top_failed, requeued}
 use Rattle.oz_semantics.specs.Runs.{left_by}
 use Rattle.oz_semantics.specs.declared.value.Tell.{Tell}
@@ -22,6 +24,8 @@ use Rattle.view_laws.proofs.ListLaws.{filter_in, in_filter, filter_none, map_in,
 use Rattle.view_laws.proofs.NameLaws.{properly_by, names_equal, equal_names, above_parent}
 use Rattle.view_laws.proofs.TreeLaws.{failure_tree, same_named_layer, in_put, fresh_before}
 use Rattle.view_laws.proofs.SightLaws.{space_of, failure_unseen, creation_unseen}
+use Rattle.need_laws.proofs.FireLaws.{all_fired}
+use Rattle.need_laws.proofs.AfterLaws.{fired_tree, fired_sound}
 use Rattle.settle_laws.specs.Sound.{SoundNothing, SoundTop, SoundSettles, QuietStaysSound, FollowedLeft, LeftTree, LeftSound, SettledSound, CreatedSound, CommittedSound}
 use Rattle.settle_laws.proofs.SettleLaws.{quiet_inconsistent, nothing_fails, top_kept, settled_by}
 use Rattle.settle_laws.proofs.EditLaws.{are_quiet}
@@ -123,6 +127,11 @@ left_sound layers tree l c = elim (decide (is_inconsistent (without_inconsistent
 
 -- What follows a step
 
+-- where what is needed begins
+pub begun_good : (statements : List Statement) (layers : List Layer) → IsTree layers → IsSound layers → IsTree (triggered statements layers) × IsSound (triggered statements layers)
+begun_good statements layers tree sound =
+    let fires = all_fired statements layers in (fired_tree layers (triggered statements layers) fires tree, fired_sound layers (triggered statements layers) fires sound)
+
 abbrev MovedSound : Turned → Type 0
 MovedSound (Moved cost, d) = IsTree d.layers × IsSound d.layers
 MovedSound (TopEnded x cost, d) = Unit {0}
@@ -131,9 +140,9 @@ MovedSound (Quiescent, d) = Unit {0}
 pub settled_sound : SettledSound
 settled_sound statements mover cost c n d tree e = subst MovedSound e (by (top_is_inconsistent c.layers))
   where
-    by : (b : Bool) → MovedSound (if b then top_failed cost c else (Moved cost, requeued statements mover c (without_inconsistent c.layers)))
+    by : (b : Bool) → MovedSound (if b then top_failed cost c else (Moved cost, requeued statements mover c (triggered statements (without_inconsistent c.layers))))
     by true = tt
-    by false = (left_tree c.layers tree, left_sound c.layers tree)
+    by false = begun_good statements (without_inconsistent c.layers) (left_tree c.layers tree) (left_sound c.layers tree)
 
 -- A new space
 

@@ -7,7 +7,8 @@ use Rattle.oz_language.specs.declared.kernel.Kernel.{Kernel}
 use Rattle.oz_semantics.specs.Names.{is_top}
 use Rattle.oz_semantics.specs.Configurations.{spawning, frames_of}
 use Rattle.oz_semantics.specs.Exceptions.{raise_term, with_term}
-use Rattle.oz_semantics.specs.Settling.{Turned, top_is_inconsistent, top_failed, requeued, without_inconsistent, settled}
+use Rattle.oz_semantics.specs.Triggers.{triggered}
+use Rattle.oz_semantics.specs.Settling.{Turned, top_is_inconsistent, top_failed, requeued, without_inconsistent, runnable, queue_after, settled}
 use Rattle.oz_semantics.specs.Steps.{stepped}
 use Rattle.oz_semantics.specs.Schedule.{turn_of}
 use Rattle.oz_semantics.specs.Runs.{left_by, opening_environment, top_layer}
@@ -18,11 +19,13 @@ use Rattle.oz_semantics.specs.declared.outcome.Stepped.TheVariants.{Moved, TopEn
 use Rattle.oz_laws.proofs.SameLaws.{In-from_contains}
 use Rattle.view_laws.specs.Trees.{IsTree}
 use Rattle.view_laws.specs.Steps.{IsSound}
+use Rattle.view_laws.proofs.NeedLaws.{nothing_fires}
+use Rattle.need_laws.proofs.RoundLaws.{none_there}
 use Rattle.view_laws.proofs.TreeLaws.{change_tree, end_tree}
 use Rattle.settle_laws.specs.Turns.{opening_layers}
 use Rattle.settle_laws.specs.Sound.{StepTree, StepSound, TurnTree, TurnSound, OpeningTree, OpeningLeft}
 use Rattle.settle_laws.proofs.SettleLaws.{settled_by}
-use Rattle.settle_laws.proofs.SoundLaws.{left_tree, left_sound, sound_settles}
+use Rattle.settle_laws.proofs.SoundLaws.{left_tree, left_sound, begun_good, sound_settles}
 use Rattle.settle_laws.proofs.OpeningLaws.{opening_sound}
 use Rattle.settle_laws.proofs.StepLaws.{step_holds}
 
@@ -35,9 +38,9 @@ LeavesTree (Quiescent, d) = IsTree d.layers
 settled_leaves : (statements : List Statement) (mover : Option Ident) (cost : ℕ) (c : Configuration) → IsTree c.layers → LeavesTree (settled statements mover cost c)
 settled_leaves statements mover cost c tree = by (top_is_inconsistent c.layers)
   where
-    by : (b : Bool) → LeavesTree (if b then top_failed cost c else (Moved cost, requeued statements mover c (without_inconsistent c.layers)))
+    by : (b : Bool) → LeavesTree (if b then top_failed cost c else (Moved cost, requeued statements mover c (triggered statements (without_inconsistent c.layers))))
     by true = change_tree [] (with_term (raise_term FailureTop)) c.layers (λ l e. (refl, omega arith)) tree
-    by false = (left_tree c.layers tree, left_sound c.layers tree)
+    by false = begun_good statements (without_inconsistent c.layers) (left_tree c.layers tree) (left_sound c.layers tree)
 
 step_leaves : (k : Kernel) (id : Ident) (c : Configuration) → IsTree c.layers → LeavesTree (stepped k id c)
 step_leaves k id c tree =
@@ -80,4 +83,7 @@ pub opening_tree : OpeningTree
 opening_tree k = alone_tree (spawning (frames_of opening_environment k.body) top_layer) refl
 
 pub opening_left : OpeningLeft
-opening_left k = ap (λ (t : Turned). left_by t) (settled_by k.statements None 0 [] (opening_layers k) (opening_layers k) [] [] (sound_settles [] (opening_layers k) (opening_sound k)))
+opening_left k =
+    ap (λ (t : Turned). left_by t) (settled_by k.statements None 0 [] (opening_layers k) (opening_layers k) [] [] (sound_settles [] (opening_layers k) (opening_sound k)))
+    ∙ ap (λ (ls : List Layer). record { layers = ls; queue = queue_after (runnable k.statements ls) None []; shown = [] })
+    (nothing_fires k.statements (opening_layers k) (none_there k.statements (opening_layers k) refl))

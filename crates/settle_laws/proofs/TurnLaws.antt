@@ -4,6 +4,7 @@ use Rattle.oz_base.specs.declared.names.Ident.{Ident}
 use Rattle.oz_language.specs.declared.kernel.Statement.{Statement}
 use Rattle.oz_language.specs.declared.kernel.Kernel.{Kernel}
 use Rattle.oz_semantics.specs.Edits.{created, committed}
+use Rattle.oz_semantics.specs.Triggers.{triggered}
 use Rattle.oz_semantics.specs.Settling.{Turned, settled, top_is_inconsistent, top_failed, without_inconsistent, runnable, requeued}
 use Rattle.oz_semantics.specs.Schedule.{turn_of}
 use Rattle.oz_semantics.specs.Runs.{left_by}
@@ -21,7 +22,7 @@ use Rattle.settle_laws.specs.Turns.{HasExact, SettledExact, StepExact, TurnExact
 cost_follows : (statements : List Statement) (mover : Option Ident) (cost : ℕ) (c : Configuration) → 1 ≤ cost → 1 ≤ cost_of (settled statements mover cost c).0
 cost_follows statements mover cost c h = by (top_is_inconsistent c.layers)
   where
-    by : (b : Bool) → 1 ≤ cost_of (if b then top_failed cost c else (Moved cost, requeued statements mover c (without_inconsistent c.layers))).0
+    by : (b : Bool) → 1 ≤ cost_of (if b then top_failed cost c else (Moved cost, requeued statements mover c (triggered statements (without_inconsistent c.layers)))).0
     by true = h
     by false = h
 
@@ -42,9 +43,9 @@ requeued_exact statements mover c layers id = queue_exact (runnable statements l
 exact_follows : (statements : List Statement) (mover : Option Ident) (cost : ℕ) (c : Configuration) → MovedExact statements (settled statements mover cost c)
 exact_follows statements mover cost c = by (top_is_inconsistent c.layers)
   where
-    by : (b : Bool) → MovedExact statements (if b then top_failed cost c else (Moved cost, requeued statements mover c (without_inconsistent c.layers)))
+    by : (b : Bool) → MovedExact statements (if b then top_failed cost c else (Moved cost, requeued statements mover c (triggered statements (without_inconsistent c.layers))))
     by true = tt
-    by false = requeued_exact statements mover c (without_inconsistent c.layers)
+    by false = requeued_exact statements mover c (triggered statements (without_inconsistent c.layers))
 
 pub settled_exact : SettledExact
 settled_exact statements mover cost c n d e = subst (MovedExact statements) e (exact_follows statements mover cost c)
@@ -63,8 +64,8 @@ turn_exact k c n d e = subst (MovedExact k.statements) e (turn_exact_of k c c.qu
 -- where the top is consistent
 left_exact : (statements : List Statement) (mover : Option Ident) (cost : ℕ) (c : Configuration) → top_is_inconsistent c.layers ≡ false → HasExact statements (left_by (settled statements mover cost c))
 left_exact statements mover cost c e =
-    subst (λ (b : Bool). HasExact statements (left_by (if b then top_failed cost c else (Moved cost, requeued statements mover c (without_inconsistent c.layers))))) (sym e)
-    (requeued_exact statements mover c (without_inconsistent c.layers))
+    subst (λ (b : Bool). HasExact statements (left_by (if b then top_failed cost c else (Moved cost, requeued statements mover c (triggered statements (without_inconsistent c.layers)))))) (sym e)
+    (requeued_exact statements mover c (triggered statements (without_inconsistent c.layers)))
 
 pub followed_exact : FollowedExact
 followed_exact statements c layers e = left_exact statements None 1 (record c { layers = layers }) e

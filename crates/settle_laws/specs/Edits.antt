@@ -1,7 +1,7 @@
 -- Edits of one layer after another, and which of them are quiet.
 use Rattle.std.specs.Prelude.{ℕ, ◌≡◌, List, Some, is_some, length}
 use Rattle.oz_base.specs.declared.names.Ident.{Ident}
-use Rattle.oz_semantics.specs.Configurations.{layer_at, layer_of, view, in_layer, with_frames, without_terminated, telling, giving_out, counting_procedure, counting_name, counting_child, spawning, adding_cell, with_content, adding_port, with_end}
+use Rattle.oz_semantics.specs.Configurations.{layer_at, layer_of, view, in_layer, with_frames, without_terminated, telling, giving_out, counting_procedure, counting_name, counting_child, spawning, adding_cell, with_content, adding_port, with_end, adding_trigger}
 use Rattle.oz_semantics.specs.Sights.{Sight}
 use Rattle.oz_semantics.specs.Edits.{committing}
 use Rattle.oz_semantics.specs.Terms.{Term}
@@ -42,6 +42,7 @@ pub record AreQuiet : Type 0 where
   pub content : (number : ℕ) (content : Ident) → IsQuiet (with_content number content)
   pub port : (end : Ident) → IsQuiet (adding_port end)
   pub end : (number : ℕ) (end : Ident) → IsQuiet (with_end number end)
+  pub trigger : (procedure variable : Ident) → IsQuiet (adding_trigger procedure variable)
   pub both : (f g : Layer → Layer) → IsQuiet f → IsQuiet g → IsQuiet (λ l. f (g l))
 
 -- A quiet change leaves a space there that is there

@@ -1,4 +1,5 @@
 pub mod Settles
 pub mod Edits
 pub mod Turns
+pub mod Content
 pub mod Sound

@@ -6,6 +6,7 @@ use Rattle.oz_semantics.specs.Names.{is_properly_below}
 use Rattle.oz_semantics.specs.Store.{is_consistent}
 use Rattle.oz_semantics.specs.Configurations.{layer_at, layer_of, stack_of, view, in_layer, telling, ending}
 use Rattle.oz_semantics.specs.Changes.{Change, changed_all}
+use Rattle.oz_semantics.specs.Triggers.{triggered}
 use Rattle.oz_semantics.specs.Settling.{Turned, term_variable, inconsistent_spaces, without_inconsistent, top_is_inconsistent, runnable, queue_after, settled}
 use Rattle.oz_semantics.specs.declared.value.Tell.{Tell}
 use Rattle.oz_semantics.specs.declared.configuration.Layer.{Layer}
@@ -61,12 +62,12 @@ KeepsView = (space : List ℕ) (before after : List Layer) → Settles space bef
 abbrev pub EndsSame : Type 0
 EndsSame = (space : List ℕ) (how : Layer → Layer) (before after : List Layer) → Settles space before after → ending space how after ≡ ending space how before
 
--- What follows such a step is that the queue follows: the top has not failed
+-- What follows such a step is that what is needed begins, and the queue follows: the top has not failed
 abbrev pub Settled : Type 0
 Settled =
     (statements : List Statement) (mover : Option Ident) (cost : ℕ) (space : List ℕ) (before after : List Layer) (queue : List Ident) (shown : List (List ℕ)) → Settles space before after
     → ◌≡◌ {A = Turned} (settled statements mover cost (record { layers = before; queue = queue; shown = shown }))
-    (Moved cost, record { layers = after; queue = queue_after (runnable statements after) mover queue; shown = shown })
+    (Moved cost, record { layers = triggered statements after; queue = queue_after (runnable statements (triggered statements after)) mover queue; shown = shown })
 
 abbrev pub TopKept : Type 0
 TopKept = (space : List ℕ) (before after : List Layer) → Settles space before after → top_is_inconsistent before ≡ false

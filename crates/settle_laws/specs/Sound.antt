@@ -6,6 +6,7 @@ use Rattle.oz_language.specs.declared.kernel.Kernel.{Kernel}
 use Rattle.oz_semantics.specs.Store.{is_consistent}
 use Rattle.oz_semantics.specs.Configurations.{layer_at, view, in_layer}
 use Rattle.oz_semantics.specs.Edits.{created, committed}
+use Rattle.oz_semantics.specs.Triggers.{triggered}
 use Rattle.oz_semantics.specs.Settling.{inconsistent_spaces, without_inconsistent, top_is_inconsistent, runnable, queue_after, settled}
 use Rattle.oz_semantics.specs.Steps.{stepped}
 use Rattle.oz_semantics.specs.Schedule.{turn}
@@ -72,11 +73,11 @@ CreatedSound =
 abbrev pub CommittedSound : Type 0
 CommittedSound = (statements : List Statement) (space : List ℕ) (i : ℕ) (layers : List Layer) → IsSound layers → IsSound (committed statements space i layers)
 
--- an edit by the search that leaves nothing inconsistent changes the queue besides
+-- What follows an edit by the search that leaves nothing inconsistent is that what is needed begins, and the queue follows
 abbrev pub FollowedLeft : Type 0
 FollowedLeft =
     (statements : List Statement) (c : Configuration) (layers : List Layer) → IsSound layers
-    → followed statements c layers ≡ record c { layers = layers; queue = queue_after (runnable statements layers) None c.queue }
+    → followed statements c layers ≡ record c { layers = triggered statements layers; queue = queue_after (runnable statements (triggered statements layers)) None c.queue }
 
 -- The layers in which a program opens are sound
 abbrev pub OpeningSound : Type 0

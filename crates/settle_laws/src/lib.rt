@@ -6,6 +6,7 @@
 ghost use Rattle.settle_laws.specs.Settles.{NothingFails, QuietFails, QuietSettles, ChangesSettle, KeepsOwn, KeepsView, EndsSame, Settled, TellSettles, TellBelow, TopKept};
 ghost use Rattle.settle_laws.specs.Edits.{EditsJoin, EditsAgree, TermSettles, AreQuiet, QuietThere, QuietView, PopView};
 ghost use Rattle.settle_laws.specs.Turns.{SettledExact, StepExact, TurnExact, FollowedExact, OpeningExact, RootExact, ChosenExact, CostLaw};
+ghost use Rattle.settle_laws.specs.Content.{SettledContent, StepContent, TurnContent, FollowedContent, OpeningContent};
 ghost use Rattle.settle_laws.specs.Sound.{SoundNothing, SoundTop, SoundSettles, QuietStaysSound, LeftTree, LeftSound, SettledSound, StepTree, StepSound, TurnTree, TurnSound, CreatedSound, CommittedSound, FollowedLeft, OpeningSound, OpeningTree, OpeningLeft};
 
 /// What edits of one layer come to. Nothing: it holds laws.
@@ -43,6 +44,15 @@ pub fn turn_law()
     ensures root { RootExact }
     ensures chosen { ChosenExact }
     ensures cost { CostLaw }
+{}
+
+/// No turn leaves a trigger that is needed. Nothing: it holds laws.
+pub fn content_law()
+    ensures settled { SettledContent }
+    ensures step { StepContent }
+    ensures turn { TurnContent }
+    ensures followed { FollowedContent }
+    ensures opening { OpeningContent }
 {}
 
 /// Where no space sees what is inconsistent. Nothing: it holds laws.

@@ -103,7 +103,7 @@ module _ (levels : List Level) (space : List ℕ) (place : ℕ) (x : Layer) (h :
   no_tells = ap₂ (λ (n : ℕ) (ts : List Tell). drop n ts) f.bare.told_from f.bare.store ∙ drop-length tells
 
   shows_failed : shown m ≡ failed (shown l)
-  shows_failed = λ i. record { space = f.space i; status = f.status i; tells = no_tells i; threads = (f.threads i).list; cells = (f.objects i).cells; ports = (f.objects i).ports; next = next_with (f.threads i).next (f.numbers i) }
+  shows_failed = λ i. record { space = f.space i; status = f.status i; tells = no_tells i; threads = (f.threads i).list; triggers = f.triggers i; cells = (f.objects i).cells; ports = (f.objects i).ports; next = next_with (f.threads i).next (f.numbers i) }
 
   pub fail_edit : Edited levels (slice_set levels place m) space failed
   fail_edit = edit_above levels space place x h l m e failed shows_failed f.space f.numbers s none (record {

@@ -2,8 +2,8 @@
 use Rattle.std.proofs.Common.{◌≡◌, ℕ, ◌+◌, arith, List, [], ◌∷◌, ◌++◌, length, take, drop, refl, sym, ap, ap₂, subst, ◌∙◌, Option, Some, unwrap_or}
 use Rattle.std.proofs.lemmas.List.{take_at, drop_at, drop-drop}
 use Rattle.oz_base.specs.declared.names.Ident.{Ident}
-use Rattle.oz_semantics.specs.Configurations.{is_numbered, layer_at, thread_at, frames_in, stack_of, new_layer, in_layer, with_frames, telling, giving_out, spawning, with_content, with_end}
-use Rattle.oz_semantics.specs.Changes.{Pushes, Spawns, GivesOut, Holds, changed_all, done}
+use Rattle.oz_semantics.specs.Configurations.{is_numbered, layer_at, thread_at, frames_in, stack_of, new_layer, in_layer, with_frames, telling, giving_out, spawning, with_content, with_end, adding_trigger}
+use Rattle.oz_semantics.specs.Changes.{Pushes, Spawns, GivesOut, Holds, AddsTrigger, changed_all, done}
 use Rattle.oz_semantics.specs.Steps.{without_top}
 use Rattle.oz_semantics.specs.declared.value.Tell.{Tell}
 use Rattle.oz_semantics.specs.declared.configuration.Frame.{Frame}
@@ -12,6 +12,7 @@ use Rattle.oz_semantics.specs.declared.configuration.Layer.{Layer}
 use Rattle.settle_laws.proofs.ListEdits.{edit_twice, edit_agree}
 use Rattle.settle_laws.proofs.EditLaws.{edits_join, edits_agree}
 use Rattle.space_core.specs.Levels.{replacing}
+use Rattle.space_core.specs.Firing.{delaying}
 use Rattle.space_core.specs.Stacks.{cut_out}
 use Rattle.space_core.specs.Giving.{giving, declaring, spawning_by, assigning}
 use Rattle.space_core.specs.Advances.{given_out, taken_on}
@@ -61,6 +62,9 @@ module _ (id : Ident) (value : List Layer) where
 
   pub assign_is : (n : ℕ) (content : Ident) → in_layer id.space (assigning id.number n content) value ≡ changed_all id (Holds n content ∷ []) (without_top id value)
   assign_is n content = sym (edits_join id.space (with_content n content) (with_frames id.number (λ stack. drop 1 stack)) value (λ l. refl))
+
+  pub delay_is : (procedure variable : Ident) → in_layer id.space (delaying id.number procedure variable) value ≡ changed_all id (AddsTrigger procedure variable ∷ []) (without_top id value)
+  delay_is procedure variable = sym (edits_join id.space (adding_trigger procedure variable) (with_frames id.number (λ stack. drop 1 stack)) value (λ l. refl))
 
   -- what is told beside what is given out, and then the statement is taken off
   abbrev pub told_by : List Tell → Given → List Layer

@@ -1,3 +1,4 @@
+pub mod FiringLaws
 pub mod Firsts
 pub mod ThreadLaws
 pub mod MemberLaws

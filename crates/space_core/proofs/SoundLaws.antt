@@ -61,7 +61,7 @@ pub record IsAlike (old new : Level) : Type 0 where
 
 pub fits_alike : (layers : List Layer) (l m : Level) → IsAlike l m → Fits layers l → Fits layers m
 fits_alike layers l m e f =
-    let l' : Level = record l { status = m.status; threads = m.threads; objects = m.objects; numbers = m.numbers } in
+    let l' : Level = record l { status = m.status; threads = m.threads; triggers = m.triggers; objects = m.objects; numbers = m.numbers } in
     let f' : Fits layers l' = record { seen = f.seen; from = f.from; consistent = f.consistent; home = f.home; touches = f.touches } in
     let same : l' ≡ m = λ i. record {
       space = sym e.space i;
@@ -70,6 +70,7 @@ fits_alike layers l m e f =
       told_from = sym e.told_from i;
       touched = sym e.touched i;
       threads = m.threads;
+      triggers = m.triggers;
       objects = m.objects;
       numbers = m.numbers;
       traced = sym e.traced i;

@@ -34,7 +34,7 @@ none_of p xs e x h = elim (decide (p x)) [ inl k ↦ absurd (not_both _ (by_some
 
 -- Two layers of one name stand at one place
 
-other_name : (ls : List Layer) (k p : ℕ) (a b : Layer) → is_ascending (names_of ls) ≡ true → k < length ls → p < length ls → get_or ls k a ≡ a → get_or ls p b ≡ b → k ≢ p → a.space ≡ b.space → ⊥
+pub other_name : (ls : List Layer) (k p : ℕ) (a b : Layer) → is_ascending (names_of ls) ≡ true → k < length ls → p < length ls → get_or ls k a ≡ a → get_or ls p b ≡ b → k ≢ p → a.space ≡ b.space → ⊥
 other_name [] k p a b o l m e f n q = absurd (omega arith)
 other_name (c ∷ ls) zero zero a b o l m e f n q = n refl
 other_name (c ∷ ls) zero (suc p) a b o l m e f n q =
@@ -243,7 +243,7 @@ module _ (levels : List Level) (space : List ℕ) (place : ℕ) (x : Layer) (h :
   more_tells = ap₂ (λ (n : ℕ) (us : List Tell). drop n us) told.told_from told.store ∙ drop-append-le l.told_from l.store ts told_within
 
   shows_more : shown m ≡ telling ts (shown l)
-  shows_more = λ i. record { space = told.space i; status = told.status i; tells = more_tells i; threads = (told.threads i).list; cells = (told.objects i).cells; ports = (told.objects i).ports; next = next_with (told.threads i).next (told.numbers i) }
+  shows_more = λ i. record { space = told.space i; status = told.status i; tells = more_tells i; threads = (told.threads i).list; triggers = told.triggers i; cells = (told.objects i).cells; ports = (told.objects i).ports; next = next_with (told.threads i).next (told.numbers i) }
 
   all_named_home : l.traced ≡ true → home ≡ true → list_all (is_home (shown_all levels) space) (flat_map named_by (shown m).tells) ≡ true
   all_named_home t k =

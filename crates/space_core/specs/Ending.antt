@@ -26,6 +26,7 @@ pub record IsFailure (tells : List Tell) (old new : Level) : Type 0 where
   pub space : new.space ≡ old.space
   pub status : new.status ≡ Failed
   pub threads : new.threads ≡ record old.threads { list = [] }
+  pub triggers : new.triggers ≡ []
   pub objects : new.objects ≡ record { cells = []; ports = [] }
   pub numbers : new.numbers ≡ old.numbers
 

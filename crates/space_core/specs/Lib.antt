@@ -10,3 +10,4 @@ pub mod Telling
 pub mod Silence
 pub mod Ending
 pub mod Advances
+pub mod Firing

@@ -29,6 +29,7 @@ shown l =
       status = l.status;
       tells = drop l.told_from l.store;
       threads = l.threads.list;
+      triggers = l.triggers;
       cells = l.objects.cells;
       ports = l.objects.ports;
       next = next_of l;
@@ -93,3 +94,7 @@ pub record IsQuiet (change : Layer → Layer) (old new : Level) : Type 0 where
   pub traced : new.traced ≡ old.traced
   pub variables : old.numbers.variable ≤ new.numbers.variable
   pub children : old.numbers.child ≤ new.numbers.child
+
+-- it is changed in some way
+abbrev pub IsChanged : Level → Level → Type 0
+IsChanged old new = (change : Layer → Layer) × IsQuiet change old new

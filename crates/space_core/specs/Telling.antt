@@ -31,6 +31,7 @@ pub record IsToldMore (home : Bool) (ts : List Tell) (old new : Level) : Type 0 
   pub status : new.status ≡ old.status
   pub told_from : new.told_from ≡ old.told_from
   pub threads : new.threads ≡ old.threads
+  pub triggers : new.triggers ≡ old.triggers
   pub objects : new.objects ≡ old.objects
   pub numbers : new.numbers ≡ old.numbers
   pub traced : new.traced ≡ true → (old.traced ≡ true) × (home ≡ true)

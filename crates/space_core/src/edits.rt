@@ -2,6 +2,7 @@
 ghost use Rattle.std.specs.Prelude.{◌≡◌, ◌++◌, [], ◌+◌, ◌≤◌, drop, length, unwrap_or, IfOk, OnOk, OnErr, MatchOption};
 ghost use Rattle.oz_base.specs.Lists.{first};
 ghost use Rattle.oz_semantics.specs.Configurations.{thread_at, frames_in, with_frames, without_terminated, spawning, giving_out};
+ghost use Rattle.space_core.specs.Firing.{delaying};
 ghost use Rattle.space_core.specs.Levels.{replacing};
 ghost use Rattle.space_core.specs.Shown.{IsQuiet};
 ghost use Rattle.space_core.specs.Giving.{numbers_after, objects_after, after_giving, declaring, spawning_by, assigning};
@@ -13,7 +14,7 @@ use crate::level::{Level, Numbers};
 use crate::stacks::Landing;
 use cells_ports::Objects;
 use oz_base::{Copies, Ident};
-use oz_semantics::Frame;
+use oz_semantics::{Frame, Trigger};
 use std::alloc::{AllocError, Global};
 
 /// Takes the statement off the top of a thread's stack.
@@ -207,6 +208,24 @@ pub fn assign(
 {
     level.objects.assign(alloc, cell, content)?;
     drop_top(level, number);
+    Ok(())
+}
+
+/// The statement on top of a thread's stack is taken off, and the procedure is applied to the variable once that is needed.
+pub fn delay(
+    level: &mut Level,
+    number: u64,
+    procedure: Ident,
+    variable: Ident,
+) -> Result<(), AllocError>
+    ensures ok { OnOk result (IsQuiet (delaying number procedure variable) level.old level.new) }
+    ensures err { OnErr result (level.new ≡ level.old) }
+{
+    level.triggers.push(Trigger {
+        procedure,
+        variable,
+    })?;
+    let _delayed = pop(level, number);
     Ok(())
 }
 

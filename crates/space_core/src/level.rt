@@ -6,7 +6,7 @@ ghost use Rattle.space_core.specs.Shown.{next_of};
 use crate::threads::Threads;
 use cells_ports::Objects;
 use oz_base::{Copies, Ident, Sequence, SpaceName};
-use oz_semantics::{Next, Status};
+use oz_semantics::{Next, Status, Trigger};
 use std::alloc::{AllocError, Global};
 use term_store::Store;
 
@@ -32,6 +32,8 @@ pub struct Level {
     /// top's are not noted.
     pub touched: Sequence<Ident>,
     pub threads: Threads,
+    /// By-need computations that have not begun, in the order in which they came.
+    pub triggers: Sequence<Trigger>,
     pub objects: Objects,
     pub numbers: Numbers,
     /// Whether all variables that were told of are those of the space and of spaces above it, and all of other spaces that is touched
@@ -64,6 +66,7 @@ impl Copies for Level {
             told_from: self.told_from,
             touched: self.touched.copied(alloc)?,
             threads: self.threads.copied(alloc)?,
+            triggers: self.triggers.copied(alloc)?,
             objects: self.objects.copied(alloc)?,
             numbers: self.numbers,
             traced: self.traced,
@@ -82,6 +85,7 @@ pub fn top_level(alloc: Global) -> Level
         told_from: 0,
         touched: Sequence::new(alloc),
         threads: Threads::new(alloc),
+        triggers: Sequence::new(alloc),
         objects: Objects::new(),
         numbers: Numbers {
             variable: 1,

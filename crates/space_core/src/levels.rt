@@ -6,14 +6,17 @@ ghost use Rattle.oz_semantics.specs.Configurations.{is_of, layer_at, layer_of, v
 ghost use Rattle.oz_semantics.specs.Spaces.{alike_on, is_held};
 ghost use Rattle.oz_semantics.specs.Edits.{created};
 ghost use Rattle.oz_semantics.specs.Settling.{inconsistent_spaces};
-ghost use Rattle.oz_semantics.specs.Changes.{Pushes, Spawns, GivesOut, Holds, changed_all};
+ghost use Rattle.oz_semantics.specs.Changes.{Pushes, Spawns, GivesOut, Holds, AddsTrigger, changed_all};
 ghost use Rattle.oz_semantics.specs.Steps.{without_top};
 ghost use Rattle.space_core.specs.Levels.{OfLayer, IsToldTo, replacing};
 ghost use Rattle.space_core.specs.Telling.{has_below};
+ghost use Rattle.need_laws.specs.Needs.{has_triggers};
 ghost use Rattle.space_core.specs.Advances.{given_out, IsAdvanced, IsCaught, IsRaised};
+ghost use Rattle.space_core.specs.Firing.{firing, at_place};
 ghost use Rattle.space_core.specs.Shown.{seen_above};
 
 use crate::advances::{tell_at, tell_under};
+use crate::firing::{fire, has_triggers};
 use crate::given::Given;
 use crate::homes::{all_home, has_below};
 use crate::level::{Level, top_level};
@@ -22,7 +25,7 @@ use crate::stacks::Landing;
 use crate::tree::{self, add_level, child_count, child_of, drop_below, store_above};
 use crate::{edits, silence, telling};
 use oz_base::{Copies, Ident, SpaceName, copies_of};
-use oz_semantics::{Frame, Next, Status, Tell, Thread};
+use oz_semantics::{Frame, Next, Status, Tell, Thread, Trigger};
 use std::alloc::{AllocError, Global};
 use std::marker::Model;
 use term_store::Store;
@@ -359,6 +362,42 @@ impl Levels {
             return Ok(());
         };
         edits::assign(alloc, &mut self.levels[place], id.number, cell, content)
+    }
+
+    /// Whether a space has by-need computations that have not begun.
+    pub fn has_triggers(&self) -> bool
+        ensures { result ≡ has_triggers self.now }
+    {
+        has_triggers(self.levels.as_slice())
+    }
+
+    /// The by-need computations of the space at a place that have not begun, in the order in which they came.
+    pub fn triggers_at(&self, place: usize) -> &[Trigger]
+        requires { place < length self.now }
+        ensures { OfLayer self.now place (λ l. result.now ≡ l.triggers) }
+    {
+        self.levels[place].triggers.as_slice()
+    }
+
+    /// The statement on top of a thread's stack is taken off, and the procedure is applied to the variable once that is needed. It refuses
+    /// for want of memory: then nothing changes.
+    pub fn delay(&mut self, id: &Ident, procedure: Ident, variable: Ident) -> Result<(), AllocError>
+        ensures ok { OnOk result (self.new ≡ changed_all id.now (AddsTrigger procedure variable ∷ []) (without_top id.now self.old)) }
+        ensures err { OnErr result (self.new ≡ self.old) }
+    {
+        let Some(place) = level_place(self.levels.as_slice(), &id.space) else {
+            return Ok(());
+        };
+        edits::delay(&mut self.levels[place], id.number, procedure, variable)
+    }
+
+    /// The marked by-need computations of the space at a place begin, each with a new thread of its own. It refuses for want of memory, or
+    /// where the space gave out 2^64 - 1 threads.
+    pub fn fire_at(&mut self, alloc: Global, place: usize, marks: &[bool]) -> Result<(), AllocError>
+        requires { place < length self.old }
+        ensures ok { OnOk result (self.new ≡ at_place place (firing marks.now) self.old) }
+    {
+        fire(alloc, &mut self.levels[place], marks)
     }
 
     /// The statement on top of a thread's stack is taken off, its space is told this and gives out what comes with it, its cells and

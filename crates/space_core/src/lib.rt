@@ -4,6 +4,7 @@
 
 mod advances;
 mod edits;
+mod firing;
 mod given;
 mod homes;
 mod level;

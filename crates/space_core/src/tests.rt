@@ -189,3 +189,57 @@ fn a_failed_space_has_no_cells(rt: HostRuntime) -> Result<(), Fail> {
     assert_eq!(rt; levels.port_count_at(0), 0);
     Ok(())
 }
+
+/// The top with the thread of `with_objects`, which delayed the procedure 1 until the variable 3 is needed, and 2 until 4 is.
+fn with_triggers(alloc: Global) -> Result<Levels, AllocError> {
+    let mut levels = with_objects(alloc)?;
+    levels.delay(&of_top(1), of_top(1), of_top(3))?;
+    levels.delay(&of_top(1), of_top(2), of_top(4))?;
+    Ok(levels)
+}
+
+/// The procedure of the top that a thread is to apply, and to which variable of it.
+fn applied(levels: &Levels, number: u32) -> Option<(u64, u64)> {
+    match &levels.top_frame(&of_top(number))?.code {
+        Code::Call {
+            procedure,
+            argument,
+        } => Some((procedure.number, argument.number)),
+        Code::Statement(_) | Code::Mark { .. } => None,
+    }
+}
+
+/// The variable of the top that is first among those for which a procedure was delayed.
+fn first_delayed(levels: &Levels) -> Option<u64> {
+    if levels.len() == 0 {
+        return None;
+    }
+    let trigger = levels.triggers_at(0).first()?;
+    Some(trigger.variable.number)
+}
+
+#[test]
+fn begins_a_marked_trigger_alone(rt: HostRuntime) -> Result<(), Fail> {
+    let alloc = rt.alloc();
+    let mut levels = with_triggers(alloc)?;
+    assert!(rt; levels.has_triggers());
+    assert_eq!(rt; statement(&levels, 1), Some(5));
+    assert_eq!(rt; levels.len(), 1);
+    levels.fire_at(alloc, 0, &[false, true])?;
+    assert!(rt; applied(&levels, 2) == Some((2, 4)));
+    assert_eq!(rt; first_delayed(&levels), Some(3));
+    assert_eq!(rt; levels.len(), 1);
+    assert_eq!(rt; levels.next_at(0).thread, 3);
+    levels.fire_at(alloc, 0, &[true])?;
+    assert!(rt; applied(&levels, 3) == Some((1, 3)));
+    assert!(rt; !levels.has_triggers());
+    Ok(())
+}
+
+#[test]
+fn a_space_that_ended_has_no_triggers(rt: HostRuntime) -> Result<(), Fail> {
+    let mut levels = with_triggers(rt.alloc())?;
+    levels.end(&SpaceName::top(), of_top(1));
+    assert!(rt; !levels.has_triggers());
+    Ok(())
+}

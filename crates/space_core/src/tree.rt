@@ -86,6 +86,7 @@ pub fn fail(alloc: Global, level: &mut Level, store: Store)
     level.status = Status::Failed;
     level.touched = Sequence::new(alloc);
     level.threads.stop_all(alloc);
+    level.triggers = Sequence::new(alloc);
     level.objects = Objects::new();
     level.traced = true;
 }
@@ -96,6 +97,7 @@ pub fn raise(alloc: Global, level: &mut Level, exception: Ident)
 {
     level.status = Status::Raised(exception);
     level.threads.stop_all(alloc);
+    level.triggers = Sequence::new(alloc);
 }
 
 /// `{P X}` of the procedure and the space's root variable.
@@ -145,6 +147,7 @@ fn child_level(
         store,
         touched: Sequence::new(alloc),
         threads,
+        triggers: Sequence::new(alloc),
         objects: Objects::new(),
         numbers: Numbers {
             variable: 1,

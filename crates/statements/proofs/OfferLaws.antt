@@ -13,13 +13,13 @@ use Rattle.oz_language.specs.declared.kernel.Operation.TheVariants as operation
 use Rattle.oz_language.specs.declared.kernel.Statement.{Statement}
 use Rattle.oz_language.specs.declared.kernel.Statement.TheVariants as statement
 use Rattle.oz_semantics.specs.Names.{is_top}
-use Rattle.oz_semantics.specs.Values.{fields_of, constant_in, integer_in, cell_in, port_in}
+use Rattle.oz_semantics.specs.Values.{fields_of, constant_in, integer_in, cell_in, port_in, is_procedure}
 use Rattle.oz_semantics.specs.Store.{View, value_of}
 use Rattle.oz_semantics.specs.Entailment.{Equality, Entailed, Contradicted, Undecided, equality}
 use Rattle.oz_semantics.specs.Sights.{Sight, Offer, Bodies, offer_of}
 use Rattle.oz_semantics.specs.Edits.{chosen}
-use Rattle.oz_semantics.specs.Answers.{Act, Answer, Acts, RaisesKind, Reads, Writes, Exchanges, Sends, Shows, gives_constant, argument, given, with_value, of_kind}
-use Rattle.oz_semantics.specs.Builtins.{arguments_of, gives_number, gives_field, field_at, of_equality, label_in, arity_in, own_act, on_cell, on_port, of_operation, answer, call_answer}
+use Rattle.oz_semantics.specs.Answers.{Act, Answer, Acts, RaisesKind, Reads, Writes, Exchanges, Sends, Delays, Shows, gives_constant, argument, given, with_value, of_kind}
+use Rattle.oz_semantics.specs.Builtins.{arguments_of, gives_number, gives_field, field_at, of_equality, label_in, arity_in, own_act, on_cell, on_port, delays, of_operation, answer, call_answer}
 use Rattle.oz_semantics.specs.Configurations.{frames_of}
 use Rattle.oz_semantics.specs.Matching.{Match, Matches, Differs, MatchWaits, matched}
 use Rattle.oz_semantics.specs.Statements.{value_called, called, branch, clause, numbered_answer}
@@ -97,6 +97,9 @@ cell_quiet s x act = given_quiet x (value_of s.view x) _ (λ v. kind_quiet (cell
 port_quiet : (s : Sight) (x : Ident) (act : ℕ → Act) → IsQuiet (on_port s x act)
 port_quiet s x act = given_quiet x (value_of s.view x) _ (λ v. kind_quiet (port_in v) _ (own_quiet s raise.GlobalPort act))
 
+delays_quiet : (procedure x : Ident) (v : Value) → IsQuiet (delays procedure x v)
+delays_quiet procedure x v = if_quiet (is_procedure v) (Acts (Delays procedure x)) (RaisesKind raise.BadKind) refl refl
+
 builtin_quiet : (s : Sight) (b : Builtin) (f : ℕ → Ident) → IsQuiet (answer s b f)
 builtin_quiet s (builtin.Operation op) f = operation_quiet s.view op (f 0) (f 1) (f 2)
 builtin_quiet s builtin.Label f = given_quiet (f 0) (value_of s.view (f 0)) _ (λ v. kind_quiet (label_in v) (gives_constant (f 1)) (λ c. refl))
@@ -110,6 +113,7 @@ builtin_quiet s builtin.Assign f = cell_quiet s (f 0) (λ n. Writes n (f 1))
 builtin_quiet s builtin.Exchange f = cell_quiet s (f 0) (λ n. Exchanges n (f 1) (f 2))
 builtin_quiet s builtin.NewPort f = refl
 builtin_quiet s builtin.Send f = port_quiet s (f 0) (λ n. Sends n (f 1))
+builtin_quiet s builtin.ByNeed f = given_quiet (f 0) (value_of s.view (f 0)) (delays (f 0) (f 1)) (delays_quiet (f 0) (f 1))
 builtin_quiet s builtin.Show f = if_quiet (is_top s.space) (Acts (Shows (f 0))) (RaisesKind raise.GlobalIo) refl refl
 
 call_quiet : (s : Sight) (b : Builtin) (xs : List Ident) → IsQuiet (call_answer s b xs)

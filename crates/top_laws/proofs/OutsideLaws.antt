@@ -1,24 +1,30 @@
 -- Edits of spaces that are not the top: they leave it as it was, and what it sees.
-use Rattle.std.proofs.Common.{◌≡◌, inl, inr, ℕ, true, false, not, ◌&&◌, List, [], ◌∷◌, refl, sym, ap, ◌∙◌, Some, filter, fold}
+use Rattle.std.proofs.Common.{◌≡◌, inl, inr, ℕ, true, false, not, ◌&&◌, List, [], ◌∷◌, refl, sym, ap, subst, ◌∙◌, Option, Some, is_some, unwrap_or, filter, fold}
 use Rattle.std.proofs.lemmas.Bool.{false≢true}
 use Rattle.oz_base.specs.Lists.{list_eq}
+use Rattle.oz_language.specs.declared.kernel.Statement.{Statement}
 use Rattle.oz_semantics.specs.Names.{is_top, is_below, is_properly_below}
 use Rattle.oz_semantics.specs.Store.{View, is_consistent}
-use Rattle.oz_semantics.specs.Configurations.{is_of, layer_at, layer_of, view, in_layer, ending, failed}
+use Rattle.oz_semantics.specs.Configurations.{is_of, layer_at, layer_of, view, in_layer, ending, failed, new_layer}
+use Rattle.oz_semantics.specs.Triggers.{has_needed, triggered}
 use Rattle.oz_semantics.specs.Settling.{may_fail, is_inconsistent, inconsistent_spaces, failing, without_inconsistent, top_is_inconsistent}
 use Rattle.oz_semantics.specs.declared.configuration.Layer.{Layer}
 use Rattle.oz_laws.proofs.SameLaws.{In, In-from_contains, contains-from_In, and-left, and-right}
 use Rattle.view_laws.specs.Sights.{IsEnd}
 use Rattle.view_laws.specs.Steps.{IsSound}
+use Rattle.view_laws.specs.Needs.{NoneNeeded}
 use Rattle.view_laws.proofs.Members.{decide, not_both, and_both, some_of, by_some}
 use Rattle.view_laws.proofs.ListLaws.{filter_in, in_map, found_in}
 use Rattle.view_laws.proofs.NameLaws.{equal_names}
 use Rattle.view_laws.proofs.TreeLaws.{same_named_layer}
-use Rattle.view_laws.proofs.SightLaws.{change_unseen, end_unseen}
+use Rattle.view_laws.proofs.SightLaws.{space_of, change_unseen, end_unseen}
+use Rattle.need_laws.proofs.FireLaws.{all_fired}
+use Rattle.need_laws.proofs.AfterLaws.{fired_view}
+use Rattle.need_laws.proofs.RoundLaws.{none_in, needed_same, unneeded_stays}
 use Rattle.settle_laws.proofs.ListEdits.{find_edit, find_filter}
 use Rattle.turn_laws.specs.Orderly.{KeepsNumbered, AreOrderly}
 use Rattle.turn_laws.proofs.NumberedLaws.{edits_numbered}
-use Rattle.turn_laws.proofs.OrderlyLaws.{IsEdit, edit_orderly, end_orderly, is_there}
+use Rattle.turn_laws.proofs.OrderlyLaws.{IsEdit, edit_orderly, end_orderly, fired_orderly, is_there}
 
 -- the layers `after` are orderly, and have the top of those before, which sees what it saw
 pub record LeavesTop (before after : List Layer) : Type 0 where
@@ -90,6 +96,32 @@ inner_fail layers fits t i = elim (decide (is_top t)) [
 
 pub left_leaves : (before layers : List Layer) → top_is_inconsistent layers ≡ false → LeavesTop before layers → LeavesTop before (without_inconsistent layers)
 left_leaves before layers fits leaves = fold_leaves (inconsistent_spaces layers) before layers (inner_fail layers fits) leaves
+
+-- What is needed begins
+
+-- no trigger of the top is needed
+abbrev pub TopUnneeded : List Statement → List Layer → Type 0
+TopUnneeded statements layers = has_needed statements layers (layer_of layers []) ≡ false
+
+pub top_unneeded : (statements : List Statement) (layers : List Layer) → is_some (layer_at layers []) ≡ true → NoneNeeded statements layers → TopUnneeded statements layers
+top_unneeded statements layers there content =
+    none_in (has_needed statements layers) layers content (layer_of layers []) (found_in (is_of []) (λ (m : Layer). m) layers (layer_of layers []) (is_there layers [] there)).0
+
+-- then it stays as it is
+pub begun_leaves : (statements : List Statement) (before layers : List Layer) → TopUnneeded statements before → LeavesTop before layers → LeavesTop before (triggered statements layers)
+begun_leaves statements before layers unneeded leaves =
+    let fires = all_fired statements layers in
+    let at : layer_at layers [] ≡ Some (layer_of layers []) = is_there layers [] leaves.good.top in
+    let name : (layer_of layers []).space ≡ [] = space_of layers [] (layer_of layers []) at in
+    let own : layer_of layers [] ≡ layer_of before [] = ap (λ (o : Option Layer). unwrap_or o (new_layer [])) leaves.same in
+    let seen : view layers (layer_of layers []).space ≡ view before (layer_of layers []).space = subst (λ s. view layers s ≡ view before s) (sym name) leaves.seen in
+    let still : has_needed statements layers (layer_of layers []) ≡ false =
+    needed_same statements before layers (layer_of layers []) seen ∙ ap (has_needed statements before) own ∙ unneeded in
+    record {
+      good = fired_orderly layers (triggered statements layers) fires leaves.good;
+      same = unneeded_stays statements layers [] (layer_of layers []) at still ∙ sym at ∙ leaves.same;
+      seen = fired_view layers (triggered statements layers) [] fires ∙ leaves.seen;
+    }
 
 -- the top that was left is not inconsistent where no space was
 module _ (before layers : List Layer) (sound : IsSound before) (leaves : LeavesTop before layers) where

@@ -12,6 +12,7 @@ use Rattle.oz_semantics.specs.Sights.{Sight, can_step}
 use Rattle.oz_semantics.specs.Readiness.{thread_ready}
 use Rattle.oz_semantics.specs.Spaces.{sight, layer_goes_on, layers_below, goes_on}
 use Rattle.oz_semantics.specs.Edits.{starting, created, committing, committed}
+use Rattle.oz_semantics.specs.Triggers.{has_needed, triggered}
 use Rattle.oz_semantics.specs.Settling.{top_is_inconsistent, top_failed, without_inconsistent, requeued}
 use Rattle.oz_semantics.specs.Runs.{left_by}
 use Rattle.oz_semantics.specs.Search.{followed, with_root, chosen_in}
@@ -24,6 +25,7 @@ use Rattle.view_laws.proofs.Members.{decide, not_both, by_some}
 use Rattle.view_laws.proofs.ListLaws.{found_in, in_filter, map_in}
 use Rattle.view_laws.proofs.NameLaws.{equal_names}
 use Rattle.view_laws.proofs.SightLaws.{creation_unseen}
+use Rattle.need_laws.proofs.RoundLaws.{needed_same}
 use Rattle.settle_laws.proofs.SoundLaws.{sound_top, committed_sound}
 use Rattle.turn_laws.specs.Orderly.{AreOrderly}
 use Rattle.turn_laws.specs.Kept.{IsKept, IsThere}
@@ -32,7 +34,7 @@ use Rattle.turn_laws.proofs.OrderlyLaws.{IsEdit, is_there, created_orderly}
 use Rattle.turn_laws.proofs.HeadLaws.{kept_layers}
 use Rattle.turn_laws.proofs.KeptLaws.{kept_root, kept_chosen, created_top}
 use Rattle.top_laws.specs.Top.{TopRests, RootRests, ChosenRests}
-use Rattle.top_laws.proofs.OutsideLaws.{LeavesTop, is_empty_name, edit_leaves, left_leaves}
+use Rattle.top_laws.proofs.OutsideLaws.{LeavesTop, is_empty_name, edit_leaves, left_leaves, TopUnneeded, top_unneeded, begun_leaves}
 
 -- what resting says of the top's layer, which sees this
 abbrev RestsSeeing : List Statement → Layer → View → Type 0
@@ -102,13 +104,13 @@ head_inner statements layers id there rests = elim (decide (is_top id.space)) [
 
 -- What follows an edit by the search
 
-followed_leaves : (statements : List Statement) (c : Configuration) (before layers : List Layer) → top_is_inconsistent layers ≡ false → LeavesTop before layers
+followed_leaves : (statements : List Statement) (c : Configuration) (before layers : List Layer) → TopUnneeded statements before → top_is_inconsistent layers ≡ false → LeavesTop before layers
     → LeavesTop before (followed statements c layers).layers
-followed_leaves statements c before layers fits leaves =
+followed_leaves statements c before layers unneeded fits leaves =
     subst
     (λ (b : Bool).
-    LeavesTop before (left_by (if b then top_failed 1 (record c { layers = layers }) else (Moved 1, requeued statements None (record c { layers = layers }) (without_inconsistent layers)))).layers)
-    (sym fits) (left_leaves before layers fits leaves)
+    LeavesTop before (left_by (if b then top_failed 1 (record c { layers = layers }) else (Moved 1, requeued statements None (record c { layers = layers }) (triggered statements (without_inconsistent layers))))).layers)
+    (sym fits) (begun_leaves statements before (without_inconsistent layers) unneeded (left_leaves before layers fits leaves))
 
 choice_edit : (s : Sight) (i : ℕ) → IsEdit (committing s i)
 choice_edit s i = record { space = λ l. refl; children = λ l. omega arith; numbered = edits_numbered.choice s i }
@@ -122,7 +124,7 @@ chosen_rests statements space i c inner kept rests = (
   where
     leaves : LeavesTop c.layers (chosen_in statements space i c).layers
     leaves =
-        followed_leaves statements c c.layers (committed statements space i c.layers) (sound_top (committed statements space i c.layers) (committed_sound statements space i c.layers kept.sound))
+        followed_leaves statements c c.layers (committed statements space i c.layers) (top_unneeded statements c.layers kept.top kept.content) (sound_top (committed statements space i c.layers) (committed_sound statements space i c.layers kept.sound))
         (edit_leaves space inner (committing (sight statements c.layers space) i) c.layers c.layers (choice_edit (sight statements c.layers space) i) (left_itself c.layers (kept_layers statements c kept)))
 
 -- Where the search begins
@@ -176,8 +178,14 @@ module _ (statements : List Statement) (procedure : Ident) (c : Configuration) (
       subst (λ (v : View). RestsSeeing statements (layer_of made []) v) (sym (creation_unseen c.layers [] [] procedure))
       (subst (λ (o : Option Layer). RestsSeeing statements (unwrap_or o (new_layer [])) (view c.layers [])) (sym counted) rests)
 
+  made_unneeded : TopUnneeded statements made
+  made_unneeded =
+      ap (λ (o : Option Layer). has_needed statements made (unwrap_or o (new_layer []))) counted
+      ∙ needed_same statements c.layers made (counting_child (layer_of c.layers [])) (creation_unseen c.layers [] (layer_of c.layers []).space procedure)
+      ∙ top_unneeded statements c.layers kept.top kept.content
+
   root_leaves : LeavesTop made (with_root statements procedure c).layers
-  root_leaves = followed_leaves statements c made made (created_top [] procedure c.layers kept.sound) (left_itself made made_good)
+  root_leaves = followed_leaves statements c made made made_unneeded (created_top [] procedure c.layers kept.sound) (left_itself made made_good)
 
   pub begun : TopRests statements c.layers → TopRests statements (with_root statements procedure c).layers × (layer_at (with_root statements procedure c).layers [] ≡ Some (counting_child (layer_of c.layers [])))
   begun rests = (same_rests statements made (with_root statements procedure c).layers root_leaves (made_rests rests), root_leaves.same ∙ counted)

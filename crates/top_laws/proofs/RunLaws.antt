@@ -17,6 +17,7 @@ use Rattle.turn_laws.specs.Kept.{IsKept}
 use Rattle.turn_laws.proofs.HeadLaws.{kept_layers, kept_head, kept_goes_on}
 use Rattle.turn_laws.proofs.KeptLaws.{kept_turn}
 use Rattle.top_laws.specs.Top.{TopRests, IsSameTop, RestsLaw, TurnRests, TurnRaisesNothing, RunRests, RunRaisesNothing}
+use Rattle.top_laws.proofs.OutsideLaws.{top_unneeded}
 use Rattle.top_laws.proofs.StepLaws.{MovedBelow, step_below}
 use Rattle.top_laws.proofs.RestLaws.{same_rests, left_itself, still_rests, head_inner}
 
@@ -25,7 +26,7 @@ use Rattle.top_laws.proofs.RestLaws.{same_rests, left_itself, still_rests, head_
 turn_of_below : (k : Kernel) (c : Configuration) (queue : List Ident) → IsKept k.statements (record c { queue = queue }) → TopRests k.statements c.layers → MovedBelow c.layers (turn_of k c queue)
 turn_of_below k c [] kept rests = tt
 turn_of_below k c (id ∷ queue) kept rests =
-    step_below k c.layers kept.sound id (head_inner k.statements c.layers id (kept_head k.statements id queue c kept) rests) (record c { queue = queue })
+    step_below k c.layers kept.sound (top_unneeded k.statements c.layers kept.top kept.content) id (head_inner k.statements c.layers id (kept_head k.statements id queue c kept) rests) (record c { queue = queue })
     (left_itself c.layers (kept_layers k.statements (record c { queue = id ∷ queue }) kept))
 
 turn_below : (k : Kernel) (c : Configuration) (t : Turned) → IsKept k.statements c → TopRests k.statements c.layers → ◌≡◌ {A = Turned} (turn k c) t → MovedBelow c.layers t

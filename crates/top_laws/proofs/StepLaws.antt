@@ -12,6 +12,7 @@ use Rattle.oz_semantics.specs.Changes.{Change, changed, changed_all, done}
 use Rattle.oz_semantics.specs.Effects.{Effect, Makes, Tells, ShowsText, act_effect}
 use Rattle.oz_semantics.specs.Exceptions.{is_failure, raise_term, with_term, unwound}
 use Rattle.oz_semantics.specs.Texts.{Printed, term_text}
+use Rattle.oz_semantics.specs.Triggers.{triggered}
 use Rattle.oz_semantics.specs.Settling.{Turned, settled, top_failed, requeued, term_variable, with_raised, top_ended, without_inconsistent}
 use Rattle.oz_semantics.specs.Steps.{went_on, ended_by, uncaught, raised_to, raised, raised_kind, told, after_effect, after_answer, without_top, stepped}
 use Rattle.oz_semantics.specs.declared.value.Tell.{Tell}
@@ -25,7 +26,7 @@ use Rattle.view_laws.specs.Steps.{IsSound, IsNumbered}
 use Rattle.view_laws.proofs.ChangeLaws.{edit_of, changed_by}
 use Rattle.turn_laws.proofs.NumberedLaws.{none_numbered}
 use Rattle.turn_laws.proofs.OrderlyLaws.{frames_edit, terminated_edit, tells_edit, change_edit, term_edit}
-use Rattle.top_laws.proofs.OutsideLaws.{LeavesTop, edit_leaves, end_leaves, left_leaves, top_fits}
+use Rattle.top_laws.proofs.OutsideLaws.{LeavesTop, edit_leaves, end_leaves, left_leaves, TopUnneeded, begun_leaves, top_fits}
 
 -- the machine moved and left the top as it was, or nothing could step
 abbrev pub MovedBelow : List Layer → Turned → Type 0
@@ -33,12 +34,12 @@ MovedBelow before (Moved cost, d) = LeavesTop before d.layers
 MovedBelow before (TopEnded x cost, d) = ⊥
 MovedBelow before (Quiescent, d) = Unit {0}
 
-module _ (k : Kernel) (before : List Layer) (sound : IsSound before) (id : Ident) (inner : is_top id.space ≡ false) where
+module _ (k : Kernel) (before : List Layer) (sound : IsSound before) (unneeded : TopUnneeded k.statements before) (id : Ident) (inner : is_top id.space ≡ false) where
   follows : (cost : ℕ) (c : Configuration) → LeavesTop before c.layers → MovedBelow before (settled k.statements (Some id) cost c)
   follows cost c leaves =
       let fits = top_fits before c.layers sound leaves in
-      subst (λ (b : Bool). MovedBelow before (if b then top_failed cost c else (Moved cost, requeued k.statements (Some id) c (without_inconsistent c.layers)))) (sym fits)
-      (left_leaves before c.layers fits leaves)
+      subst (λ (b : Bool). MovedBelow before (if b then top_failed cost c else (Moved cost, requeued k.statements (Some id) c (triggered k.statements (without_inconsistent c.layers))))) (sym fits)
+      (begun_leaves k.statements before (without_inconsistent c.layers) unneeded (left_leaves before c.layers fits leaves))
 
   went_leaves : (cost : ℕ) (layers : List Layer) (c : Configuration) → LeavesTop before layers → MovedBelow before (went_on k.statements id cost layers c)
   went_leaves cost layers c leaves = follows cost (record c { layers = in_layer id.space without_terminated layers }) (edit_leaves id.space inner without_terminated before layers terminated_edit leaves)

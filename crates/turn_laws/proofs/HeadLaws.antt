@@ -93,7 +93,7 @@ pub kept_layers : KeptLayers
 kept_layers statements c kept = record { tree = kept.tree; top = kept.top; numbered = kept.numbered }
 
 pub kept_shown : KeptShown
-kept_shown statements c texts kept = record { tree = kept.tree; top = kept.top; numbered = kept.numbered; sound = kept.sound; exact = kept.exact; once = kept.once }
+kept_shown statements c texts kept = record { tree = kept.tree; top = kept.top; numbered = kept.numbered; sound = kept.sound; content = kept.content; exact = kept.exact; once = kept.once }
 
 pub kept_goes_on : KeptGoesOn
 kept_goes_on statements c space kept = queue_tells statements c.layers c.queue space kept.exact

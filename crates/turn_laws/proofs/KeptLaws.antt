@@ -15,6 +15,7 @@ use Rattle.oz_semantics.specs.Changes.{Change, changed_all, done}
 use Rattle.oz_semantics.specs.Effects.{Effect, Makes, Tells, ShowsText, act_effect}
 use Rattle.oz_semantics.specs.Exceptions.{is_failure, raise_term, with_term, unwound}
 use Rattle.oz_semantics.specs.Texts.{Printed, term_text}
+use Rattle.oz_semantics.specs.Triggers.{triggered}
 use Rattle.oz_semantics.specs.Settling.{Turned, may_fail, is_inconsistent, is_among, top_is_inconsistent, top_failed, top_ended, without_inconsistent, runnable, requeued, settled, term_variable, with_raised}
 use Rattle.oz_semantics.specs.Steps.{went_on, ended_by, uncaught, raised_to, raised, raised_kind, told, after_effect, after_answer, without_top, stepped}
 use Rattle.oz_semantics.specs.Schedule.{turn_of}
@@ -29,12 +30,16 @@ use Rattle.oz_semantics.specs.declared.outcome.Stepped.TheVariants.{Moved, TopEn
 use Rattle.oz_laws.proofs.SameLaws.{In, In-from_contains, contains-from_In, and-left, and-right}
 use Rattle.view_laws.specs.Steps.{IsSound, IsNumbered}
 use Rattle.view_laws.specs.Queues.{is_once}
+use Rattle.view_laws.specs.Needs.{NoneNeeded}
 use Rattle.view_laws.proofs.Members.{decide, not_both, some_of}
 use Rattle.view_laws.proofs.ListLaws.{in_edit, found_in}
 use Rattle.view_laws.proofs.SightLaws.{creation_unseen}
 use Rattle.view_laws.proofs.TreeLaws.{in_put}
 use Rattle.view_laws.proofs.QueueLaws.{queue_exact, queue_once, not_false}
 use Rattle.view_laws.proofs.NumberLaws.{runnable_once}
+use Rattle.need_laws.proofs.FireLaws.{all_fired}
+use Rattle.need_laws.proofs.AfterLaws.{fired_sound}
+use Rattle.need_laws.proofs.RoundLaws.{none_left}
 use Rattle.settle_laws.specs.Turns.{opening_layers}
 use Rattle.settle_laws.proofs.SoundLaws.{left_sound, sound_top, committed_sound}
 use Rattle.settle_laws.proofs.OpeningLaws.{opening_sound}
@@ -42,7 +47,7 @@ use Rattle.settle_laws.proofs.TreeSteps.{opening_tree}
 use Rattle.turn_laws.specs.Orderly.{AreOrderly}
 use Rattle.turn_laws.specs.Kept.{IsKept, KeptTurn, KeptStep, KeptOpening, KeptRoot, KeptChosen}
 use Rattle.turn_laws.proofs.NumberedLaws.{none_numbered, spawned_numbered}
-use Rattle.turn_laws.proofs.OrderlyLaws.{edit_orderly, end_orderly, left_orderly, frames_edit, term_edit, popped_orderly, changed_orderly, done_all_orderly, ended_orderly, created_orderly, committed_orderly}
+use Rattle.turn_laws.proofs.OrderlyLaws.{edit_orderly, end_orderly, left_orderly, fired_orderly, frames_edit, term_edit, popped_orderly, changed_orderly, done_all_orderly, ended_orderly, created_orderly, committed_orderly}
 
 -- where the machine moved, it is so
 abbrev MovedKept : List Statement → Turned → Type 0
@@ -52,31 +57,41 @@ MovedKept statements (Quiescent, d) = Unit {0}
 
 -- What follows a step
 
-requeued_kept : (statements : List Statement) (mover : Option Ident) (c : Configuration) (layers : List Layer) → AreOrderly layers → IsSound layers → is_once c.queue ≡ true
-    → holds_of (is_among c.queue) mover ≡ false → IsKept statements (requeued statements mover c layers)
-requeued_kept statements mover c layers good sound once apart = record {
+requeued_kept : (statements : List Statement) (mover : Option Ident) (c : Configuration) (layers : List Layer) → AreOrderly layers → IsSound layers → NoneNeeded statements layers
+    → is_once c.queue ≡ true → holds_of (is_among c.queue) mover ≡ false → IsKept statements (requeued statements mover c layers)
+requeued_kept statements mover c layers good sound content once apart = record {
   tree = good.tree;
   top = good.top;
   numbered = good.numbered;
   sound = sound;
+  content = content;
   exact = λ id. queue_exact (runnable statements layers) mover c.queue id;
   once = queue_once (runnable statements layers) mover c.queue (runnable_once statements layers good.tree.ordered good.numbered) once apart;
 }
+
+-- where those that are inconsistent have failed, and what is needed has begun
+begun_kept : (statements : List Statement) (mover : Option Ident) (c : Configuration) (layers : List Layer) → AreOrderly layers → is_once c.queue ≡ true → holds_of (is_among c.queue) mover ≡ false
+    → IsKept statements (requeued statements mover c (triggered statements (without_inconsistent layers)))
+begun_kept statements mover c layers good once apart =
+    let left : List Layer = without_inconsistent layers in
+    let fires = all_fired statements left in
+    requeued_kept statements mover c (triggered statements left) (fired_orderly left (triggered statements left) fires (left_orderly layers good))
+    (fired_sound left (triggered statements left) fires (left_sound layers good.tree)) (none_left statements left) once apart
 
 settled_kept : (statements : List Statement) (mover : Option Ident) (cost : ℕ) (c : Configuration) → AreOrderly c.layers → is_once c.queue ≡ true → holds_of (is_among c.queue) mover ≡ false
     → MovedKept statements (settled statements mover cost c)
 settled_kept statements mover cost c good once apart = by (top_is_inconsistent c.layers)
   where
-    by : (b : Bool) → MovedKept statements (if b then top_failed cost c else (Moved cost, requeued statements mover c (without_inconsistent c.layers)))
+    by : (b : Bool) → MovedKept statements (if b then top_failed cost c else (Moved cost, requeued statements mover c (triggered statements (without_inconsistent c.layers))))
     by true = tt
-    by false = requeued_kept statements mover c (without_inconsistent c.layers) (left_orderly c.layers good) (left_sound c.layers good.tree) once apart
+    by false = begun_kept statements mover c c.layers good once apart
 
 -- where the top is consistent
 left_kept : (statements : List Statement) (mover : Option Ident) (cost : ℕ) (c : Configuration) → AreOrderly c.layers → is_once c.queue ≡ true → holds_of (is_among c.queue) mover ≡ false
     → top_is_inconsistent c.layers ≡ false → IsKept statements (left_by (settled statements mover cost c))
 left_kept statements mover cost c good once apart e =
-    subst (λ (b : Bool). IsKept statements (left_by (if b then top_failed cost c else (Moved cost, requeued statements mover c (without_inconsistent c.layers))))) (sym e)
-    (requeued_kept statements mover c (without_inconsistent c.layers) (left_orderly c.layers good) (left_sound c.layers good.tree) once apart)
+    subst (λ (b : Bool). IsKept statements (left_by (if b then top_failed cost c else (Moved cost, requeued statements mover c (triggered statements (without_inconsistent c.layers)))))) (sym e)
+    (begun_kept statements mover c c.layers good once apart)
 
 -- Steps
 

@@ -119,6 +119,7 @@ edits_numbered = record {
   content = λ number content l h. record { rising = h.rising; given = h.given };
   port = λ end l h. record { rising = h.rising; given = h.given };
   end = λ number end l h. record { rising = h.rising; given = h.given };
+  trigger = λ procedure variable l h. record { rising = h.rising; given = h.given };
   choice = choice_numbered;
   failure = λ l h. none_numbered _ refl;
   exception = λ x l h. none_numbered _ refl;

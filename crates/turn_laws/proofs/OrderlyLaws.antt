@@ -24,8 +24,9 @@ use Rattle.view_laws.proofs.ListLaws.{filter_in, in_edit, found_in}
 use Rattle.view_laws.proofs.NameLaws.{equal_names}
 use Rattle.view_laws.proofs.TreeLaws.{in_put, change_tree, end_tree, tree_created}
 use Rattle.view_laws.proofs.ChangeLaws.{edit_of, changed_by, edit_keeps}
+use Rattle.need_laws.proofs.AfterLaws.{fired_tree, fired_there, fired_numbered}
 use Rattle.settle_laws.proofs.ListEdits.{find_filter, is_found_edit}
-use Rattle.turn_laws.specs.Orderly.{KeepsNumbered, AreOrderly, ChangesOrderly, DoneOrderly, StackOrderly, CreatedOrderly, CommittedOrderly}
+use Rattle.turn_laws.specs.Orderly.{KeepsNumbered, AreOrderly, ChangesOrderly, DoneOrderly, StackOrderly, CreatedOrderly, CommittedOrderly, FiredOrderly}
 use Rattle.turn_laws.proofs.NumberedLaws.{edits_numbered, none_numbered, spawned_numbered}
 
 -- an edit of a layer that keeps its name, takes back no child's name, and leaves its threads in order
@@ -85,6 +86,13 @@ fold_orderly (t ∷ ts) layers good = fold_orderly ts (failing layers t) (end_or
 
 pub left_orderly : (layers : List Layer) → AreOrderly layers → AreOrderly (without_inconsistent layers)
 left_orderly layers good = fold_orderly (inconsistent_spaces layers) layers good
+
+pub fired_orderly : FiredOrderly
+fired_orderly layers after fires good = record {
+  tree = fired_tree layers after fires good.tree;
+  top = fired_there layers after [] fires ∙ good.top;
+  numbered = fired_numbered layers after fires good.numbered;
+}
 
 -- The edits of steps
 

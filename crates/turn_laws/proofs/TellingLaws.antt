@@ -26,6 +26,7 @@ use Rattle.oz_semantics.specs.declared.outcome.Stepped.TheVariants.{Moved}
 use Rattle.oz_laws.proofs.SameLaws.{In, In-from_contains, contains-from_In, In-flat, In-flat_back, and-right}
 use Rattle.oz_laws.proofs.StoreLaws.{tests_consistent}
 use Rattle.view_laws.specs.Readies.{Keeps, Stays, seeing}
+use Rattle.view_laws.specs.Needs.{NoneNeeded}
 use Rattle.view_laws.specs.Trees.{is_ascending, names_of}
 use Rattle.view_laws.specs.Steps.{spawned_from, MadeOf, IsSound}
 use Rattle.view_laws.proofs.Members.{decide, not_both, In-left, In-cases}
@@ -39,6 +40,7 @@ use Rattle.view_laws.proofs.QuietLaws.{quiet_queue}
 use Rattle.view_laws.proofs.ChangeLaws.{edit_of, changed_by, edit_keeps}
 use Rattle.view_laws.proofs.StepLaws.{changes_made}
 use Rattle.view_laws.proofs.NumberLaws.{step_new}
+use Rattle.view_laws.proofs.NeedLaws.{nothing_fires}
 use Rattle.view_laws.proofs.SettleLaws.{quiet_sound}
 use Rattle.settle_laws.proofs.EditLaws.{edits_join, edits_agree, are_quiet, edit_quiet, quiet_view, pop_view}
 use Rattle.settle_laws.proofs.ListEdits.{is_found_edit}
@@ -372,19 +374,20 @@ module _ (statements : List Statement) (c : Configuration) (id : Ident) (queue :
       ap (λ (q : List Ident). (q ++ mover_in (Some id) ids) ++ filter (λ o. not (is_among (q ++ mover_in (Some id) ids) o)) ids) rest_stays
       ∙ ap (λ (q : List Ident). stay ++ q) own_comes
 
-  pub tells_all : (cost : ℕ)
+  pub tells_all : (cost : ℕ) → NoneNeeded statements told
       → ◌≡◌ {A = Turned} (settled statements (Some id) cost (record c { layers = told; queue = queue })) (
         Moved cost,
         record c { layers = told; queue = stay ++ others_of stay (runnable_in statements told (layer_of told id.space)) },
       )
-  tells_all cost =
+  tells_all cost none =
       settled_by statements (Some id) cost id.space told told queue c.shown (sound_settles id.space told told_sound)
+      ∙ ap (λ (ls : List Layer). (Moved cost, record c { layers = ls; queue = queue_after (runnable statements ls) (Some id) queue })) (nothing_fires statements told none)
       ∙ ap (λ (q : List Ident). (Moved cost, record c { layers = told; queue = q })) queued
 
 pub tell_queue : TellQueue
-tell_queue statements c id queue ts changes cost kept alone fits layers e =
-    let all = tells_all statements c id queue ts changes kept alone fits cost in
+tell_queue statements c id queue ts changes cost kept alone fits layers e none =
     let same = told_last id ts changes (without_top id c.layers) in
+    let all = tells_all statements c id queue ts changes kept alone fits cost (subst (NoneNeeded statements) (e ∙ same) none) in
     ap (λ (ls : List Layer). settled statements (Some id) cost (record c { layers = ls; queue = queue })) same
     ∙ subst (λ (ls : List Layer). ◌≡◌ {A = Turned}
     (settled statements (Some id) cost (record c { layers = in_layer id.space (telling ts) (in_layer id.space without_terminated (changed_all id changes (without_top id c.layers))); queue = queue })) (

@@ -22,18 +22,20 @@ use Rattle.oz_semantics.specs.declared.configuration.Layer.{Layer}
 use Rattle.oz_semantics.specs.declared.configuration.Configuration.{Configuration}
 use Rattle.oz_semantics.specs.declared.outcome.Stepped.TheVariants.{Moved}
 use Rattle.view_laws.specs.Trees.{IsTree}
+use Rattle.view_laws.specs.Needs.{NoneNeeded}
 use Rattle.view_laws.specs.Queues.{is_once}
 use Rattle.view_laws.specs.Steps.{spawned_from, IsNumbered, IsSound}
 use Rattle.settle_laws.specs.Turns.{Left, HasExact}
 use Rattle.turn_laws.specs.Orderly.{AreOrderly}
 
 -- the layers are those of a tree, the top is there, in each layer the threads stand in the order of their numbers, no space that
--- may fail sees what is inconsistent, and the queue holds exactly the threads that can step, each once
+-- may fail sees what is inconsistent, no trigger is needed, and the queue holds exactly the threads that can step, each once
 pub record IsKept (statements : List Statement) (c : Configuration) : Type 0 where
   pub tree : IsTree c.layers
   pub top : is_some (layer_at c.layers []) ≡ true
   pub numbered : (l : Layer) → Contains c.layers l → IsNumbered l
   pub sound : IsSound c.layers
+  pub content : NoneNeeded statements c.layers
   pub exact : HasExact statements c
   pub once : is_once c.queue ≡ true
 
@@ -90,12 +92,12 @@ KeptHead = (statements : List Statement) (id : Ident) (queue : List Ident) (c : 
 
 -- Steps that tell nothing
 
--- Where the thread at the head makes changes, no space fails, and the queue is the rest, and then the thread and the new ones, as far
--- as they can step
+-- Where the thread at the head makes changes, and no trigger is needed then, no space fails, and the queue is the rest, and then the thread
+-- and the new ones, as far as they can step
 abbrev pub KeptChanges : Type 0
 KeptChanges =
     (statements : List Statement) (c : Configuration) (id : Ident) (queue : List Ident) (changes : List Change) (cost : ℕ) → IsKept statements (record c { queue = id ∷ queue })
-    → (layers : List Layer) → layers ≡ in_layer id.space without_terminated (changed_all id changes (without_top id c.layers))
+    → (layers : List Layer) → layers ≡ in_layer id.space without_terminated (changed_all id changes (without_top id c.layers)) → NoneNeeded statements layers
     → ◌≡◌ {A = Turned} (went_on statements id cost (changed_all id changes (without_top id c.layers)) (record c { queue = queue })) (
       Moved cost,
       record c {
@@ -111,5 +113,6 @@ abbrev pub KeptStack : Type 0
 KeptStack =
     (statements : List Statement) (c : Configuration) (id : Ident) (queue : List Ident) (frames : List Frame) (cost : ℕ) → IsKept statements (record c { queue = id ∷ queue })
     → (layers : List Layer) → layers ≡ in_layer id.space without_terminated (in_layer id.space (with_frames id.number (λ rest. frames)) (without_top id c.layers))
+    → NoneNeeded statements layers
     → ◌≡◌ {A = Turned} (went_on statements id cost (in_layer id.space (with_frames id.number (λ rest. frames)) (without_top id c.layers)) (record c { queue = queue }))
     (Moved cost, record c { layers = layers; queue = queue ++ mover_in (Some id) (runnable statements layers) })

@@ -3,7 +3,7 @@ use Rattle.std.specs.Prelude.{ℕ, ◌≡◌, true, ◌&&◌, List, [], Contains
 use Rattle.oz_base.specs.Lists.{holds_of}
 use Rattle.oz_base.specs.declared.names.Ident.{Ident}
 use Rattle.oz_language.specs.declared.kernel.Statement.{Statement}
-use Rattle.oz_semantics.specs.Configurations.{layer_at, layer_of, thread_at, is_open, in_layer, with_frames, without_terminated, telling, giving_out, counting_procedure, counting_name, counting_child, spawning, adding_cell, with_content, adding_port, with_end, failed, raised_by}
+use Rattle.oz_semantics.specs.Configurations.{layer_at, layer_of, thread_at, is_open, in_layer, with_frames, without_terminated, telling, giving_out, counting_procedure, counting_name, counting_child, spawning, adding_cell, with_content, adding_port, with_end, adding_trigger, failed, raised_by}
 use Rattle.oz_semantics.specs.Sights.{Sight, can_step}
 use Rattle.oz_semantics.specs.Readiness.{thread_ready}
 use Rattle.oz_semantics.specs.Spaces.{sight}
@@ -17,6 +17,7 @@ use Rattle.oz_semantics.specs.declared.configuration.Thread.{Thread}
 use Rattle.oz_semantics.specs.declared.configuration.Layer.{Layer}
 use Rattle.view_laws.specs.Trees.{IsTree}
 use Rattle.view_laws.specs.Steps.{IsNumbered}
+use Rattle.need_laws.specs.Needs.{AllFire}
 
 -- an edit of a layer that leaves its threads in the order of their numbers
 abbrev pub KeepsNumbered : (Layer → Layer) → Type 0
@@ -36,6 +37,7 @@ pub record EditsNumbered : Type 0 where
   pub content : (number : ℕ) (content : Ident) → KeepsNumbered (with_content number content)
   pub port : (end : Ident) → KeepsNumbered (adding_port end)
   pub end : (number : ℕ) (end : Ident) → KeepsNumbered (with_end number end)
+  pub trigger : (procedure variable : Ident) → KeepsNumbered (adding_trigger procedure variable)
   pub choice : (s : Sight) (i : ℕ) → KeepsNumbered (committing s i)
   pub failure : KeepsNumbered failed
   pub exception : (x : Ident) → KeepsNumbered (raised_by x)
@@ -69,6 +71,10 @@ CreatedOrderly = (parent : List ℕ) (procedure : Ident) (layers : List Layer) �
 -- or a space is committed
 abbrev pub CommittedOrderly : Type 0
 CommittedOrderly = (statements : List Statement) (space : List ℕ) (i : ℕ) (layers : List Layer) → AreOrderly layers → AreOrderly (committed statements space i layers)
+
+-- and where by-need computations begin
+abbrev pub FiredOrderly : Type 0
+FiredOrderly = (layers after : List Layer) → AllFire layers after → AreOrderly layers → AreOrderly after
 
 -- Then its own layer and thread alone tell whether a thread is among those that can step
 abbrev pub MoverAlone : Type 0

@@ -3,7 +3,7 @@
 //! Each function does nothing: its contract states laws of the definitions.
 #![tactic(auto)]
 
-ghost use Rattle.turn_laws.specs.Orderly.{EditsNumbered, ChangesOrderly, DoneOrderly, StackOrderly, CreatedOrderly, CommittedOrderly, MoverAlone};
+ghost use Rattle.turn_laws.specs.Orderly.{EditsNumbered, ChangesOrderly, DoneOrderly, StackOrderly, CreatedOrderly, CommittedOrderly, FiredOrderly, MoverAlone};
 ghost use Rattle.turn_laws.specs.Kept.{KeptLayers, KeptShown, KeptTurn, KeptStep, KeptOpening, KeptRoot, KeptChosen, KeptGoesOn, KeptHead, KeptChanges, KeptStack};
 ghost use Rattle.turn_laws.specs.Telling.{TellQueue};
 
@@ -15,6 +15,7 @@ pub fn orderly_law()
     ensures stack { StackOrderly }
     ensures created { CreatedOrderly }
     ensures committed { CommittedOrderly }
+    ensures fired { FiredOrderly }
     ensures mover { MoverAlone }
 {}
 

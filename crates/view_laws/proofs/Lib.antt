@@ -18,4 +18,5 @@ pub mod QuietLaws
 pub mod ChangeLaws
 pub mod StepLaws
 pub mod NumberLaws
+pub mod NeedLaws
 pub mod SettleLaws

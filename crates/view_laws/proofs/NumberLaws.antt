@@ -33,7 +33,7 @@ number_in t = t.number
 abbrev numbers : List Thread → List ℕ
 numbers ts = map number_in ts
 
-rising_append : (ms ns : List ℕ) → IsRising ms → IsRising ns → ((m n : ℕ) → In m ms → In n ns → m < n) → IsRising (ms ++ ns)
+pub rising_append : (ms ns : List ℕ) → IsRising ms → IsRising ns → ((m n : ℕ) → In m ms → In n ns → m < n) → IsRising (ms ++ ns)
 rising_append [] ns h k less = k
 rising_append (m ∷ ms) ns h k less = (
   λ n c. elim (In-cases n ms ns (In-from_contains (ms ++ ns) n c)) [

@@ -10,6 +10,7 @@ use Rattle.oz_semantics.specs.Configurations.{is_of, layer_at, thread_at, is_ope
 use Rattle.oz_semantics.specs.Sights.{can_step}
 use Rattle.oz_semantics.specs.Readiness.{thread_ready}
 use Rattle.oz_semantics.specs.Spaces.{sight}
+use Rattle.oz_semantics.specs.Triggers.{triggered}
 use Rattle.oz_semantics.specs.Settling.{Turned, may_fail, is_inconsistent, failing, without_inconsistent, top_is_inconsistent, mover_in, queue_after, requeued, runnable_in, runnable, settled, top_failed}
 use Rattle.oz_semantics.specs.declared.configuration.Thread.{Thread}
 use Rattle.oz_semantics.specs.declared.configuration.Status.{Status}
@@ -18,6 +19,7 @@ use Rattle.oz_semantics.specs.declared.configuration.Configuration.{Configuratio
 use Rattle.oz_semantics.specs.declared.outcome.Stepped.TheVariants.{Moved}
 use Rattle.oz_laws.proofs.SameLaws.{In, In-from_contains, contains-from_In, and-right}
 use Rattle.view_laws.specs.Trees.{is_ascending, names_of}
+use Rattle.view_laws.specs.Needs.{NoneNeeded}
 use Rattle.view_laws.specs.Queues.{is_once, IsExact, StepsTo, AreNew}
 use Rattle.view_laws.specs.Steps.{spawned_from, MadeOf, IsNumbered, IsSound, QuietSound, QuietSettles, ChangesSettle, StackSettle}
 use Rattle.view_laws.proofs.Members.{decide, not_both, some_of}
@@ -25,6 +27,7 @@ use Rattle.view_laws.proofs.ListLaws.{among_in, in_among, filter_none, in_edit, 
 use Rattle.view_laws.proofs.SightLaws.{quiet_unseen}
 use Rattle.view_laws.proofs.QuietLaws.{quiet_queue}
 use Rattle.view_laws.proofs.StepLaws.{changes_made, stack_made}
+use Rattle.view_laws.proofs.NeedLaws.{nothing_fires}
 use Rattle.view_laws.proofs.NumberLaws.{own_layer, first_numbered, step_new}
 use Rattle.oz_semantics.specs.Configurations.{with_frames, without_terminated}
 use Rattle.oz_semantics.specs.Changes.{changed_all}
@@ -71,15 +74,16 @@ pub quiet_sound : QuietSound
 quiet_sound layers id before after news at steps sound l h = sound_after layers id before after news at steps sound l (In-from_contains (in_layer id.space (λ m. after) layers) l h)
 
 pub quiet_settles : QuietSettles
-quiet_settles statements c id queue before after news cost at steps exact once fresh sound layers e =
+quiet_settles statements c id queue before after news cost at steps exact once fresh sound layers e none =
     let left : Configuration = record c { layers = layers; queue = queue } in
     let kept : (l : Layer) → In l layers → is_inconsistent layers l ≡ false =
     subst (λ ls. (l : Layer) → In l ls → is_inconsistent ls l ≡ false) (sym e) (sound_after c.layers id before after news at steps sound) in
     let queued : queue_after (runnable statements layers) (Some id) queue ≡ queue ++ mover_in (Some id) (runnable statements layers) ++ runnable_in statements layers (record after { threads = news }) =
     subst (λ ls. queue_after (runnable statements ls) (Some id) queue ≡ queue ++ mover_in (Some id) (runnable statements ls) ++ runnable_in statements ls (record after { threads = news })) (sym e)
     (quiet_queue statements c.layers id queue before after news at steps exact once fresh) in
-    ap (λ (b : Bool). if b then top_failed cost left else (Moved cost, requeued statements (Some id) left (without_inconsistent layers))) (top_kept layers kept)
-    ∙ ap (λ (ls : List Layer). (Moved cost, requeued statements (Some id) left ls)) (keep_all layers kept)
+    ap (λ (b : Bool). if b then top_failed cost left else (Moved cost, requeued statements (Some id) left (triggered statements (without_inconsistent layers)))) (top_kept layers kept)
+    ∙ ap (λ (ls : List Layer). (Moved cost, requeued statements (Some id) left (triggered statements ls))) (keep_all layers kept)
+    ∙ ap (λ (ls : List Layer). (Moved cost, requeued statements (Some id) left ls)) (nothing_fires statements layers none)
     ∙ ap (λ (q : List Ident). (Moved cost, record c { layers = layers; queue = q })) queued
 
 -- A thread at the head of the queue stands in its layer
@@ -99,13 +103,13 @@ module _ (statements : List Statement) (c : Configuration) (id : Ident) (queue :
       ap₂ (λ (s : Status) (p : List ℕ). if is_open s then map (λ (t : Thread). named p t.number) (filter (λ (t : Thread). can_step (thread_ready (sight statements layers p) t)) news) else [])
       steps.status steps.space
 
-  settle_made : (result : List Layer) (news : List Thread) (cost : ℕ) → MadeOf id c.layers result before news → AreNew id.space news (id ∷ queue)
+  settle_made : (result : List Layer) (news : List Thread) (cost : ℕ) → MadeOf id c.layers result before news → AreNew id.space news (id ∷ queue) → NoneNeeded statements result
       → ◌≡◌ {A = Turned} (settled statements (Some id) cost (record c { layers = result; queue = queue })) (
         Moved cost,
         record c { layers = result; queue = queue ++ mover_in (Some id) (runnable statements result) ++ runnable_in statements result (record before { threads = news }) },
       )
-  settle_made result news cost made fresh =
-      quiet_settles statements c id queue before made.after news cost at made.steps exact once fresh sound result made.left
+  settle_made result news cost made fresh none =
+      quiet_settles statements c id queue before made.after news cost at made.steps exact once fresh sound result made.left none
       ∙ ap (λ (q : List Ident). (Moved cost, record c { layers = result; queue = queue ++ mover_in (Some id) (runnable statements result) ++ q })) (same_news result made.after news made.steps)
 
   none_new : AreNew id.space [] (id ∷ queue)
@@ -119,22 +123,23 @@ module _ (statements : List Statement) (c : Configuration) (id : Ident) (queue :
       by false = refl
 
 pub changes_settle : ChangesSettle
-changes_settle statements c id queue before changes cost ascending at numbered exact once sound layers e =
+changes_settle statements c id queue before changes cost ascending at numbered exact once sound layers e none =
     let made = changes_made id changes c.layers before at (there statements c id queue before ascending at numbered exact once sound) in
     subst (λ (ls : List Layer). ◌≡◌ {A = Turned} (went_on statements id cost (changed_all id changes (without_top id c.layers)) (record c { queue = queue })) (
       Moved cost,
       record c { layers = ls; queue = queue ++ mover_in (Some id) (runnable statements ls) ++ runnable_in statements ls (record before { threads = spawned_from before.next.thread changes }) },
     )) (sym e)
     (settle_made statements c id queue before ascending at numbered exact once sound (in_layer id.space without_terminated (changed_all id changes (without_top id c.layers)))
-    (spawned_from before.next.thread changes) cost made (step_new statements changes c.layers id.space (id ∷ queue) before ascending at numbered exact))
+    (spawned_from before.next.thread changes) cost made (step_new statements changes c.layers id.space (id ∷ queue) before ascending at numbered exact) (subst (NoneNeeded statements) e none))
 
 pub stack_settle : StackSettle
-stack_settle statements c id queue before frames cost ascending at numbered exact once sound layers e =
+stack_settle statements c id queue before frames cost ascending at numbered exact once sound layers e none =
     let made = stack_made id frames c.layers before at (there statements c id queue before ascending at numbered exact once sound) in
     let result : List Layer = in_layer id.space without_terminated (in_layer id.space (with_frames id.number (λ rest. frames)) (without_top id c.layers)) in
     let able : List Ident = mover_in (Some id) (runnable statements result) in
     subst (λ (ls : List Layer). ◌≡◌ {A = Turned} (went_on statements id cost (in_layer id.space (with_frames id.number (λ rest. frames)) (without_top id c.layers)) (record c { queue = queue }))
     (Moved cost, record c { layers = ls; queue = queue ++ mover_in (Some id) (runnable statements ls) })) (sym e)
     (settle_made statements c id queue before ascending at numbered exact once sound result [] cost made (none_new statements c id queue before ascending at numbered exact once sound)
+    (subst (NoneNeeded statements) e none)
     ∙ ap (λ (q : List Ident). (Moved cost, record c { layers = result; queue = queue ++ able ++ q })) (no_news statements c id queue before ascending at numbered exact once sound result)
     ∙ ap (λ (q : List Ident). (Moved cost, record c { layers = result; queue = q })) (append-nil (queue ++ able)))

@@ -15,15 +15,15 @@ use Rattle.oz_language.specs.declared.kernel.Operation.{Operation}
 use Rattle.oz_language.specs.declared.kernel.Operation.TheVariants as operation
 use Rattle.oz_language.specs.declared.kernel.Statement.{Statement}
 use Rattle.oz_language.specs.declared.kernel.Statement.TheVariants as statement
-use Rattle.oz_semantics.specs.Values.{is_like, constant_in, integer_in, fields_of, cell_in, port_in}
+use Rattle.oz_semantics.specs.Values.{is_like, constant_in, integer_in, fields_of, cell_in, port_in, is_procedure}
 use Rattle.oz_semantics.specs.Names.{is_top}
 use Rattle.oz_semantics.specs.Store.{Same, itself, reversed, joined, IsConsistent, value_of, is_determined}
 use Rattle.oz_semantics.specs.Matching.{Match, Matches, Differs, MatchWaits, matched}
 use Rattle.oz_semantics.specs.Entailment.{Equality, Entailed, Contradicted, Undecided, equality}
 use Rattle.oz_semantics.specs.Terms.{list_term}
 use Rattle.oz_semantics.specs.Sights.{Sight, Readiness, Steps, Waits}
-use Rattle.oz_semantics.specs.Answers.{Act, Answer, Acts, RaisesKind, GivesTerm, Passes, Reads, Writes, Exchanges, Sends, Shows, given, with_value, of_kind, argument, gives_constant}
-use Rattle.oz_semantics.specs.Builtins.{truth, gives_number, with_integers, compares, computes, of_equality, label_in, arity_in, gives_field, field_at, selects, own_act, on_cell, on_port, of_operation, answer, arguments_of, call_answer}
+use Rattle.oz_semantics.specs.Answers.{Act, Answer, Acts, RaisesKind, GivesTerm, Passes, Reads, Writes, Exchanges, Sends, Delays, Shows, given, with_value, of_kind, argument, gives_constant}
+use Rattle.oz_semantics.specs.Builtins.{truth, gives_number, with_integers, compares, computes, of_equality, label_in, arity_in, gives_field, field_at, selects, own_act, on_cell, on_port, delays, of_operation, answer, arguments_of, call_answer}
 use Rattle.oz_semantics.specs.Statements.{procedure_called, value_called, called, branch, constant_branch, clause, statement_answer, numbered_answer, code_answer, stack_answer}
 use Rattle.oz_semantics.specs.Readiness.{answer_ready}
 use Rattle.oz_semantics.specs.declared.configuration.Code.{Code}
@@ -86,6 +86,9 @@ either_steps false one other e f = f
 
 own_steps : (s : Sight) (global : RaiseKind) (act : ℕ → Act) (owner : Ident) → answer_ready (own_act s global act owner) ≡ Steps
 own_steps s global act owner = either_steps (list_eq owner.space s.space) (Acts (act owner.number)) (RaisesKind global) refl refl
+
+delay_steps : (procedure x : Ident) (v : Value) → answer_ready (delays procedure x v) ≡ Steps
+delay_steps procedure x v = either_steps (is_procedure v) (Acts (Delays procedure x)) (RaisesKind raise.BadKind) refl refl
 
 procedure_steps : (q : procedures.Procedure) (xs : List Ident) → answer_ready (procedure_called q xs) ≡ Steps
 procedure_steps q xs = either_steps (length xs == length q.parameters) _ (RaisesKind raise.Arity) refl refl
@@ -217,6 +220,7 @@ module _ (statements : List Statement) (space : List ℕ) (before after : List T
   answer_leads builtin.Exchange x = cell_leads (x 0) (λ n. Exchanges n (x 1) (x 2))
   answer_leads builtin.NewPort x = refl
   answer_leads builtin.Send x = port_leads (x 0) (λ n. Sends n (x 1))
+  answer_leads builtin.ByNeed x = one_leads (x 0) (delays (x 0) (x 1)) (delay_steps (x 0) (x 1))
   answer_leads builtin.Show x = show_leads (is_top space) (x 0)
 
   call_leads : (b : Builtin) (xs : List Ident) → Leads (call_answer here b xs) (call_answer there b xs)

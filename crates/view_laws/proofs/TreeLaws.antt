@@ -160,7 +160,7 @@ trees_lead layers h = ascending_leads layers h.ordered
 
 -- Edits keep the tree
 
-given_in : (layers after : List Layer) (space : List ℕ) → ((p : Layer) → In p layers → (q : Layer) × In q after × (q.space ≡ p.space) × (p.next.child ≤ q.next.child)) → IsGivenOut layers space → IsGivenOut after space
+pub given_in : (layers after : List Layer) (space : List ℕ) → ((p : Layer) → In p layers → (q : Layer) × In q after × (q.space ≡ p.space) × (p.next.child ≤ q.next.child)) → IsGivenOut layers space → IsGivenOut after space
 given_in layers after space h g =
     let q = h g.parent (In-from_contains layers g.parent g.among) in
     record { parent = q.0; among = contains-from_In after q.0 q.1; number = g.number; name = g.name ∙ ap (λ s. child_name s g.number) (sym q.2); given = omega (arith, g.given, q.3) }

@@ -3,4 +3,5 @@ pub mod Sights
 pub mod Trees
 pub mod Readies
 pub mod Queues
+pub mod Needs
 pub mod Steps

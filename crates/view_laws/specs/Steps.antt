@@ -7,7 +7,7 @@ use Rattle.oz_semantics.specs.Configurations.{layer_at, thread_at, is_open, in_l
 use Rattle.oz_semantics.specs.Sights.{can_step}
 use Rattle.oz_semantics.specs.Readiness.{thread_ready}
 use Rattle.oz_semantics.specs.Spaces.{sight}
-use Rattle.oz_semantics.specs.Changes.{Change, GivesOut, CountsProcedure, CountsName, Pushes, Spawns, AddsCell, Holds, AddsPort, EndsAt, changed_all}
+use Rattle.oz_semantics.specs.Changes.{Change, GivesOut, CountsProcedure, CountsName, Pushes, Spawns, AddsCell, Holds, AddsPort, EndsAt, AddsTrigger, changed_all}
 use Rattle.oz_semantics.specs.Settling.{Turned, is_inconsistent, is_among, mover_in, runnable_in, runnable, settled}
 use Rattle.oz_semantics.specs.Steps.{without_top, went_on}
 use Rattle.oz_semantics.specs.declared.configuration.Frame.{Frame}
@@ -16,6 +16,7 @@ use Rattle.oz_semantics.specs.declared.configuration.Layer.{Layer}
 use Rattle.oz_semantics.specs.declared.configuration.Configuration.{Configuration}
 use Rattle.oz_semantics.specs.declared.outcome.Stepped.TheVariants.{Moved}
 use Rattle.view_laws.specs.Trees.{is_ascending, names_of}
+use Rattle.view_laws.specs.Needs.{NoneNeeded}
 use Rattle.view_laws.specs.Queues.{is_once, IsExact, StepsTo, AreNew}
 
 -- What the changes of a step make
@@ -32,6 +33,7 @@ spawned_from n (AddsCell content ∷ changes) = spawned_from n changes
 spawned_from n (Holds number content ∷ changes) = spawned_from n changes
 spawned_from n (AddsPort end ∷ changes) = spawned_from n changes
 spawned_from n (EndsAt number end ∷ changes) = spawned_from n changes
+spawned_from n (AddsTrigger procedure variable ∷ changes) = spawned_from n changes
 
 -- the layers are those before but for one, which is what such a step of the thread makes of it
 pub record MadeOf (id : Ident) (layers result : List Layer) (before : Layer) (news : List Thread) : Type 0 where
@@ -102,12 +104,12 @@ QuietSound =
     (layers : List Layer) (id : Ident) (before after : Layer) (news : List Thread) → layer_at layers id.space ≡ Some before → StepsTo id.number before after news → IsSound layers
     → IsSound (in_layer id.space (λ l. after) layers)
 
--- Then no space fails after it, and the queue is the rest, and then the thread and the new ones, as far as they can step
+-- Then no space fails after it, and where no trigger is needed, the queue is the rest, and then the thread and the new ones, as far as they can step
 abbrev pub QuietSettles : Type 0
 QuietSettles =
     (statements : List Statement) (c : Configuration) (id : Ident) (queue : List Ident) (before after : Layer) (news : List Thread) (cost : ℕ) → layer_at c.layers id.space ≡ Some before
     → StepsTo id.number before after news → IsExact statements c.layers (id ∷ queue) → is_once (id ∷ queue) ≡ true → AreNew id.space news (id ∷ queue) → IsSound c.layers
-    → (layers : List Layer) → layers ≡ in_layer id.space (λ l. after) c.layers
+    → (layers : List Layer) → layers ≡ in_layer id.space (λ l. after) c.layers → NoneNeeded statements layers
     → ◌≡◌ {A = Turned} (settled statements (Some id) cost (record c { layers = layers; queue = queue })) (
       Moved cost,
       record c { layers = layers; queue = queue ++ mover_in (Some id) (runnable statements layers) ++ runnable_in statements layers (record after { threads = news }) },
@@ -118,7 +120,7 @@ abbrev pub ChangesSettle : Type 0
 ChangesSettle =
     (statements : List Statement) (c : Configuration) (id : Ident) (queue : List Ident) (before : Layer) (changes : List Change) (cost : ℕ) → is_ascending (names_of c.layers) ≡ true
     → layer_at c.layers id.space ≡ Some before → IsNumbered before → IsExact statements c.layers (id ∷ queue) → is_once (id ∷ queue) ≡ true → IsSound c.layers
-    → (layers : List Layer) → layers ≡ in_layer id.space without_terminated (changed_all id changes (without_top id c.layers))
+    → (layers : List Layer) → layers ≡ in_layer id.space without_terminated (changed_all id changes (without_top id c.layers)) → NoneNeeded statements layers
     → ◌≡◌ {A = Turned} (went_on statements id cost (changed_all id changes (without_top id c.layers)) (record c { queue = queue })) (
       Moved cost,
       record c {
@@ -133,5 +135,6 @@ StackSettle =
     (statements : List Statement) (c : Configuration) (id : Ident) (queue : List Ident) (before : Layer) (frames : List Frame) (cost : ℕ) → is_ascending (names_of c.layers) ≡ true
     → layer_at c.layers id.space ≡ Some before → IsNumbered before → IsExact statements c.layers (id ∷ queue) → is_once (id ∷ queue) ≡ true → IsSound c.layers
     → (layers : List Layer) → layers ≡ in_layer id.space without_terminated (in_layer id.space (with_frames id.number (λ rest. frames)) (without_top id c.layers))
+    → NoneNeeded statements layers
     → ◌≡◌ {A = Turned} (went_on statements id cost (in_layer id.space (with_frames id.number (λ rest. frames)) (without_top id c.layers)) (record c { queue = queue }))
     (Moved cost, record c { layers = layers; queue = queue ++ mover_in (Some id) (runnable statements layers) })

@@ -8,6 +8,7 @@ ghost use Rattle.view_laws.specs.Sights.{ChangeUnseen, QuietUnseen, TellSeen, En
 ghost use Rattle.view_laws.specs.Trees.{TreesLead, ChangeTree, EndTree, FailureTree, RaiseTree, CreationTree};
 ghost use Rattle.view_laws.specs.Readies.{ReadinessStays, UntouchedUnmoved, ChangeReady, QuietReady};
 ghost use Rattle.view_laws.specs.Queues.{QueueExact, QueueOnce, QueueTells, QuietQueue};
+ghost use Rattle.view_laws.specs.Needs.{NothingFires};
 ghost use Rattle.view_laws.specs.Steps.{ChangesMade, StackMade, StepNumbered, StepNew, RunnableOnce, MoverTold, QuietSound, QuietSettles, ChangesSettle, StackSettle};
 
 /// What the touched variables decide: whether two views are alike, and whether a wait is for the ancestors. Nothing: it holds laws.
@@ -68,6 +69,7 @@ pub fn step_law()
     ensures once { RunnableOnce }
     ensures mover { MoverTold }
     ensures sound { QuietSound }
+    ensures nothing_fires { NothingFires }
     ensures quiet { QuietSettles }
     ensures changes_settle { ChangesSettle }
     ensures stack_settle { StackSettle }

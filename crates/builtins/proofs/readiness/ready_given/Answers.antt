@@ -1,5 +1,5 @@
-use Rattle.oz_semantics.specs.declared.value.Builtin.TheVariants.{Label, Width, Arity, Wait, Access, Assign, Exchange, Send}
-use Rattle.builtins.proofs.ReadyLaws.{ready_one_input, ready_two_inputs, label_waits, width_waits, arity_waits, wait_waits, access_waits, assign_waits, exchange_waits, send_waits}
+use Rattle.oz_semantics.specs.declared.value.Builtin.TheVariants.{Label, Width, Arity, Wait, Access, Assign, Exchange, Send, ByNeed}
+use Rattle.builtins.proofs.ReadyLaws.{ready_one_input, ready_two_inputs, label_waits, width_waits, arity_waits, wait_waits, access_waits, assign_waits, exchange_waits, send_waits, by_need_waits}
 use Rattle.builtins.proofs.readiness.ready_given.Goals as goal
 
 pub returns-in-Operation : goal.returns-in-Operation
@@ -37,3 +37,7 @@ returns-in-Exchange c =
 pub returns-in-Send : goal.returns-in-Send
 returns-in-Send c =
     ready_one_input c.args.store.now c.args.builtin Send c.args.first.now c.args.second.now c.ready_one-in-Send.result c.in-Send.is send_waits c.ready_one-in-Send.ensures
+
+pub returns-in-ByNeed : goal.returns-in-ByNeed
+returns-in-ByNeed c =
+    ready_one_input c.args.store.now c.args.builtin ByNeed c.args.first.now c.args.second.now c.ready_one-in-ByNeed.result c.in-ByNeed.is by_need_waits c.ready_one-in-ByNeed.ensures

@@ -1,0 +1,82 @@
+-- The variables that threads wait for, by their classes.
+use Rattle.std.proofs.Common.{◌≡◌, ℕ, ◌+◌, ◌<◌, Bool, true, false, ◌&&◌, ◌||◌, if◌then◌else◌, List, [], ◌∷◌, ◌++◌, map, length, take, get_or, refl, sym, ap, ap₂, subst, ◌∙◌, arith, Result}
+use Rattle.std.specs.Prelude.{IfOk}
+use Rattle.std.specs.List.{list_any, flat_map}
+use Rattle.std.proofs.lemmas.List.{take_more, append-nil}
+use Rattle.std.proofs.lemmas.List.Folds.{list_any-append}
+use Rattle.std.proofs.lemmas.Grind.{flat_map-append}
+use Rattle.oz_base.specs.declared.names.Ident.{Ident}
+use Rattle.oz_language.specs.declared.kernel.Statement.{Statement}
+use Rattle.oz_semantics.specs.Store.{View, same, is_determined}
+use Rattle.oz_semantics.specs.Configurations.{is_open, view}
+use Rattle.oz_semantics.specs.Sights.{Readiness, waits_of}
+use Rattle.oz_semantics.specs.Readiness.{thread_ready}
+use Rattle.oz_semantics.specs.Spaces.{sight, waited_in}
+use Rattle.oz_semantics.specs.Triggers.{is_needed, is_needed_in}
+use Rattle.oz_semantics.specs.declared.configuration.Layer.{Layer}
+use Rattle.oz_semantics.specs.declared.configuration.Thread.{Thread}
+use Rattle.oz_semantics.specs.declared.configuration.Trigger.{Trigger}
+use Rattle.builtins.specs.Answers.{IsReady}
+use Rattle.builtins.specs.declared.answer.Readiness.TheVariants as readiness
+use Rattle.tree_equal.specs.Answers.{SameClasses}
+use Rattle.by_need.specs.Waited.{AddsClasses}
+
+-- marks by other words
+pub same_marks : {A E : Type 0} (r : Result A E) {a b : A} → a ≡ b → IfOk r (λ x. x ≡ a) → IfOk r (λ x. x ≡ b)
+same_marks {A} {E} r {a} {b} e h = subst (λ (y : A). IfOk r (λ x. x ≡ y)) e h
+
+or_false : (b : Bool) → b ≡ (b || false)
+or_false true = refl
+or_false false = refl
+
+-- What a thread waits for
+
+pub adds_waits : (view : View) (defined : Readiness) (xs old new : List Ident) → new ≡ old ++ xs → IsReady view defined (readiness.Waits xs) → AddsClasses view (waits_of defined) old new
+adds_waits view defined xs old new e h =
+    λ z. ap (list_any (same view z)) e ∙ list_any-append (same view z) old xs
+    ∙ ap (λ b. list_any (same view z) old || b) (h.2 z ∙ sym (ap (λ (r : Readiness). list_any (same view z) (waits_of r)) h.1))
+
+adds_none : (view : View) (defined : Readiness) (old : List Ident) → waits_of defined ≡ [] → AddsClasses view (waits_of defined) old old
+adds_none view defined old e = λ z. or_false (list_any (same view z) old) ∙ sym (ap (λ (xs : List Ident). list_any (same view z) old || list_any (same view z) xs) e)
+
+pub steps_add : (view : View) (defined : Readiness) (old : List Ident) → IsReady view defined readiness.Steps → AddsClasses view (waits_of defined) old old
+steps_add view defined old h = adds_none view defined old (ap waits_of h)
+
+pub offers_add : (view : View) (defined : Readiness) (old : List Ident) (n : ℕ) → IsReady view defined (readiness.Offers n) → AddsClasses view (waits_of defined) old old
+offers_add view defined old n h = adds_none view defined old (ap waits_of h.1)
+
+-- One more thread
+
+pub waits_more : (view : View) (f : Thread → List Ident) (ts : List Thread) (n : ℕ) (t : Thread) (old new : List Ident) → n < length ts → t ≡ get_or ts n t
+    → SameClasses view old (flat_map f (take n ts)) → AddsClasses view (f t) old new → SameClasses view new (flat_map f (take (n + 1) ts))
+waits_more view f ts n t old new within e s a =
+    let whole : flat_map f (take (n + 1) ts) ≡ flat_map f (take n ts) ++ f t =
+    ap (flat_map f) (take_more ts n t within ∙ ap (λ (y : Thread). take n ts ++ y ∷ []) (sym e)) ∙ flat_map-append f (take n ts) (t ∷ []) ∙ ap (λ ys. flat_map f (take n ts) ++ ys) (append-nil (f t)) in
+    λ z. a z ∙ ap (λ b. b || list_any (same view z) (f t)) (s z) ∙ sym (ap (list_any (same view z)) whole ∙ list_any-append (same view z) (flat_map f (take n ts)) (f t))
+
+-- What is needed for them
+
+pub needed_same : (view : View) (xs ys : List Ident) (ts : List Trigger) → SameClasses view xs ys → map (is_needed view xs) ts ≡ map (is_needed view ys) ts
+needed_same view xs ys [] s = refl
+needed_same view xs ys (t ∷ ts) s = ap₂ (λ (b : Bool) (bs : List Bool). (is_determined view t.variable || b) ∷ bs) (s t.variable) (needed_same view xs ys ts s)
+
+waits_mapped : (f : Thread → Readiness) (ts : List Thread) → flat_map waits_of (map f ts) ≡ flat_map (λ t. waits_of (f t)) ts
+waits_mapped f [] = refl
+waits_mapped f (t ∷ ts) = ap (λ xs. waits_of (f t) ++ xs) (waits_mapped f ts)
+
+module _ (statements : List Statement) (layers : List Layer) (l : Layer) where
+  abbrev waits : List Ident
+  waits = flat_map (λ t. waits_of (thread_ready (sight statements layers l.space) t)) l.threads
+
+  waited_open : is_open l.status ≡ true → waited_in statements layers l ≡ waits
+  waited_open e =
+      ap (λ (b : Bool). flat_map waits_of (if b then map (thread_ready (sight statements layers l.space)) l.threads else [])) e
+      ∙ waits_mapped (thread_ready (sight statements layers l.space)) l.threads
+
+  pub needed_open : is_open l.status ≡ true → map (is_needed (view layers l.space) waits) l.triggers ≡ map (is_needed_in statements layers l) l.triggers
+  needed_open e =
+      ap (λ (xs : List Ident). map (is_needed (view layers l.space) xs) l.triggers) (sym (waited_open e))
+      ∙ sym (ap (λ (b : Bool). map (λ t. b && is_needed (view layers l.space) (waited_in statements layers l) t) l.triggers) e)
+
+  pub needed_ended : is_open l.status ≡ false → map (λ (t : Trigger). false) l.triggers ≡ map (is_needed_in statements layers l) l.triggers
+  needed_ended e = sym (ap (λ (b : Bool). map (λ t. b && is_needed (view layers l.space) (waited_in statements layers l) t) l.triggers) e)

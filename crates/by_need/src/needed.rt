@@ -1,0 +1,142 @@
+//! Which triggers of a space are needed.
+ghost use Rattle.std.specs.Prelude.{◌≡◌, ◌<◌, false, length, map, IfOk, OnOk};
+ghost use Rattle.std.specs.List.{list_any, flat_map};
+ghost use Rattle.oz_semantics.specs.Store.{View, same};
+ghost use Rattle.oz_semantics.specs.Configurations.{is_open, view};
+ghost use Rattle.oz_semantics.specs.Sights as sights;
+ghost use Rattle.oz_semantics.specs.Sights.{waits_of};
+ghost use Rattle.oz_semantics.specs.Readiness.{thread_ready};
+ghost use Rattle.oz_semantics.specs.Triggers.{is_needed, is_needed_in};
+ghost use Rattle.builtins.specs.Answers.{IsReady};
+ghost use Rattle.oz_threads.specs.Sights.{sight_of};
+ghost use Rattle.space_core.specs.Levels.{OfLayer};
+ghost use Rattle.tree_equal.specs.Answers.{SameClasses};
+ghost use Rattle.by_need.specs.Waited.{AddsClasses};
+
+use builtins::Readiness;
+use oz_base::{Ident, Sequence, SpaceName};
+use oz_language::Statement;
+use oz_semantics::{Status, Thread, Trigger};
+use oz_threads::ready_where;
+use space_core::Levels;
+use std::alloc::{AllocError, Global};
+use term_store::Store;
+
+/// Whether the variable is equal to one of these.
+fn is_waited(store: &Store, variable: &Ident, waited: &[Ident]) -> bool
+    ensures { result ≡ list_any (same store.now variable.now) waited.now }
+{
+    waited.iter().any(|other| store.same(variable, other))
+}
+
+fn is_needed(store: &Store, trigger: &Trigger, waited: &[Ident]) -> bool
+    ensures { result ≡ is_needed store.now waited.now trigger.now }
+{
+    store.is_determined(&trigger.variable) || is_waited(store, &trigger.variable, waited)
+}
+
+/// Which of these triggers are needed, for the variables that threads of their space wait for: those whose variable is determined, or equal
+/// to one of these. A mark for each, in their order.
+pub fn needed(
+    alloc: Global,
+    store: &Store,
+    triggers: &[Trigger],
+    waited: &[Ident],
+) -> Result<Sequence<bool>, AllocError>
+    ensures { IfOk result (λ marks. marks ≡ map (is_needed store.now waited.now) triggers.now) }
+{
+    let mut marks = Sequence::new(alloc);
+    for trigger in triggers {
+        marks.push(is_needed(store, trigger, waited))?;
+    }
+    Ok(marks)
+}
+
+/// No mark for each of these triggers.
+fn unneeded(alloc: Global, triggers: &[Trigger]) -> Result<Sequence<bool>, AllocError>
+    ensures { IfOk result (λ marks. marks ≡ map (λ t. false) triggers.now) }
+{
+    let mut marks = Sequence::new(alloc);
+    for _trigger in triggers {
+        marks.push(false)?;
+    }
+    Ok(marks)
+}
+
+/// Adds the variables that are waited for.
+fn add_waits(waited: &mut Sequence<Ident>, ready: Readiness) -> Result<(), AllocError>
+    ensures { OnOk result ((view : View) (defined : sights.Readiness) → IsReady view defined ready → AddsClasses view (waits_of defined) waited.old waited.new) }
+{
+    match ready {
+        Readiness::Waits(waits) => {
+            waited.append(waits.into_vec())?;
+            Ok(())
+        }
+        Readiness::Steps => Ok(()),
+        Readiness::Offers(_) => Ok(()),
+    }
+}
+
+/// The variables that these threads of a space wait for, by what the space sees; each class by any variable of it, and as often as it is
+/// waited for.
+fn waited_where(
+    alloc: Global,
+    statements: &[Statement],
+    space: &SpaceName,
+    store: &Store,
+    threads: &[Thread],
+) -> Result<Sequence<Ident>, AllocError>
+    ensures { IfOk result (λ waited. SameClasses store.now waited (flat_map (λ t. waits_of (thread_ready (sight_of statements.now space.now store.now) t)) threads.now)) }
+{
+    let mut waited = Sequence::new(alloc);
+    for thread in threads {
+        let ready = ready_where(alloc, statements, space, store, thread)?;
+        add_waits(&mut waited, ready)?;
+    }
+    Ok(waited)
+}
+
+/// Which triggers of a space that is open are needed, by what the space sees.
+fn needed_where(
+    alloc: Global,
+    statements: &[Statement],
+    space: &SpaceName,
+    store: &Store,
+    threads: &[Thread],
+    triggers: &[Trigger],
+) -> Result<Sequence<bool>, AllocError>
+    ensures { IfOk result (λ marks. marks ≡ map (is_needed store.now (flat_map (λ t. waits_of (thread_ready (sight_of statements.now space.now store.now) t)) threads.now)) triggers.now) }
+{
+    let waited = waited_where(alloc, statements, space, store, threads)?;
+    needed(alloc, store, triggers, waited.as_slice())
+}
+
+fn is_open(status: &Status) -> bool
+    ensures { result ≡ is_open status.now }
+{
+    matches!(status, Status::Open)
+}
+
+/// Which triggers of the space at a place are needed. A space that is not open needs none.
+pub fn needed_at(
+    alloc: Global,
+    statements: &[Statement],
+    levels: &Levels,
+    place: usize,
+) -> Result<Sequence<bool>, AllocError>
+    requires { place < length levels.now }
+    ensures { OfLayer levels.now place (λ l. IfOk result (λ marks. marks ≡ map (is_needed_in statements.now levels.now l) l.triggers)) }
+{
+    let triggers = levels.triggers_at(place);
+    if is_open(levels.status_at(place)) {
+        return needed_where(
+            alloc,
+            statements,
+            levels.space_at(place),
+            levels.store_at(place),
+            levels.threads_at(place),
+            triggers,
+        );
+    }
+    unneeded(alloc, triggers)
+}

@@ -1,0 +1,3 @@
+pub mod FireLaws
+pub mod AfterLaws
+pub mod RoundLaws
