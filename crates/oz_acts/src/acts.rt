@@ -272,7 +272,7 @@ pub fn act(
             procedure,
             variable,
         } => {
-            levels.delay(alloc, id, procedure, variable)?;
+            levels.delay(id, procedure, variable)?;
             Ok(true)
         }
         Act::Shows(_) => unreachable!(),

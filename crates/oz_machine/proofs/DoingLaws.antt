@@ -12,6 +12,7 @@ use Rattle.oz_semantics.specs.Configurations.{layer_at, layer_of, new_layer, fra
 use Rattle.oz_semantics.specs.Effects.{Effect, Makes, Tells, ShowsText}
 use Rattle.oz_semantics.specs.Changes.{Change, done}
 use Rattle.oz_semantics.specs.Exceptions.{new_term_tells}
+use Rattle.oz_semantics.specs.Triggers.{triggered}
 use Rattle.oz_semantics.specs.Settling.{Turned, inconsistent_spaces, settled, top_failed, top_is_inconsistent, requeued, without_inconsistent}
 use Rattle.oz_semantics.specs.Statements.{stack_answer}
 use Rattle.oz_semantics.specs.Spaces.{sight}
@@ -30,8 +31,9 @@ use Rattle.settle_laws.proofs.EditLaws.{pop_view}
 use Rattle.settle_laws.proofs.SettleLaws.{nothing_fails}
 use Rattle.space_core.specs.Advances.{IsAdvanced}
 use Rattle.oz_machine.specs.declared.course.Due.{Due}
+use Rattle.oz_machine.specs.declared.course.Due.TheVariants.{Nobody}
 use Rattle.oz_machine.specs.declared.course.Course.{Course}
-use Rattle.oz_machine.specs.Courses.{asked, config_of}
+use Rattle.oz_machine.specs.Courses.{layers_after, asked, config_of}
 use Rattle.oz_acts.specs.Doings.{IsDone}
 use Rattle.oz_acts.proofs.PlaceLaws.{layer_of_name}
 
@@ -39,8 +41,12 @@ use Rattle.oz_acts.proofs.PlaceLaws.{layer_of_name}
 
 pub course_view : (statements : List Statement) (c : Course) (layers : List Layer) (due : Due) (queue : List Ident) (shown : List (List ℕ))
     → c.levels ≡ layers → c.due ≡ due → c.queue ≡ queue → c.shown ≡ shown
-    → config_of statements c ≡ record { layers = layers; queue = asked statements layers due queue; shown = shown }
-course_view statements c layers due queue shown e f g h = λ i. record { layers = e i; queue = asked statements (e i) (f i) (g i); shown = h i }
+    → config_of statements c ≡ record { layers = layers_after statements layers due; queue = asked statements layers due queue; shown = shown }
+course_view statements c layers due queue shown e f g h = λ i. record { layers = layers_after statements (e i) (f i); queue = asked statements (e i) (f i) (g i); shown = h i }
+
+-- where nobody is due, that is what the course holds
+pub settled_seen : (statements : List Statement) (c : Course) → c.due ≡ Nobody → config_of statements c ≡ record { layers = c.levels; queue = c.queue; shown = c.shown }
+settled_seen statements c nobody = course_view statements c c.levels Nobody c.queue c.shown refl nobody refl refl
 
 -- the head, and what is behind it
 pub headed : (queue : List Ident) (id : Ident) → first queue ≡ Some id → queue ≡ id ∷ drop 1 queue
@@ -100,7 +106,7 @@ ok_turn (Err fault) t u d e h = h
 pub settled_cost : (statements : List Statement) (mover : Option Ident) (cost : ℕ) (c : Configuration) → cost_of (settled statements mover cost c).0 ≡ cost
 settled_cost statements mover cost c = by (top_is_inconsistent c.layers)
   where
-    by : (b : Bool) → cost_of (if b then top_failed cost c else (Moved cost, requeued statements mover c (without_inconsistent c.layers))).0 ≡ cost
+    by : (b : Bool) → cost_of (if b then top_failed cost c else (Moved cost, requeued statements mover c (triggered statements (without_inconsistent c.layers)))).0 ≡ cost
     by true = refl
     by false = refl
 

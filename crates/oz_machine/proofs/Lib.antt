@@ -1,5 +1,7 @@
 pub mod TopLaws
+pub mod NeedLaws
 pub mod DoingLaws
+pub mod NeedLaws
 pub mod RestLaws
 pub mod TurnLaws
 pub mod SearchLaws

@@ -14,8 +14,8 @@ use Rattle.oz_semantics.specs.Sights.{Sight, can_step}
 use Rattle.oz_semantics.specs.Statements.{stack_answer}
 use Rattle.oz_semantics.specs.Readiness.{answer_ready, thread_ready}
 use Rattle.oz_semantics.specs.Spaces.{sight}
-use Rattle.oz_semantics.specs.Changes.{Change, Pushes, Spawns, Holds, changed_all}
-use Rattle.oz_semantics.specs.Answers.{Act, Passes, GoesOn, Declares, Starts, GivesValue, GivesTerm, GivesVariable, MakesProcedure, MakesName, MakesCell, Reads, Writes, Exchanges, MakesPort, Sends, Shows}
+use Rattle.oz_semantics.specs.Changes.{Change, Pushes, Spawns, Holds, AddsTrigger, changed_all}
+use Rattle.oz_semantics.specs.Answers.{Act, Passes, GoesOn, Declares, Starts, GivesValue, GivesTerm, GivesVariable, MakesProcedure, MakesName, MakesCell, Reads, Writes, Exchanges, MakesPort, Sends, Delays, Shows}
 use Rattle.oz_semantics.specs.Effects.{Makes, declared_changes, act_effect}
 use Rattle.oz_acts.specs.Doings.{IsDone, is_quiet, started_by}
 use Rattle.oz_semantics.specs.Settling.{Turned, is_among, mover_in, queue_after, runnable_in, runnable}
@@ -34,6 +34,7 @@ use Rattle.oz_machine.specs.Turns.{cost_of, HasNotEnded, IsTurn}
 use Rattle.oz_base.specs.ListLaws.{list_eq-equivalence}
 use Rattle.oz_laws.proofs.SameLaws.{ident_eq-refl}
 use Rattle.view_laws.specs.Queues.{AreNew}
+use Rattle.view_laws.specs.Needs.{NoneNeeded}
 use Rattle.oz_semantics.specs.declared.configuration.Status.{Status}
 use Rattle.view_laws.specs.Steps.{MadeOf}
 use Rattle.view_laws.proofs.NumberLaws.{step_new}
@@ -235,9 +236,9 @@ module _ (statements : List Statement) (id : Ident) (layers result : List Layer)
 -- a step that made changes
 pub quiet_turn : (statements : List Statement) (id : Ident) (layers old new : List Layer) (queue after : List Ident) (shown : List (List ℕ)) (changes : List Change) (started : Option Ident) (cost : ℕ)
     → IsHead statements id layers queue shown → old ≡ changed_all id changes (without_top id layers) → names_in id.space (news_of (layer_of layers id.space) changes) ≡ option_to_list started
-    → new ≡ in_layer id.space without_terminated old → after ≡ (queue ++ able_in statements new id) ++ able_of statements new started
+    → new ≡ in_layer id.space without_terminated old → NoneNeeded statements new → after ≡ (queue ++ able_in statements new id) ++ able_of statements new started
     → ◌≡◌ {A = Turned} (went_on statements id cost old (record { layers = old; queue = queue; shown = shown })) (Moved cost, record { layers = new; queue = after; shown = shown })
-quiet_turn statements id layers old new queue after shown changes started cost head is names left joined =
+quiet_turn statements id layers old new queue after shown changes started cost head is names left none joined =
     let result : new ≡ in_layer id.space without_terminated (changed_all id changes (without_top id layers)) = left ∙ ap (in_layer id.space without_terminated) is in
     let c : Configuration = record { layers = layers; queue = queue; shown = shown } in
     let same : queue ++ mover_in (Some id) (runnable statements new) ++ runnable_in statements new (record (layer_of layers id.space) { threads = news_of (layer_of layers id.space) changes }) ≡ after
@@ -246,15 +247,15 @@ quiet_turn statements id layers old new queue after shown changes started cost h
     ∙ ap (λ xs. queue ++ able_in statements new id ++ xs) (news_join statements id layers new queue shown changes head result started names)
     ∙ sym joined in
     ap (λ ls. went_on statements id cost ls (record c { layers = ls })) is
-    ∙ kept_changes statements c id queue changes cost head new result
+    ∙ kept_changes statements c id queue changes cost head new result none
     ∙ ap (λ q. (Moved cost, record c { layers = new; queue = q })) same
 
 -- and one where it goes on with another stack
 pub unwound_turn : (statements : List Statement) (id : Ident) (layers old new : List Layer) (queue after : List Ident) (shown : List (List ℕ)) (frames : List Frame) (cost : ℕ)
     → IsHead statements id layers queue shown → old ≡ in_layer id.space (with_frames id.number (λ rest. frames)) (without_top id layers)
-    → new ≡ in_layer id.space without_terminated old → after ≡ queue ++ able_in statements new id
+    → new ≡ in_layer id.space without_terminated old → NoneNeeded statements new → after ≡ queue ++ able_in statements new id
     → ◌≡◌ {A = Turned} (went_on statements id cost old (record { layers = old; queue = queue; shown = shown })) (Moved cost, record { layers = new; queue = after; shown = shown })
-unwound_turn statements id layers old new queue after shown frames cost head is left joined =
+unwound_turn statements id layers old new queue after shown frames cost head is left none joined =
     let result : new ≡ in_layer id.space without_terminated (in_layer id.space (with_frames id.number (λ rest. frames)) (without_top id layers)) = left ∙ ap (in_layer id.space without_terminated) is in
     let c : Configuration = record { layers = layers; queue = queue; shown = shown } in
     let there = kept_head statements id queue c head in
@@ -264,7 +265,7 @@ unwound_turn statements id layers old new queue after shown frames cost head is 
     let opened = made_open id layers new before [] made there.layer (subst (λ s. list_eq s id.space ≡ true) (sym (layer_of_name layers id.space)) (list_eq-equivalence.refl id.space)) there.opened in
     let same : queue ++ mover_in (Some id) (runnable statements new) ≡ after = ap (λ xs. queue ++ xs) (mover_joins statements new id good opened) ∙ sym joined in
     ap (λ ls. went_on statements id cost ls (record c { layers = ls })) is
-    ∙ kept_stack statements c id queue frames cost head new result
+    ∙ kept_stack statements c id queue frames cost head new result none
     ∙ ap (λ q. (Moved cost, record c { layers = new; queue = q })) same
 
 -- Quiet acts
@@ -292,6 +293,7 @@ quiet_done id l (Writes n content) old new e h = record { changes = Holds n cont
 quiet_done id l (Exchanges n x content) old new e h = absurd (false≢true e)
 quiet_done id l (MakesPort x stream) old new e h = absurd (false≢true e)
 quiet_done id l (Sends n item) old new e h = absurd (false≢true e)
+quiet_done id l (Delays procedure x) old new e h = record { changes = AddsTrigger procedure x ∷ []; effect = refl; made = h; started = refl }
 quiet_done id l (Shows x) old new e h = absurd (false≢true e)
 
 -- What is kept from turn to turn

@@ -15,11 +15,11 @@ use Rattle.oz_language.specs.declared.kernel.Statement.{Statement}
 use Rattle.oz_language.specs.declared.kernel.Statement.TheVariants as statement
 use Rattle.oz_semantics.specs.Names.{is_top}
 use Rattle.oz_semantics.specs.Store.{View, value_of}
-use Rattle.oz_semantics.specs.Values.{integer_in, constant_in, fields_of, cell_in, port_in}
+use Rattle.oz_semantics.specs.Values.{integer_in, constant_in, fields_of, cell_in, port_in, is_procedure}
 use Rattle.oz_semantics.specs.Entailment.{Equality, Entailed, Contradicted, Undecided, equality}
 use Rattle.oz_semantics.specs.Matching.{Match, Matches, Differs, MatchWaits, matched}
 use Rattle.oz_semantics.specs.Sights.{Sight, Readiness, can_step}
-use Rattle.oz_semantics.specs.Answers.{Act, Answer, Acts, RaisesKind, RaisesTerm, Rests, Reads, Writes, Exchanges, Sends, Shows, argument, given, of_kind}
+use Rattle.oz_semantics.specs.Answers.{Act, Answer, Acts, RaisesKind, RaisesTerm, Rests, Reads, Writes, Exchanges, Sends, Delays, Shows, argument, given, of_kind}
 use Rattle.oz_semantics.specs.Readiness.{answer_ready}
 use Rattle.oz_semantics.specs.Builtins.{arguments_of, gives_number, with_integers, of_equality, label_in, arity_in, gives_field, field_at, own_act, on_cell, on_port, of_operation, answer, call_answer}
 use Rattle.oz_semantics.specs.Statements.{procedure_called, value_called, called, literal_branch, constant_branch, branch, clause, statement_answer, numbered_answer, code_answer, stack_answer}
@@ -113,6 +113,7 @@ answer_stays s builtin.Exchange x = cell_stays s (x 0) (λ n. Exchanges n (x 1) 
 answer_stays s builtin.NewPort x = tt
 answer_stays s builtin.Send x = port_stays s (x 0) (λ n. Sends n (x 1))
 answer_stays s builtin.Wait x = given_stays (x 0) (value_of s.view (x 0)) _ (λ v. tt)
+answer_stays s builtin.ByNeed x = given_stays (x 0) (value_of s.view (x 0)) _ (λ v. if_stays (is_procedure v) (Acts (Delays (x 0) (x 1))) (RaisesKind raise.BadKind) tt tt)
 answer_stays s builtin.Show x = if_stays (is_top s.space) (Acts (Shows (x 0))) (RaisesKind raise.GlobalIo) tt tt
 
 call_stays : (s : Sight) (b : Builtin) (xs : List Ident) → Stays (call_answer s b xs)

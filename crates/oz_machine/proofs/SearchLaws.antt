@@ -1,9 +1,10 @@
 -- What follows an edit by the search, and the opening.
-use Rattle.std.proofs.Common.{◌≡◌, ℕ, List, [], ap, subst, sym, ◌∙◌, None, Result, Ok, Err}
+use Rattle.std.proofs.Common.{◌≡◌, ℕ, List, [], ap, refl, subst, sym, ◌∙◌, None, Result, Ok, Err}
 use Rattle.std.specs.Prelude.{OnOk, OnErr}
 use Rattle.oz_base.specs.declared.names.Ident.{Ident}
 use Rattle.oz_language.specs.declared.kernel.Statement.{Statement}
 use Rattle.oz_language.specs.declared.kernel.Kernel.{Kernel}
+use Rattle.oz_semantics.specs.Triggers.{triggered}
 use Rattle.oz_semantics.specs.Settling.{inconsistent_spaces, runnable, queue_after}
 use Rattle.oz_semantics.specs.Runs.{opening}
 use Rattle.oz_semantics.specs.Edits.{committed, created}
@@ -11,10 +12,11 @@ use Rattle.oz_semantics.specs.Search.{followed, with_root, chosen_in}
 use Rattle.oz_semantics.specs.declared.configuration.Layer.{Layer}
 use Rattle.oz_semantics.specs.declared.configuration.Configuration.{Configuration}
 use Rattle.turn_laws.specs.Kept.{IsKept}
-use Rattle.oz_machine.specs.declared.course.Due.{Due}
 use Rattle.oz_machine.specs.declared.course.Due.TheVariants.{Nobody}
 use Rattle.oz_machine.specs.declared.course.Course.{Course}
-use Rattle.oz_machine.specs.Courses.{asked, config_of}
+use Rattle.oz_machine.specs.Courses.{config_of}
+use Rattle.oz_machine.proofs.DoingLaws.{settled_seen}
+use Rattle.view_laws.proofs.NeedLaws.{nothing_fires}
 use Rattle.settle_laws.specs.Turns.{opening_layers}
 use Rattle.settle_laws.proofs.SoundLaws.{followed_left, nothing_sound}
 use Rattle.settle_laws.proofs.TreeSteps.{opening_left}
@@ -28,23 +30,20 @@ made_same layers ls queue ids shown texts e f g =
 
 -- the edit left nothing inconsistent, and the queue follows
 pub follows_edit : (statements : List Statement) (before layers : List Layer) (queue : List Ident) (shown : List (List ℕ)) (new : Configuration) → inconsistent_spaces layers ≡ []
-    → new ≡ made layers (queue_after (runnable statements layers) None queue) shown → new ≡ followed statements (made before queue shown) layers
+    → new ≡ made (triggered statements layers) (queue_after (runnable statements (triggered statements layers)) None queue) shown → new ≡ followed statements (made before queue shown) layers
 follows_edit statements before layers queue shown new sound e = e ∙ sym (followed_left statements (made before queue shown) layers (nothing_sound layers sound))
 
 -- the queue of the opening
 pub opens : (k : Kernel) (layers : List Layer) (before : List Ident) (none : List (List ℕ)) (new : Configuration) → layers ≡ opening_layers k → before ≡ [] → none ≡ []
-    → new ≡ made layers (queue_after (runnable k.statements layers) None before) none → new ≡ opening k
+    → new ≡ made (triggered k.statements layers) (queue_after (runnable k.statements (triggered k.statements layers)) None before) none → new ≡ opening k
 opens k layers before none new opened no_queue no_text is =
-    let follows : queue_after (runnable k.statements layers) None before ≡ queue_after (runnable k.statements (opening_layers k)) None [] =
-    ap (λ (ls : List Layer). queue_after (runnable k.statements ls) None before) opened
+    let stay : triggered k.statements layers ≡ opening_layers k = ap (triggered k.statements) opened ∙ nothing_fires k.statements (opening_layers k) refl in
+    let follows : queue_after (runnable k.statements (triggered k.statements layers)) None before ≡ queue_after (runnable k.statements (opening_layers k)) None [] =
+    ap (λ (ls : List Layer). queue_after (runnable k.statements ls) None before) stay
     ∙ ap (queue_after (runnable k.statements (opening_layers k)) None) no_queue in
     is
-    ∙ made_same layers (opening_layers k) (queue_after (runnable k.statements layers) None before) (queue_after (runnable k.statements (opening_layers k)) None []) none [] opened follows no_text
+    ∙ made_same (triggered k.statements layers) (opening_layers k) (queue_after (runnable k.statements (triggered k.statements layers)) None before) (queue_after (runnable k.statements (opening_layers k)) None []) none [] stay follows no_text
     ∙ sym (opening_left k)
-
--- where nobody is due, the queue is as it is
-pub settled_seen : (statements : List Statement) (c : Course) → c.due ≡ Nobody → config_of statements c ≡ made c.levels c.queue c.shown
-settled_seen statements c nobody = ap (λ (d : Due). made c.levels (asked statements c.levels d c.queue) c.shown) nobody
 
 -- the edits, after those who were due were asked
 pub chosen_by : (statements : List Statement) (space : List ℕ) (i : ℕ) (old settled : Course) (left : List Layer) (new : Configuration) → config_of statements settled ≡ config_of statements old → settled.due ≡ Nobody

@@ -9,7 +9,7 @@ use Rattle.oz_base.specs.declared.names.Ident.{Ident}
 use Rattle.oz_language.specs.declared.kernel.Statement.{Statement}
 use Rattle.oz_semantics.specs.Names.{is_properly_below, named}
 use Rattle.oz_semantics.specs.Store.{is_consistent}
-use Rattle.oz_semantics.specs.Answers.{Act, Passes, GoesOn, Declares, Starts, GivesValue, GivesTerm, GivesVariable, MakesProcedure, MakesName, MakesCell, Reads, Writes, Exchanges, MakesPort, Sends, Shows}
+use Rattle.oz_semantics.specs.Answers.{Act, Passes, GoesOn, Declares, Starts, GivesValue, GivesTerm, GivesVariable, MakesProcedure, MakesName, MakesCell, Reads, Writes, Exchanges, MakesPort, Sends, Delays, Shows}
 use Rattle.oz_semantics.specs.Configurations.{is_of, is_numbered, is_open, layer_at, layer_of, new_layer, view, in_layer, with_frames, without_terminated, telling}
 use Rattle.oz_semantics.specs.Changes.{Change, changed, changed_all, done}
 use Rattle.oz_semantics.specs.Effects.{Tells, act_effect}
@@ -25,6 +25,7 @@ use Rattle.view_laws.proofs.Members.{decide, not_both, In-right}
 use Rattle.view_laws.proofs.ListLaws.{in_among, filter_none, found_in, map_in, in_filter}
 use Rattle.settle_laws.specs.Settles.{Settles}
 use Rattle.space_core.specs.Telling.{has_below}
+use Rattle.view_laws.specs.Needs.{NoneNeeded}
 use Rattle.turn_laws.specs.Telling.{IsAlone, others_of, staying}
 use Rattle.view_laws.proofs.QueueLaws.{can_from}
 use Rattle.view_laws.proofs.ChangeLaws.{edit_of, changed_by, edit_keeps}
@@ -166,9 +167,9 @@ single_in id layers same e h = ap (λ (ls : List Layer). list_all (is_numbered i
 
 pub told_turn : (statements : List Statement) (id : Ident) (layers old new : List Layer) (queue after : List Ident) (shown : List (List ℕ)) (ts : List Tell) (changes : List Change) (cost : ℕ)
     → IsHead statements id layers queue shown → IsAlone layers id.space → is_consistent (view layers id.space ++ ts) ≡ true → old ≡ done id ts changes (without_top id layers)
-    → new ≡ in_layer id.space without_terminated old → list_all (is_numbered id.number) (layer_of new id.space).threads ≡ true → after ≡ queue ++ able_in statements new id
+    → new ≡ in_layer id.space without_terminated old → NoneNeeded statements new → list_all (is_numbered id.number) (layer_of new id.space).threads ≡ true → after ≡ queue ++ able_in statements new id
     → ◌≡◌ {A = Turned} (went_on statements id cost old (record { layers = old; queue = queue; shown = shown })) (Moved cost, record { layers = new; queue = after; shown = shown })
-told_turn statements id layers old new queue after shown ts changes cost head alone fits is left single joined =
+told_turn statements id layers old new queue after shown ts changes cost head alone fits is left none single joined =
     let result : new ≡ in_layer id.space without_terminated (done id ts changes (without_top id layers)) = left ∙ ap (in_layer id.space without_terminated) is in
     let c : Configuration = record { layers = layers; queue = queue; shown = shown } in
     let head_there = kept_head statements id queue c head in
@@ -182,7 +183,7 @@ told_turn statements id layers old new queue after shown ts changes cost head al
     ∙ ap (λ xs. queue ++ xs) (mover_joins statements new id good opened)
     ∙ sym joined in
     ap (λ ls. went_on statements id cost ls (record c { layers = ls })) is
-    ∙ proved.tell_queue statements c id queue ts changes cost head alone fits new result
+    ∙ proved.tell_queue statements c id queue ts changes cost head alone fits new result none
     ∙ ap (λ q. (Moved cost, record c { layers = new; queue = q })) same
 
 -- Acts that tell
@@ -211,4 +212,5 @@ told_done id l (Writes n content) old new e h = absurd (false≢true (sym e))
 told_done id l (Exchanges n x content) old new e h = record { tells = _; changes = _; effect = refl; fits = h.0; settles = h.1 }
 told_done id l (MakesPort x stream) old new e h = record { tells = _; changes = _; effect = refl; fits = h.0; settles = h.1 }
 told_done id l (Sends n item) old new e h = record { tells = _; changes = _; effect = refl; fits = h.0; settles = h.1 }
+told_done id l (Delays procedure x) old new e h = absurd (false≢true (sym e))
 told_done id l (Shows x) old new e h = absurd h

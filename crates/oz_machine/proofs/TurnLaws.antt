@@ -17,20 +17,19 @@ use Rattle.builtins.specs.declared.answer.Answer.TheVariants.{Acts, RaisesKind, 
 use Rattle.oz_base.specs.declared.names.Ident.{Ident}
 use Rattle.oz_language.specs.declared.kernel.Kernel.{Kernel}
 use Rattle.oz_language.specs.declared.kernel.Statement.{Statement}
-use Rattle.oz_semantics.specs.Schedule.{turn_of, turn}
+use Rattle.oz_semantics.specs.Schedule.{turn}
 use Rattle.oz_semantics.specs.Steps.{stepped}
 use Rattle.oz_semantics.specs.declared.outcome.Stepped.TheVariants.{Quiescent}
 use Rattle.settle_laws.proofs.TurnLaws.{cost_law}
-use Rattle.oz_machine.specs.declared.course.Due.{Due}
 use Rattle.oz_machine.specs.declared.course.Due.TheVariants.{Nobody}
 use Rattle.oz_machine.specs.declared.course.Course.{Course}
-use Rattle.oz_machine.specs.Courses.{asked, config_of, stepping}
+use Rattle.oz_machine.specs.Courses.{config_of, stepping}
 use Rattle.oz_semantics.specs.Configurations.{frames_in, layer_at, new_layer, stack_of, thread_at}
 use Rattle.oz_semantics.specs.Spaces.{sight}
 use Rattle.oz_semantics.specs.declared.configuration.Layer.{Layer}
 use Rattle.oz_machine.specs.Quiet.{able_in, IsHeadAnswer}
 use Rattle.oz_machine.specs.Turns.{cost_of, IsTurn}
-use Rattle.oz_machine.proofs.DoingLaws.{headed}
+use Rattle.oz_machine.proofs.DoingLaws.{course_view, headed}
 use Rattle.oz_machine.proofs.RestLaws.{rest_stays}
 
 -- a thread without statements rests
@@ -49,18 +48,22 @@ ok_answer (Err fault) a b e h = h
 
 -- The head of the queue, where nobody is due
 
-pub queue_is : (statements : List Statement) (now : Course) (id : Ident) → now.due ≡ Nobody → first now.queue ≡ Some id → asked statements now.levels now.due now.queue ≡ id ∷ drop 1 now.queue
-queue_is statements now id nobody head = ap (λ (d : Due). asked statements now.levels d now.queue) nobody ∙ headed now.queue id head
+pub head_is : (statements : List Statement) (now : Course) (id : Ident) → now.due ≡ Nobody → first now.queue ≡ Some id
+    → config_of statements now ≡ record { layers = now.levels; queue = id ∷ drop 1 now.queue; shown = now.shown }
+head_is statements now id nobody head = course_view statements now now.levels Nobody (id ∷ drop 1 now.queue) now.shown refl nobody (headed now.queue id head) refl
 
 pub turn_is : (k : Kernel) (now : Course) (id : Ident) → now.due ≡ Nobody → first now.queue ≡ Some id → turn k (config_of k.statements now) ≡ stepped k id (stepping now)
-turn_is k now id nobody head = ap (turn_of k (config_of k.statements now)) (queue_is k.statements now id nobody head)
+turn_is k now id nobody head = ap (turn k) (head_is k.statements now id nobody head)
 
 pub turn_none : (k : Kernel) (now : Course) → now.due ≡ Nobody → first now.queue ≡ None → ◌≡◌ {A = Turned} (turn k (config_of k.statements now)) (Quiescent, config_of k.statements now)
-turn_none k now nobody none = ap (turn_of k (config_of k.statements now)) (ap (λ (d : Due). asked k.statements now.levels d now.queue) nobody ∙ empty now.queue none)
+turn_none k now nobody none = ap (turn k) still ∙ ap (λ (d : Configuration). (Quiescent, d)) (sym still)
   where
     empty : (queue : List Ident) → first queue ≡ None → queue ≡ []
     empty [] e = refl
     empty (x ∷ xs) e = absurd (cc)
+
+    still : config_of k.statements now ≡ record { layers = now.levels; queue = []; shown = now.shown }
+    still = course_view k.statements now now.levels Nobody [] now.shown refl nobody (empty now.queue none) refl
 
 pub dear_turn : (k : Kernel) (now : Course) (id : Ident) (fuel : ℕ) → now.due ≡ Nobody → first now.queue ≡ Some id → fuel ≡ 0 → fuel < cost_of (turn k (config_of k.statements now)).0
 dear_turn k now id fuel nobody head zero =

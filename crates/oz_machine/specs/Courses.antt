@@ -3,6 +3,7 @@ use Rattle.std.specs.Prelude.{◌≡◌, Bool, true, List, ◌++◌, drop}
 use Rattle.oz_base.specs.declared.names.Ident.{Ident}
 use Rattle.oz_language.specs.declared.kernel.Kernel.{Kernel}
 use Rattle.oz_language.specs.declared.kernel.Statement.{Statement}
+use Rattle.oz_semantics.specs.Triggers.{triggered}
 use Rattle.oz_semantics.specs.Settling.{runnable, queue_after}
 use Rattle.oz_semantics.specs.declared.configuration.Layer.{Layer}
 use Rattle.oz_semantics.specs.declared.configuration.Configuration.{Configuration}
@@ -12,15 +13,21 @@ use Rattle.oz_machine.specs.declared.course.Due.{Due}
 use Rattle.oz_machine.specs.declared.course.Due.TheVariants.{Nobody, Mover, Everybody}
 use Rattle.oz_machine.specs.declared.course.Course.{Course}
 
--- the queue that is left once those who are due were asked
+-- the layers that are left once those who are due were asked: where that is everybody, by-need computations that are needed begin before
+abbrev pub layers_after : List Statement → List Layer → Due → List Layer
+layers_after statements layers Nobody = layers
+layers_after statements layers (Mover id started) = layers
+layers_after statements layers (Everybody mover) = triggered statements layers
+
+-- the queue that is left then
 abbrev pub asked : List Statement → List Layer → Due → List Ident → List Ident
 asked statements layers Nobody queue = queue
 asked statements layers (Mover id started) queue = (queue ++ able_in statements layers id) ++ able_of statements layers started
-asked statements layers (Everybody mover) queue = queue_after (runnable statements layers) mover queue
+asked statements layers (Everybody mover) queue = queue_after (runnable statements (triggered statements layers)) mover queue
 
 -- the configuration
 abbrev pub config_of : List Statement → Course → Configuration
-config_of statements c = record { layers = c.levels; queue = asked statements c.levels c.due c.queue; shown = c.shown }
+config_of statements c = record { layers = layers_after statements c.levels c.due; queue = asked statements c.levels c.due c.queue; shown = c.shown }
 
 -- the configuration in which the thread at the head steps, where nobody is due: it is off the queue
 abbrev pub stepping : Course → Configuration

@@ -13,7 +13,7 @@ ghost use Rattle.oz_machine.specs.Courses.{config_of, stepping};
 ghost use Rattle.oz_machine.specs.Quiet.{IsHead, names_in, news_of};
 
 use crate::course::Course;
-use crate::following::leave_alone;
+use crate::following::{follow, leave_alone};
 use oz_base::Ident;
 use oz_semantics::Stepped;
 
@@ -34,6 +34,10 @@ pub fn go_on_quietly(
     ensures cost { result ≡ Moved cost }
 {
     course.levels.drop_terminated(&mover.space);
+    if course.levels.has_triggers() {
+        course.levels.consistent();
+        return follow(cost, course);
+    }
     leave_alone(course, started);
     Stepped::Moved { cost }
 }
@@ -48,6 +52,10 @@ pub fn go_on_unwound(mover: &Ident, course: &mut Course) -> Stepped
     ensures cost { result ≡ Moved 1 }
 {
     course.levels.drop_terminated(&mover.space);
+    if course.levels.has_triggers() {
+        course.levels.consistent();
+        return follow(1, course);
+    }
     leave_alone(course, None);
     Stepped::Moved { cost: 1 }
 }

@@ -36,7 +36,8 @@ fn ended(
     fuel: u64,
     left: u64,
 ) -> Result<Ran, AllocError>
-    requires { left ≤ fuel }
+    requires within { left ≤ fuel }
+    requires due { course.now.due ≡ Nobody }
     ensures { IfOk result (IsRun (record { kernel = kernel.now; config = config_of kernel.now.statements course.now }) space.now fuel (Ended (config_of kernel.now.statements course.now) left)) }
 {
     let statements = kernel.statements.as_slice();
@@ -53,7 +54,7 @@ fn goes_on(
     kept: bool,
     space: &SpaceName,
 ) -> Result<bool, AllocError>
-    ensures { course.now.due ≡ Nobody → Keeps statements.now kept course.now → IfOk result (λ goes. goes ≡ goes_on statements.now course.now.levels space.now) }
+    ensures { course.now.due ≡ Nobody → Keeps statements.now kept course.now → IfOk result (λ goes. goes ≡ goes_on statements.now (config_of statements.now course.now).layers space.now) }
 {
     if kept {
         return Ok(course.queue.any_below(space));
@@ -89,7 +90,10 @@ fn run_turns(
                 left -= cost;
                 settle(alloc, statements, course, answered)?;
             }
-            Stepped::Quiescent => return ended(alloc, kernel, course, space, fuel, left),
+            Stepped::Quiescent => {
+                settle(alloc, statements, course, answered)?;
+                return ended(alloc, kernel, course, space, fuel, left);
+            }
             Stepped::TopEnded { exception, cost } => {
                 let steps = fuel - (left - cost);
                 return Ok(Ran::TopEnded { exception, steps });

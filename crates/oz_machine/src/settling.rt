@@ -6,7 +6,7 @@ ghost use Rattle.oz_semantics.specs.Spaces.{sight};
 ghost use Rattle.oz_semantics.specs.Statements.{stack_answer};
 ghost use Rattle.builtins.specs.Answers.{IsAnswer};
 ghost use Rattle.oz_machine.specs.declared.course.Due.TheVariants.{Nobody};
-ghost use Rattle.oz_machine.specs.Courses.{asked, config_of};
+ghost use Rattle.oz_machine.specs.Courses.{asked, config_of, layers_after};
 ghost use Rattle.oz_machine.specs.Quiet.{top_steps, able_in, IsHeadAnswer};
 
 use crate::course::{Course, Due};
@@ -193,7 +193,8 @@ fn join_mover(
     join_able(alloc, statements, levels, id, queue)
 }
 
-/// Those who are due join the queue, as far as they can step. The answer of the head is left in `answered`, where it was made.
+/// Those who are due join the queue, as far as they can step, where all that is needed has begun. The answer of the head is left in
+/// `answered`, where it was made.
 fn ask(
     alloc: Global,
     statements: &[Statement],
@@ -202,7 +203,8 @@ fn ask(
     queue: &mut Queue,
     answered: &mut Option<Answer>,
 ) -> Result<(), AllocError>
-    requires { answered.old ≡ None }
+    requires answered { answered.old ≡ None }
+    requires begun { layers_after statements.now levels.now due.now ≡ levels.now }
     ensures ok { OnOk result (queue.new ≡ asked statements.now levels.now due.now queue.old) }
     ensures answer { OnOk result (IsHeadAnswer statements.now levels.now queue.new answered.new) }
     ensures err { OnErr result (queue.new ≡ queue.old) }
@@ -221,7 +223,23 @@ fn ask(
     }
 }
 
-/// Asks those who are due. The answer of the head is left in `answered`, where it was made, and else nothing is. What contracts see of
+/// By-need computations that are needed begin, where everybody is due. What contracts see of the course stays the same, also where it
+/// refuses.
+fn begin_needed(
+    alloc: Global,
+    statements: &[Statement],
+    course: &mut Course,
+) -> Result<(), AllocError>
+    ensures same { config_of statements.now course.new ≡ config_of statements.now course.old }
+    ensures begun { OnOk result (layers_after statements.now course.new.levels course.new.due ≡ course.new.levels) }
+{
+    if let Due::Everybody { .. } = course.due {
+        by_need::fire(alloc, statements, &mut course.levels)?;
+    }
+    Ok(())
+}
+
+/// By-need computations that are needed begin, and those who are due are asked. The answer of the head is left in `answered`, where it was made, and else nothing is. What contracts see of
 /// the course stays the same, also where it refuses.
 pub fn settle(
     alloc: Global,
@@ -234,6 +252,7 @@ pub fn settle(
     ensures answer { OnOk result (IsHeadAnswer statements.now course.new.levels course.new.queue answered.new) }
 {
     *answered = None;
+    begin_needed(alloc, statements, course)?;
     ask(
         alloc,
         statements,

@@ -83,7 +83,7 @@ pub fn state_text(
     state: &State,
     fuel: u64,
 ) -> Result<Option<Text>, AllocError>
-    ensures { (c : Configuration) → c.layers ≡ levels.now → IfOk result (PrintsWithin (state_text words.now c space.now state.now) fuel) }
+    ensures { (c : Configuration) → view c.layers space.now ≡ view levels.now space.now → IfOk result (PrintsWithin (state_text words.now c space.now state.now) fuel) }
 {
     let Some(place) = levels.place(space) else {
         return Err(AllocError);

@@ -48,6 +48,9 @@ pub fn go_on_told(mover: &Ident, cost: u64, course: &mut Course) -> Stepped
 {
     course.levels.drop_terminated(&mover.space);
     course.levels.consistent();
+    if course.levels.has_triggers() {
+        return follow(cost, course);
+    }
     if !is_single(&course.levels, mover) {
         return follow(cost, course);
     }

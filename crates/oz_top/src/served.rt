@@ -1,22 +1,21 @@
 //! Tokens with which a program cannot run yet.
-ghost use Rattle.std.specs.Prelude.{◌≡◌, ◌&&◌, ◌||◌, List, [], IfOk, codes};
+ghost use Rattle.std.specs.Prelude.{◌≡◌, List, IfOk};
 ghost use Rattle.std.specs.List.{list_any};
 ghost use Rattle.oz_base.specs.Lists.{list_eq};
 ghost use Rattle.oz_language.specs.Tokens.{Lexes, Whole};
 ghost use Rattle.oz_language.specs.Wording.{bytes_of};
-ghost use Rattle.oz_replies.specs.Served.{is_unserved, is_lazy, unserved_in};
+ghost use Rattle.oz_replies.specs.Served.{is_unserved, unserved_in};
 ghost use Rattle.oz_language.specs.declared.token.Lexeme.{Lexeme};
 
 use oz_language::{Lexeme, Sort};
-use oz_lex::{lexemes, one_reading, unquoted};
+use oz_lex::{lexemes, one_reading};
 use std::alloc::{AllocError, Global};
 
 /// Symbols.
 static TOKENS: [&[u8]; 8] = [b"::", b":::", b"=:", b"\\=:", b"<:", b"=<:", b">:", b">=:"];
 
 /// Variables, whether the text binds them itself or not.
-static NAMES: [&[u8]; 9] = [
-    b"ByNeed",
+static NAMES: [&[u8]; 8] = [
     b"NewSpace",
     b"Ask",
     b"Choose",
@@ -50,45 +49,6 @@ fn is_unserved(bytes: &[u8], sort: Sort) -> bool
     }
 }
 
-/// Whether a token is the atom `lazy`, in quotes or not.
-fn is_lazy(alloc: Global, bytes: &[u8], sort: Sort) -> Result<bool, AllocError>
-    ensures { IfOk result (λ lazy. lazy ≡ is_lazy bytes.now sort) }
-{
-    match sort {
-        Sort::Word => Ok(same_bytes(bytes, b"lazy")),
-        Sort::Quoted => {
-            let word = unquoted(alloc, bytes)?;
-            Ok(same_bytes(word.as_slice(), b"lazy"))
-        }
-        _ => Ok(false),
-    }
-}
-
-/// Whether a token is `lazy` directly behind `fun`.
-fn makes_lazy(alloc: Global, before: &[u8], bytes: &[u8], sort: Sort) -> Result<bool, AllocError>
-    ensures { IfOk result (λ lazy. lazy ≡ (list_eq before.now (codes "fun") && is_lazy bytes.now sort)) }
-{
-    if same_bytes(before, b"fun") {
-        return is_lazy(alloc, bytes, sort);
-    }
-    Ok(false)
-}
-
-/// Whether a program may not have a token behind another.
-fn is_unserved_behind(
-    alloc: Global,
-    before: &[u8],
-    bytes: &[u8],
-    sort: Sort,
-) -> Result<bool, AllocError>
-    ensures { IfOk result (λ unserved. unserved ≡ (is_unserved bytes.now sort || (list_eq before.now (codes "fun") && is_lazy bytes.now sort))) }
-{
-    if is_unserved(bytes, sort) {
-        return Ok(true);
-    }
-    makes_lazy(alloc, before, bytes, sort)
-}
-
 /// The bytes of a token, as far as the text has them.
 fn bytes_of(text: &[u8], lexeme: Lexeme) -> &[u8]
     ensures { result.now ≡ bytes_of text.now lexeme }
@@ -98,18 +58,15 @@ fn bytes_of(text: &[u8], lexeme: Lexeme) -> &[u8]
 }
 
 /// The place of the first of these tokens that a program may not have, if there is one.
-fn unserved_in(alloc: Global, text: &[u8], lexemes: &[Lexeme]) -> Result<Option<usize>, AllocError>
-    ensures { IfOk result (λ at. at ≡ unserved_in text.now lexemes.now) }
+fn unserved_in(text: &[u8], lexemes: &[Lexeme]) -> Option<usize>
+    ensures { result ≡ unserved_in text.now lexemes.now }
 {
-    let mut before: &[u8] = &[];
     'tokens: for lexeme in lexemes {
-        let bytes = bytes_of(text, *lexeme);
-        if is_unserved_behind(alloc, before, bytes, lexeme.sort)? {
-            return Ok(Some(lexeme.at));
+        if is_unserved(bytes_of(text, *lexeme), lexeme.sort) {
+            return Some(lexeme.at);
         }
-        before = bytes;
     }
-    Ok(None)
+    None
 }
 
 /// The place of the first token of a text that a program may not have, if there is one. It refuses where there is no memory.
@@ -118,7 +75,7 @@ pub fn first_unserved(alloc: Global, text: &[u8]) -> Result<Option<usize>, Alloc
 {
     one_reading();
     match lexemes(alloc, text) {
-        Ok(found) => unserved_in(alloc, text, found.as_slice()),
+        Ok(found) => Ok(unserved_in(text, found.as_slice())),
         // A text without a reading has no program.
         Err(_) => Err(AllocError),
     }

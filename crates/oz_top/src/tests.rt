@@ -164,9 +164,9 @@ fn writes_kernels_and_what_is_not_served(rt: HostRuntime) -> Result<(), Fail> {
         (&["all"], b"local FD in skip end", "refused syntax 6\n", 3),
         (
             &["run"],
-            b"F in F=fun lazy {$} 1 end",
-            "refused syntax 11\n",
-            3,
+            b"F in F=fun lazy {$} 1 end {Show {F}+1}",
+            "2\n",
+            0,
         ),
     ];
     check(&rt, rt.alloc(), &rows)

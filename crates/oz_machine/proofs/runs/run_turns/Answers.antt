@@ -31,7 +31,7 @@ returns-in_default-clause-run c =
     let here = config_of k.statements c.turns.course in
     let there = config_of k.statements c.turn.new.course in
     let goes : goes_on k.statements here.layers c.args.space.now ≡ true
-    = ap (λ (st : List Statement). goes_on st here.layers c.args.space.now) (sym c.as_slice-statements.ensures) ∙ sym (c.in_ok-goes_on.ensures c.turns.invariant.due (subst (λ st. Keeps st c.turns.kept c.turns.course) (sym c.as_slice-statements.ensures) c.turns.invariant.kept)) ∙ c.if-branch.true in
+    = ap (λ (st : List Statement). goes_on st (config_of st c.turns.course).layers c.args.space.now) (sym c.as_slice-statements.ensures) ∙ sym (c.in_ok-goes_on.ensures c.turns.invariant.due (subst (λ st. Keeps st c.turns.kept c.turns.course) (sym c.as_slice-statements.ensures) c.turns.invariant.kept)) ∙ c.if-branch.true in
     let over = not_made (turn k here) c.turns.left here there c.in_ok-stepped.field-0 c.in_ok-stepped.ensures.turn c.in_default.not-Some in
     sym c.turns.invariant.same ∙ run_out k c.args.space.now c.turns.left here there goes over.0 over.1
 
@@ -48,7 +48,7 @@ turns-preserved c =
     let there = config_of k.statements c.turn.new.course in
     let next = c.settle-in-Moved.new.course in
     let goes : goes_on k.statements here.layers c.args.space.now ≡ true
-    = ap (λ (st : List Statement). goes_on st here.layers c.args.space.now) (sym c.as_slice-statements.ensures) ∙ sym (c.in_ok-goes_on.ensures c.turns.invariant.due (subst (λ st. Keeps st c.turns.kept c.turns.course) (sym c.as_slice-statements.ensures) c.turns.invariant.kept)) ∙ c.if-branch.true in
+    = ap (λ (st : List Statement). goes_on st (config_of st c.turns.course).layers c.args.space.now) (sym c.as_slice-statements.ensures) ∙ sym (c.in_ok-goes_on.ensures c.turns.invariant.due (subst (λ st. Keeps st c.turns.kept c.turns.course) (sym c.as_slice-statements.ensures) c.turns.invariant.kept)) ∙ c.if-branch.true in
     let turned = was_made (turn k here) c.turns.left here there c.in_ok-stepped.field-0 c.in-Some.stepped c.in_ok-stepped.ensures.turn c.in-Some.is in
     let made = made_within c.turns.left c.in_ok-stepped.field-0 c.in-Some.stepped c.in_ok-stepped.ensures.cost c.in-Some.is in
     let cost = moved_within c.turns.left c.in-Moved.cost c.in-Some.stepped made c.in-Moved.is in
@@ -83,7 +83,7 @@ returns-in_err-settle-in-Moved-clause-err c =
     let there = config_of k.statements c.turn.new.course in
     let next = c.settle-in-Moved.new.course in
     let goes : goes_on k.statements here.layers c.args.space.now ≡ true
-    = ap (λ (st : List Statement). goes_on st here.layers c.args.space.now) (sym c.as_slice-statements.ensures) ∙ sym (c.in_ok-goes_on.ensures c.turns.invariant.due (subst (λ st. Keeps st c.turns.kept c.turns.course) (sym c.as_slice-statements.ensures) c.turns.invariant.kept)) ∙ c.if-branch.true in
+    = ap (λ (st : List Statement). goes_on st (config_of st c.turns.course).layers c.args.space.now) (sym c.as_slice-statements.ensures) ∙ sym (c.in_ok-goes_on.ensures c.turns.invariant.due (subst (λ st. Keeps st c.turns.kept c.turns.course) (sym c.as_slice-statements.ensures) c.turns.invariant.kept)) ∙ c.if-branch.true in
     let turned = was_made (turn k here) c.turns.left here there c.in_ok-stepped.field-0 c.in-Some.stepped c.in_ok-stepped.ensures.turn c.in-Some.is in
     let made = made_within c.turns.left c.in_ok-stepped.field-0 c.in-Some.stepped c.in_ok-stepped.ensures.cost c.in-Some.is in
     let cost = moved_within c.turns.left c.in-Moved.cost c.in-Some.stepped made c.in-Moved.is in
@@ -122,7 +122,7 @@ returns-in-Quiescent-clause-run c =
     let here = config_of k.statements c.turns.course in
     let there = config_of k.statements c.turn.new.course in
     let goes : goes_on k.statements here.layers c.args.space.now ≡ true
-    = ap (λ (st : List Statement). goes_on st here.layers c.args.space.now) (sym c.as_slice-statements.ensures) ∙ sym (c.in_ok-goes_on.ensures c.turns.invariant.due (subst (λ st. Keeps st c.turns.kept c.turns.course) (sym c.as_slice-statements.ensures) c.turns.invariant.kept)) ∙ c.if-branch.true in
+    = ap (λ (st : List Statement). goes_on st (config_of st c.turns.course).layers c.args.space.now) (sym c.as_slice-statements.ensures) ∙ sym (c.in_ok-goes_on.ensures c.turns.invariant.due (subst (λ st. Keeps st c.turns.kept c.turns.course) (sym c.as_slice-statements.ensures) c.turns.invariant.kept)) ∙ c.if-branch.true in
     let turned = was_made (turn k here) c.turns.left here there c.in_ok-stepped.field-0 c.in-Some.stepped c.in_ok-stepped.ensures.turn c.in-Some.is in
     let quiet = run_quiet k c.args.space.now c.turns.left here there goes (turned ∙ ap (λ s. (s, there)) c.in-Quiescent.is) in
     ok_run c.ended.result k there c.args.space.now c.args.fuel _ _ (sym c.turns.invariant.same ∙ quiet) c.ended.ensures
@@ -136,7 +136,7 @@ returns-in-TopEnded-clause-run c =
     let here = config_of k.statements c.turns.course in
     let there = config_of k.statements c.turn.new.course in
     let goes : goes_on k.statements here.layers c.args.space.now ≡ true
-    = ap (λ (st : List Statement). goes_on st here.layers c.args.space.now) (sym c.as_slice-statements.ensures) ∙ sym (c.in_ok-goes_on.ensures c.turns.invariant.due (subst (λ st. Keeps st c.turns.kept c.turns.course) (sym c.as_slice-statements.ensures) c.turns.invariant.kept)) ∙ c.if-branch.true in
+    = ap (λ (st : List Statement). goes_on st (config_of st c.turns.course).layers c.args.space.now) (sym c.as_slice-statements.ensures) ∙ sym (c.in_ok-goes_on.ensures c.turns.invariant.due (subst (λ st. Keeps st c.turns.kept c.turns.course) (sym c.as_slice-statements.ensures) c.turns.invariant.kept)) ∙ c.if-branch.true in
     let turned = was_made (turn k here) c.turns.left here there c.in_ok-stepped.field-0 c.in-Some.stepped c.in_ok-stepped.ensures.turn c.in-Some.is in
     let made = made_within c.turns.left c.in_ok-stepped.field-0 c.in-Some.stepped c.in_ok-stepped.ensures.cost c.in-Some.is in
     let cost = ended_within c.turns.left c.in-TopEnded.cost c.in-TopEnded.exception c.in-Some.stepped made c.in-TopEnded.is in
@@ -156,5 +156,5 @@ returns-clause-run c =
     let k = c.args.kernel.now in
     let here = config_of k.statements c.turns.course in
     let still : goes_on k.statements here.layers c.args.space.now ≡ false
-    = ap (λ (st : List Statement). goes_on st here.layers c.args.space.now) (sym c.as_slice-statements.ensures) ∙ sym (c.in_ok-goes_on.ensures c.turns.invariant.due (subst (λ st. Keeps st c.turns.kept c.turns.course) (sym c.as_slice-statements.ensures) c.turns.invariant.kept)) ∙ c.if-branch.false in
+    = ap (λ (st : List Statement). goes_on st (config_of st c.turns.course).layers c.args.space.now) (sym c.as_slice-statements.ensures) ∙ sym (c.in_ok-goes_on.ensures c.turns.invariant.due (subst (λ st. Keeps st c.turns.kept c.turns.course) (sym c.as_slice-statements.ensures) c.turns.invariant.kept)) ∙ c.if-branch.false in
     ok_run c.ended-2.result k here c.args.space.now c.args.fuel _ _ (sym c.turns.invariant.same ∙ run_still k c.args.space.now c.turns.left here still) c.ended-2.ensures

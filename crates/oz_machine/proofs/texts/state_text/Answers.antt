@@ -33,7 +33,7 @@ returns-in-Raised c d e =
     let x = c.in-Raised.exception in
     let seen = place_view levels space c.in-Some.place store (sym c.in-Some.is ∙ c.place.ensures) c.store_at.ensures in
     let same : term_text words store x ≡ state_text words d space c.args.state.now =
-    ap (λ view. term_text words view x) (seen ∙ ap (λ layers. view layers space) (sym e)) ∙ ap (state_text words d space) (sym c.in-Raised.is) in
+    ap (λ view. term_text words view x) (seen ∙ sym e) ∙ ap (state_text words d space) (sym c.in-Raised.is) in
     subst (λ printed. IfOk c.variable_text.result (PrintsWithin printed c.args.fuel)) same c.variable_text.ensures
 
 pub returns-in-Running : goal.returns-in-Running
@@ -48,5 +48,5 @@ returns-in-Solved c d e =
     let store = c.store_at-in-Solved.result.now in
     let seen = place_view levels space c.in-Some.place store (sym c.in-Some.is ∙ c.place.ensures) c.store_at-in-Solved.ensures in
     let same : term_text words store (root_of space) ≡ state_text words d space c.args.state.now =
-    ap (λ view. term_text words view (root_of space)) (seen ∙ ap (λ layers. view layers space) (sym e)) ∙ shows_root words d space c.args.state.now c.in-Solved.is in
+    ap (λ view. term_text words view (root_of space)) (seen ∙ sym e) ∙ shows_root words d space c.args.state.now c.in-Solved.is in
     subst (λ printed. IfOk c.root_text.result (PrintsWithin printed c.args.fuel)) same c.root_text.ensures

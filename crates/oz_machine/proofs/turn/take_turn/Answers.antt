@@ -1,11 +1,11 @@
-use Rattle.std.proofs.Common.{◌≡◌, ◌∙◌, List, Some, refl, subst, sym, ap, arith}
+use Rattle.std.proofs.Common.{◌≡◌, ◌∙◌, Some, refl, subst, sym, ap, arith}
 use Rattle.oz_base.specs.Lists.{first}
 use Rattle.oz_base.specs.declared.names.Ident.{Ident}
 use Rattle.oz_semantics.specs.Schedule.{turn}
 use Rattle.oz_semantics.specs.Steps.{stepped}
 use Rattle.turn_laws.specs.Kept.{IsKept}
 use Rattle.oz_machine.specs.Courses.{config_of, stepping}
-use Rattle.oz_machine.proofs.TurnLaws.{queue_is, turn_is, turn_none, dear_turn, ok_turned}
+use Rattle.oz_machine.proofs.TurnLaws.{head_is, turn_is, turn_none, dear_turn, ok_turned}
 use Rattle.oz_machine.proofs.turn.take_turn.Goals as goal
 
 pub returns-in_default-clause-turn : goal.returns-in_default-clause-turn
@@ -24,7 +24,7 @@ step_of-requires c =
     record {
       head = head;
       answered = c.requires.answered;
-      kept = λ known. subst (λ (q : List Ident). IsKept k.statements (record (config_of k.statements now) { queue = q })) (queue_is k.statements now id c.requires.due head) (c.requires.kept known);
+      kept = λ known. subst (IsKept k.statements) (head_is k.statements now id c.requires.due head) (c.requires.kept known);
       fuel = omega arith;
     }
 
