@@ -233,10 +233,13 @@ fn begin_needed(
     ensures same { config_of statements.now course.new ≡ config_of statements.now course.old }
     ensures begun { OnOk result (layers_after statements.now course.new.levels course.new.due ≡ course.new.levels) }
 {
-    if let Due::Everybody { .. } = course.due {
-        by_need::fire(alloc, statements, &mut course.levels)?;
+    match course.due {
+        Due::Nobody | Due::Mover { .. } => Ok(()),
+        Due::Everybody { .. } => {
+            by_need::fire(alloc, statements, &mut course.levels)?;
+            Ok(())
+        }
     }
-    Ok(())
 }
 
 /// By-need computations that are needed begin, and those who are due are asked. The answer of the head is left in `answered`, where it was made, and else nothing is. What contracts see of
