@@ -16,6 +16,7 @@ use Rattle.oz_search.specs.Plain.{outcomes}
 use Rattle.oz_semantics.specs.Configurations.{is_of, layer_at}
 use Rattle.oz_semantics.specs.Sights.{Offer}
 use Rattle.oz_semantics.specs.Spaces.{state, goes_on, is_stable, offer_in, stable_state, open_state, state_by}
+use Rattle.oz_semantics.specs.Triggers.{triggered}
 use Rattle.oz_semantics.specs.Settling.{Turned, top_failed, without_inconsistent, runnable, requeued}
 use Rattle.oz_semantics.specs.Edits.{created, committed}
 use Rattle.oz_semantics.specs.Texts.{Printed}
@@ -32,14 +33,14 @@ use Rattle.oz_semantics.specs.declared.outcome.State.TheVariants.{Running, Suspe
 use Rattle.oz_semantics.specs.declared.outcome.Stepped.TheVariants.{Moved, Quiescent, TopEnded}
 use Rattle.machine_search.specs.Rests.{IsSettled, SettledLaw, RootLaw, ChosenLaw, RestLaw, StateLaw, NodesLaw}
 use Rattle.machine_search.proofs.QueueLaws.{all_queued, nothing_goes_on}
-use Rattle.machine_search.proofs.TopLaws.{still_consistent, committed_top, created_top}
+use Rattle.machine_search.proofs.TopLaws.{still_consistent, begun_consistent, committed_top, created_top}
 use Rattle.machine_search.proofs.TurnLaws.{IsStep, turn_step}
 use Rattle.machine_search.proofs.RunLaws.{same_config, no_raise}
 
 pub settled_law : SettledLaw
 settled_law statements mover cost c consistent =
-    let P : Bool → Type 0 = λ b. IsSettled statements (left_by (if b then top_failed cost c else (Moved cost, requeued statements mover c (without_inconsistent c.layers)))) in
-    subst P (sym consistent) (still_consistent c.layers consistent, all_queued (runnable statements (without_inconsistent c.layers)) mover c.queue)
+    let P : Bool → Type 0 = λ b. IsSettled statements (left_by (if b then top_failed cost c else (Moved cost, requeued statements mover c (triggered statements (without_inconsistent c.layers))))) in
+    subst P (sym consistent) (begun_consistent statements (without_inconsistent c.layers) (still_consistent c.layers consistent), all_queued (runnable statements (triggered statements (without_inconsistent c.layers))) mover c.queue)
 
 pub root_law : RootLaw
 root_law statements procedure c h = settled_law statements None 1 (record c { layers = created [] procedure c.layers }) (created_top [] procedure c.layers ∙ h.0)

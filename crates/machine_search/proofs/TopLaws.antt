@@ -10,6 +10,9 @@ use Rattle.oz_semantics.specs.Store.{is_consistent}
 use Rattle.oz_semantics.specs.Configurations.{is_of, layer_of, view, in_layer, new_layer, next_child, counting_child, failed}
 use Rattle.oz_semantics.specs.Edits.{starting, created, committing, committed}
 use Rattle.oz_semantics.specs.Spaces.{sight}
+use Rattle.oz_semantics.specs.Triggers.{triggered}
+use Rattle.need_laws.specs.Needs.{AllFire}
+use Rattle.need_laws.proofs.FireLaws.{all_fired}
 use Rattle.oz_semantics.specs.Settling.{may_fail, is_inconsistent, inconsistent_spaces, failing, without_inconsistent, top_is_inconsistent}
 use Rattle.oz_semantics.specs.declared.value.Tell.{Tell}
 use Rattle.oz_semantics.specs.declared.configuration.Layer.{Layer}
@@ -150,3 +153,17 @@ created_top parent procedure layers =
     let counted = in_layer parent counting_child layers in
     same_top (created parent procedure layers) layers
     (placed_tops child (child_not_top l.space l.next.child) (λ other. space_lt child.space other.space) counted ∙ edit_tops parent counting_child (λ l os e. refl) layers)
+
+-- ---- by-need computations that begin
+fired_tops : (ls ms : List Layer) → AllFire ls ms → tops ms ≡ tops ls
+fired_tops [] [] h = refl
+fired_tops (l ∷ ls) (m ∷ ms) h =
+    ap (λ s. put (is_top s) (may_fail m.status, m.tells) (tops ms)) h.0.space
+    ∙ ap (λ k. put (is_top l.space) (may_fail k, m.tells) (tops ms)) h.0.status
+    ∙ ap (λ ts. put (is_top l.space) (may_fail l.status, ts) (tops ms)) h.0.tells
+    ∙ ap (put_of l) (fired_tops ls ms h.1)
+fired_tops [] (m ∷ ms) h = absurd h
+fired_tops (l ∷ ls) [] h = absurd h
+
+pub begun_consistent : (statements : List Statement) (ls : List Layer) → top_is_inconsistent ls ≡ false → top_is_inconsistent (triggered statements ls) ≡ false
+begun_consistent statements ls e = same_top (triggered statements ls) ls (fired_tops ls (triggered statements ls) (all_fired statements ls)) ∙ e

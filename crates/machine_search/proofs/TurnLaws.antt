@@ -13,6 +13,7 @@ use Rattle.oz_semantics.specs.Changes.{Change, changed_all, done}
 use Rattle.oz_semantics.specs.Effects.{Effect, Makes, Tells, ShowsText, act_effect}
 use Rattle.oz_semantics.specs.Exceptions.{unwound}
 use Rattle.oz_semantics.specs.Texts.{Printed, term_text}
+use Rattle.oz_semantics.specs.Triggers.{triggered}
 use Rattle.oz_semantics.specs.Settling.{Turned, term_variable, with_raised, top_is_inconsistent, without_inconsistent, runnable, requeued, settled, top_failed}
 use Rattle.oz_semantics.specs.Steps.{went_on, ended_by, uncaught, raised_to, raised, told, shown_by, after_effect, after_answer, without_top, stepped}
 use Rattle.oz_semantics.specs.Schedule.{turn_of, turn}
@@ -24,7 +25,7 @@ use Rattle.oz_semantics.specs.declared.outcome.RaiseKind.TheVariants.{FailureTel
 use Rattle.oz_semantics.specs.declared.outcome.Stepped.TheVariants.{Moved, Quiescent, TopEnded}
 use Rattle.machine_search.specs.Rests.{IsSettled}
 use Rattle.machine_search.proofs.QueueLaws.{all_queued}
-use Rattle.machine_search.proofs.TopLaws.{still_consistent}
+use Rattle.machine_search.proofs.TopLaws.{still_consistent, begun_consistent}
 
 -- a step was made
 abbrev pub IsStep : List Statement → Turned → Type 0
@@ -39,9 +40,9 @@ either statements false t u p q = q
 settled_step : (statements : List Statement) (mover : Option Ident) (cost : ℕ) (c : Configuration) → 0 < cost → IsStep statements (settled statements mover cost c)
 settled_step statements mover cost c paid = by (top_is_inconsistent c.layers) refl
   where
-    by : (b : Bool) → top_is_inconsistent c.layers ≡ b → IsStep statements (if b then top_failed cost c else (Moved cost, requeued statements mover c (without_inconsistent c.layers)))
+    by : (b : Bool) → top_is_inconsistent c.layers ≡ b → IsStep statements (if b then top_failed cost c else (Moved cost, requeued statements mover c (triggered statements (without_inconsistent c.layers))))
     by true e = (paid, refl)
-    by false e = (paid, (still_consistent c.layers e, all_queued (runnable statements (without_inconsistent c.layers)) mover c.queue))
+    by false e = (paid, (begun_consistent statements (without_inconsistent c.layers) (still_consistent c.layers e), all_queued (runnable statements (triggered statements (without_inconsistent c.layers))) mover c.queue))
 
 -- a step of a thread
 module _ (k : Kernel) (id : Ident) where
