@@ -2,7 +2,6 @@
 use Rattle.std.proofs.Common.{◌≡◌, ℕ, zero, suc, ◌+◌, ◌<◌, Bool, true, false, not, ◌||◌, cond, if◌then◌else◌, List, [], ◌∷◌, ◌++◌, map, filter, length, take, get_or, Some, None, refl, sym, ap, ap₂, ◌∙◌, arith}
 use Rattle.std.specs.Prelude.{slice_get}
 use Rattle.std.specs.List.{list_any, fold, sum_by}
-use Rattle.std.proofs.lemmas.List.{take_more, map_push}
 use Rattle.std.proofs.lemmas.List.Sums.{sum_by_more}
 use Rattle.std.proofs.lemmas.Option.{get_or_from_slice_get}
 use Rattle.oz_language.specs.declared.kernel.Statement.{Statement}
@@ -12,6 +11,7 @@ use Rattle.oz_semantics.specs.declared.configuration.Layer.{Layer}
 use Rattle.oz_threads.proofs.PlaceLaws.{item_at}
 use Rattle.space_core.specs.Firing.{marked, unmarked, firing, at_place}
 use Rattle.by_need.specs.Rounds.{is_mark, fire_each, IsRound}
+use Rattle.by_need.proofs.WaitLaws.{made_more}
 
 -- Marks by a test
 
@@ -75,9 +75,7 @@ length_each (m ∷ ms) (l ∷ ls) = omega (arith, length_each ms ls)
 pub mapped_more : {A B : Type 0} (f : A → B) (xs : List A) (n : ℕ) → n < length xs → (old new : List B) (y : B) → old ≡ map f (take n xs) → new ≡ old ++ y ∷ []
     → ((x : A) → slice_get xs n ≡ Some x → y ≡ f x) → new ≡ map f (take (n + 1) xs)
 mapped_more f xs n within old new y o a made =
-    let item = item_at xs n within in
-    let here = get_or_from_slice_get xs n item.0 item.0 item.1 in
-    a ∙ ap₂ (λ ys z. ys ++ z ∷ []) o (made item.0 item.1) ∙ sym (map_push f (take n xs) item.0) ∙ ap (λ x. map f (take n xs ++ x ∷ [])) (sym here) ∙ ap (λ ys. map f ys) (sym (take_more xs n item.0 within))
+    let item = item_at xs n within in made_more f xs n item.0 old new y within (sym (get_or_from_slice_get xs n item.0 item.0 item.1)) o a (made item.0 item.1)
 
 pub counted_more : (f : Layer → ℕ) (xs : List Layer) (n : ℕ) → n < length xs → (old new y : ℕ) → old ≡ sum_by f (take n xs) → new ≡ old + y
     → ((x : Layer) → slice_get xs n ≡ Some x → y ≡ f x) → new ≡ sum_by f (take (n + 1) xs)

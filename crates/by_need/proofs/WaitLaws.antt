@@ -1,8 +1,8 @@
 -- The variables that threads wait for, by their classes.
-use Rattle.std.proofs.Common.{◌≡◌, ℕ, ◌+◌, ◌<◌, Bool, true, false, ◌&&◌, ◌||◌, if◌then◌else◌, List, [], ◌∷◌, ◌++◌, map, length, take, get_or, refl, sym, ap, ap₂, subst, ◌∙◌, arith, Result}
+use Rattle.std.proofs.Common.{◌≡◌, ℕ, ◌+◌, ◌<◌, Bool, true, false, ◌&&◌, ◌||◌, if◌then◌else◌, List, [], ◌∷◌, ◌++◌, map, length, take, get_or, refl, sym, ap, ap₂, subst, ◌∙◌, Result}
 use Rattle.std.specs.Prelude.{IfOk}
 use Rattle.std.specs.List.{list_any, flat_map}
-use Rattle.std.proofs.lemmas.List.{take_more, append-nil}
+use Rattle.std.proofs.lemmas.List.{take_more, map_push, append-nil}
 use Rattle.std.proofs.lemmas.List.Folds.{list_any-append}
 use Rattle.std.proofs.lemmas.Grind.{flat_map-append}
 use Rattle.oz_base.specs.declared.names.Ident.{Ident}
@@ -24,6 +24,12 @@ use Rattle.by_need.specs.Waited.{AddsClasses}
 -- marks by other words
 pub same_marks : {A E : Type 0} (r : Result A E) {a b : A} → a ≡ b → IfOk r (λ x. x ≡ a) → IfOk r (λ x. x ≡ b)
 same_marks {A} {E} r {a} {b} e h = subst (λ (y : A). IfOk r (λ x. x ≡ y)) e h
+
+-- one more item gone over
+pub made_more : {A B : Type 0} (f : A → B) (xs : List A) (n : ℕ) (x : A) (old new : List B) (y : B) → n < length xs → x ≡ get_or xs n x → old ≡ map f (take n xs) → new ≡ old ++ y ∷ [] → y ≡ f x
+    → new ≡ map f (take (n + 1) xs)
+made_more f xs n x old new y within e o a made =
+    a ∙ ap₂ (λ ys z. ys ++ z ∷ []) o made ∙ sym (map_push f (take n xs) x) ∙ ap (map f) (sym (take_more xs n x within ∙ ap (λ z. take n xs ++ z ∷ []) (sym e)))
 
 or_false : (b : Bool) → b ≡ (b || false)
 or_false true = refl

@@ -1,11 +1,11 @@
 //! By-need computations (CTM 4.5): which triggers are needed, and what follows.
 #![tactic(auto)]
 
-mod needed;
 mod rounds;
+mod triggers;
 
-pub use needed::needed;
 pub use rounds::fire;
+pub use triggers::needed;
 
 #[cfg(test)]
 mod tests;

@@ -5,7 +5,7 @@ ghost use Rattle.oz_semantics.specs.Triggers.{is_needed_in, fired_for, triggered
 ghost use Rattle.oz_semantics.specs.declared.configuration.Layer.{Layer};
 ghost use Rattle.by_need.specs.Rounds.{is_mark, fire_each, IsRound};
 
-use crate::needed::needed_at;
+use crate::triggers::needed_at;
 use oz_base::{Copies, Sequence};
 use oz_language::Statement;
 use space_core::Levels;

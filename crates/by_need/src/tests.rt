@@ -49,35 +49,64 @@ fn left(levels: &Levels) -> Option<usize> {
     Some(levels.triggers_at(0).len())
 }
 
-#[test]
-fn begins_what_is_waited_for_alone(rt: HostRuntime) -> Result<(), Fail> {
-    let alloc = rt.alloc();
+/// The top delays two procedures, of which one is for a variable that its thread waits for.
+fn with_two(alloc: Global) -> Result<Levels, AllocError> {
     let mut levels = Levels::new(alloc)?;
     add_waiting(alloc, &mut levels, 3)?;
     delay(&mut levels, 5, 4)?;
     delay(&mut levels, 6, 3)?;
+    Ok(levels)
+}
+
+#[test]
+fn begins_what_is_waited_for(rt: HostRuntime) -> Result<(), Fail> {
+    let alloc = rt.alloc();
+    let mut levels = with_two(alloc)?;
     fire(alloc, &[], &mut levels)?;
     assert_eq!(rt; applied(&levels, 2), Some(6));
-    assert_eq!(rt; applied(&levels, 3), None);
-    assert_eq!(rt; left(&levels), Some(1));
-    fire(alloc, &[], &mut levels)?;
     assert_eq!(rt; applied(&levels, 3), None);
     assert_eq!(rt; left(&levels), Some(1));
     Ok(())
 }
 
 #[test]
-fn goes_on_until_none_is_needed(rt: HostRuntime) -> Result<(), Fail> {
+fn leaves_what_is_not_waited_for(rt: HostRuntime) -> Result<(), Fail> {
     let alloc = rt.alloc();
+    let mut levels = with_two(alloc)?;
+    fire(alloc, &[], &mut levels)?;
+    fire(alloc, &[], &mut levels)?;
+    assert_eq!(rt; applied(&levels, 3), None);
+    assert_eq!(rt; left(&levels), Some(1));
+    Ok(())
+}
+
+/// The top delays four procedures: two are for a variable that its thread waits for, one is for a variable that one of these two will
+/// wait for, and one is for another.
+fn with_four(alloc: Global) -> Result<Levels, AllocError> {
     let mut levels = Levels::new(alloc)?;
     add_waiting(alloc, &mut levels, 3)?;
     delay(&mut levels, 5, 4)?;
     delay(&mut levels, 4, 3)?;
     delay(&mut levels, 7, 3)?;
     delay(&mut levels, 6, 8)?;
+    Ok(levels)
+}
+
+#[test]
+fn begins_in_their_order(rt: HostRuntime) -> Result<(), Fail> {
+    let alloc = rt.alloc();
+    let mut levels = with_four(alloc)?;
     fire(alloc, &[], &mut levels)?;
     assert_eq!(rt; applied(&levels, 2), Some(4));
     assert_eq!(rt; applied(&levels, 3), Some(7));
+    Ok(())
+}
+
+#[test]
+fn goes_on_until_none_is_needed(rt: HostRuntime) -> Result<(), Fail> {
+    let alloc = rt.alloc();
+    let mut levels = with_four(alloc)?;
+    fire(alloc, &[], &mut levels)?;
     assert_eq!(rt; applied(&levels, 4), Some(5));
     assert_eq!(rt; applied(&levels, 5), None);
     assert_eq!(rt; left(&levels), Some(1));
@@ -99,9 +128,18 @@ fn leaves_what_another_space_waits_for(rt: HostRuntime) -> Result<(), Fail> {
     let mut levels = Levels::new(alloc)?;
     delay(&mut levels, 5, 3)?;
     let child = add_child(alloc, &mut levels, 3)?;
-    assert!(rt; levels.place(&child).is_some());
     fire(alloc, &[], &mut levels)?;
+    assert!(rt; levels.place(&child).is_some());
     assert_eq!(rt; left(&levels), Some(1));
+    Ok(())
+}
+
+#[test]
+fn begins_what_its_own_space_waits_for(rt: HostRuntime) -> Result<(), Fail> {
+    let alloc = rt.alloc();
+    let mut levels = Levels::new(alloc)?;
+    delay(&mut levels, 5, 3)?;
+    let _child = add_child(alloc, &mut levels, 3)?;
     add_waiting(alloc, &mut levels, 3)?;
     fire(alloc, &[], &mut levels)?;
     assert_eq!(rt; left(&levels), Some(0));

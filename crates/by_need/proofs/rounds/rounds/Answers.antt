@@ -1,4 +1,4 @@
-use Rattle.std.proofs.Common.{◌≡◌, ◌∙◌, ◌-◌, suc, sym, subst, arith, unwrap_or}
+use Rattle.std.proofs.Common.{◌∙◌, ◌-◌, sym, subst, arith}
 use Rattle.by_need.specs.Rounds.{IsRound}
 use Rattle.by_need.proofs.RoundLaws.{no_round, round_more, no_more}
 use Rattle.by_need.proofs.rounds.rounds.Goals as goal

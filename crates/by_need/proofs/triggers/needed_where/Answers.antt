@@ -1,9 +1,8 @@
-use Rattle.std.proofs.Common.{◌∙◌, ap, map, subst, List}
-use Rattle.std.specs.Prelude.{IfOk}
+use Rattle.std.proofs.Common.{◌∙◌, ap, map, List}
 use Rattle.oz_base.specs.declared.names.Ident.{Ident}
 use Rattle.oz_semantics.specs.Triggers.{is_needed}
 use Rattle.by_need.proofs.WaitLaws.{needed_same, same_marks}
-use Rattle.by_need.proofs.needed.needed_where.Goals as goal
+use Rattle.by_need.proofs.triggers.needed_where.Goals as goal
 
 pub returns : goal.returns
 returns c =

@@ -6,7 +6,7 @@ use Rattle.oz_semantics.specs.Sights.{waits_of}
 use Rattle.oz_semantics.specs.Readiness.{thread_ready}
 use Rattle.oz_threads.specs.Sights.{sight_of}
 use Rattle.by_need.proofs.WaitLaws.{waits_more}
-use Rattle.by_need.proofs.needed.waited_where.Goals as goal
+use Rattle.by_need.proofs.triggers.waited_where.Goals as goal
 
 pub loop-thread-init : goal.loop-thread-init
 loop-thread-init c = λ z. ap (λ (xs : List Ident). list_any (same c.args.store.now z) xs) c.new-waited.ensures

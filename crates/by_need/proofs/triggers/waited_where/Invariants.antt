@@ -4,7 +4,7 @@ use Rattle.oz_semantics.specs.Sights.{waits_of}
 use Rattle.oz_semantics.specs.Readiness.{thread_ready}
 use Rattle.oz_threads.specs.Sights.{sight_of}
 use Rattle.tree_equal.specs.Answers.{SameClasses}
-use Rattle.by_need.proofs.needed.waited_where.Given as goal
+use Rattle.by_need.proofs.triggers.waited_where.Given as goal
 
 -- what those passed so far wait for
 abbrev pub invariant-loop-thread : goal.invariant-loop-thread

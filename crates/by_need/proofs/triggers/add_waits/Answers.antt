@@ -1,10 +1,10 @@
 use Rattle.std.proofs.Common.{◌∙◌, ◌++◌, ap, List}
 use Rattle.oz_base.specs.declared.names.Ident.{Ident}
 use Rattle.by_need.proofs.WaitLaws.{adds_waits, steps_add, offers_add}
-use Rattle.by_need.proofs.needed.add_waits.Goals as goal
+use Rattle.by_need.proofs.triggers.add_waits.Goals as goal
 
-pub returns-in-Waits : goal.returns-in-Waits
-returns-in-Waits c =
+pub returns-in_ok-append-in-Waits : goal.returns-in_ok-append-in-Waits
+returns-in_ok-append-in-Waits c =
     λ view defined h. adds_waits view defined c.in-Waits.waits c.args.waited.now _
     (c.in_ok-append-in-Waits.ensures ∙ ap (λ (xs : List Ident). c.args.waited.now ++ xs) c.into_vec.ensures) (rw c.in-Waits.is at h)
 

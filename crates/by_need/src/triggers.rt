@@ -57,7 +57,7 @@ fn unneeded(alloc: Global, triggers: &[Trigger]) -> Result<Sequence<bool>, Alloc
     ensures { IfOk result (λ marks. marks ≡ map (λ t. false) triggers.now) }
 {
     let mut marks = Sequence::new(alloc);
-    for _trigger in triggers {
+    'marks: for _trigger in triggers {
         marks.push(false)?;
     }
     Ok(marks)

@@ -2,7 +2,7 @@ use Rattle.std.proofs.Common.{◌∙◌, ap, sym, List, map, false}
 use Rattle.oz_semantics.specs.Configurations.{is_open}
 use Rattle.oz_semantics.specs.declared.configuration.Trigger.{Trigger}
 use Rattle.by_need.proofs.WaitLaws.{same_marks, needed_open, needed_ended}
-use Rattle.by_need.proofs.needed.needed_at.Goals as goal
+use Rattle.by_need.proofs.triggers.needed_at.Goals as goal
 
 pub returns-then-is_open : goal.returns-then-is_open
 returns-then-is_open c =
