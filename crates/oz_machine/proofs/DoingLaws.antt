@@ -1,5 +1,5 @@
 -- What a step does to the layers, and what the definitions make of it.
-use Rattle.std.proofs.Common.{◌≡◌, ◌∙◌, ◌++◌, ◌+◌, ℕ, Bool, true, false, List, [], ◌∷◌, drop, Option, Some, None, if◌then◌else◌, refl, sym, ap, subst}
+use Rattle.std.proofs.Common.{◌≡◌, ◌∙◌, ◌++◌, ◌+◌, ℕ, Bool, true, false, List, [], ◌∷◌, drop, Option, Some, None, if◌then◌else◌, refl, sym, ap}
 use Rattle.std.specs.Prelude.{Result, Ok, Err, IfOk, unwrap_or}
 use Rattle.std.specs.declared.alloc.AllocError.{AllocError}
 use Rattle.oz_base.specs.Lists.{first}
@@ -10,7 +10,7 @@ use Rattle.oz_semantics.specs.Names.{named}
 use Rattle.oz_semantics.specs.Terms.{Term, term_tells}
 use Rattle.oz_semantics.specs.Configurations.{layer_at, layer_of, new_layer, frames_in, thread_at, view}
 use Rattle.oz_semantics.specs.Effects.{Effect, Makes, Tells, ShowsText}
-use Rattle.oz_semantics.specs.Changes.{Change, done}
+use Rattle.oz_semantics.specs.Changes.{done}
 use Rattle.oz_semantics.specs.Exceptions.{new_term_tells}
 use Rattle.oz_semantics.specs.Triggers.{triggered}
 use Rattle.oz_semantics.specs.Settling.{Turned, inconsistent_spaces, settled, top_failed, top_is_inconsistent, requeued, without_inconsistent}
@@ -29,7 +29,6 @@ use Rattle.settle_laws.specs.Turns.{cost_of}
 use Rattle.settle_laws.specs.Settles.{Settles}
 use Rattle.settle_laws.proofs.EditLaws.{pop_view}
 use Rattle.settle_laws.proofs.SettleLaws.{nothing_fails}
-use Rattle.space_core.specs.Advances.{IsAdvanced}
 use Rattle.oz_machine.specs.declared.course.Due.{Due}
 use Rattle.oz_machine.specs.declared.course.Due.TheVariants.{Nobody}
 use Rattle.oz_machine.specs.declared.course.Course.{Course}

@@ -1,5 +1,4 @@
 pub mod TopLaws
-pub mod NeedLaws
 pub mod DoingLaws
 pub mod NeedLaws
 pub mod RestLaws

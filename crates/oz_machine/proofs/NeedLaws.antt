@@ -6,7 +6,6 @@ use Rattle.oz_semantics.specs.Configurations.{view}
 use Rattle.oz_semantics.specs.Triggers.{triggered}
 use Rattle.oz_semantics.specs.Settling.{runnable, queue_after}
 use Rattle.oz_semantics.specs.declared.configuration.Layer.{Layer}
-use Rattle.oz_semantics.specs.declared.configuration.Configuration.{Configuration}
 use Rattle.view_laws.proofs.NeedLaws.{nothing_fires}
 use Rattle.need_laws.specs.Needs.{has_triggers}
 use Rattle.need_laws.proofs.FireLaws.{all_fired}
@@ -25,13 +24,7 @@ begun_again statements layers = nothing_fires statements (triggered statements l
 pub none_begin : (statements : List Statement) (layers : List Layer) → has_triggers layers ≡ false → triggered statements layers ≡ layers
 none_begin statements layers none = nothing_fires statements layers (none_there statements layers none)
 
--- where not everybody is due, the layers stay
-pub others_stay : (statements : List Statement) (layers : List Layer) (due : Due) → ((mover : Option Ident) → due ≡ Everybody mover → ⊥) → layers_after statements layers due ≡ layers
-others_stay statements layers Nobody other = refl
-others_stay statements layers (Mover id started) other = refl
-others_stay statements layers (Everybody mover) other = absurd (other mover refl)
-
--- where everybody is due and what is needed has begun, they stay too
+-- where everybody is due and what is needed has begun, the layers stay
 pub all_stay : (statements : List Statement) (old new : List Layer) (due : Due) (mover : Option Ident) → due ≡ Everybody mover → new ≡ triggered statements old → layers_after statements new due ≡ new
 all_stay statements old new due mover e is =
     ap (layers_after statements new) e ∙ ap (triggered statements) is ∙ begun_again statements old ∙ sym is
@@ -54,18 +47,3 @@ pub seen_after : (statements : List Statement) (layers : List Layer) (due : Due)
 seen_after statements layers Nobody space = refl
 seen_after statements layers (Mover id started) space = refl
 seen_after statements layers (Everybody mover) space = fired_view layers (triggered statements layers) space (all_fired statements layers)
-
--- Those who were due were asked, and the queue is what is left of it
-pub asked_all : (statements : List Statement) (old new : Course) → layers_after statements old.levels old.due ≡ old.levels → new.levels ≡ old.levels → new.due ≡ Nobody → new.queue ≡ asked statements old.levels old.due old.queue → new.shown ≡ old.shown
-    → config_of statements new ≡ config_of statements old
-asked_all statements old new stay levels nobody queue shown =
-    let left : layers_after statements new.levels new.due ≡ layers_after statements old.levels old.due = ap (layers_after statements new.levels) nobody ∙ levels ∙ sym stay in
-    let follows : asked statements new.levels new.due new.queue ≡ asked statements old.levels old.due old.queue = ap (λ (d : Due). asked statements new.levels d new.queue) nobody ∙ queue in
-    λ i. record { layers = left i; queue = follows i; shown = shown i }
-
--- where everybody is asked and what is needed has begun
-pub asks_all : (statements : List Statement) (layers : List Layer) (due : Due) (mover : Option Ident) (queue : List Ident) → due ≡ Everybody mover → layers_after statements layers due ≡ layers
-    → queue_after (runnable statements layers) mover queue ≡ asked statements layers due queue
-asks_all statements layers due mover queue e stay =
-    ap (λ (ls : List Layer). queue_after (runnable statements ls) mover queue) (sym stay ∙ ap (layers_after statements layers) e)
-    ∙ sym (ap (λ (d : Due). asked statements layers d queue) e)

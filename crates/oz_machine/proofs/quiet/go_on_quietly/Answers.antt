@@ -1,5 +1,4 @@
 use Rattle.std.proofs.Common.{◌∙◌, List, Some, drop, refl, ap, sym}
-use Rattle.oz_semantics.specs.Configurations.{in_layer, without_terminated}
 use Rattle.oz_semantics.specs.Settling.{settled}
 use Rattle.oz_semantics.specs.declared.configuration.Layer.{Layer}
 use Rattle.oz_semantics.specs.declared.outcome.Stepped.TheVariants.{Moved}

@@ -2,7 +2,7 @@ use Rattle.std.proofs.Common.{◌≡◌, ◌∙◌, ◌-◌, List, true, false, 
 use Rattle.oz_language.specs.declared.kernel.Statement.{Statement}
 use Rattle.oz_semantics.specs.Spaces.{goes_on}
 use Rattle.oz_semantics.specs.Schedule.{turn}
-use Rattle.oz_semantics.specs.Runs.{TopRaised, run}
+use Rattle.oz_semantics.specs.Runs.{Ended, TopRaised, run}
 use Rattle.oz_semantics.specs.declared.configuration.Configuration.{Configuration}
 use Rattle.turn_laws.specs.Kept.{IsKept}
 use Rattle.oz_machine.specs.Courses.{config_of, Keeps}
@@ -101,31 +101,54 @@ returns-in_err-settle-in-Moved-clause-err c =
     )
     )
 
+pub returns-in_err-settle-in-Quiescent-clause-err : goal.returns-in_err-settle-in-Quiescent-clause-err
+returns-in_err-settle-in-Quiescent-clause-err c =
+    let k = c.args.kernel.now in
+    let first = config_of k.statements c.args.course.now in
+    let here = config_of k.statements c.turns.course in
+    let there = config_of k.statements c.turn.new.course in
+    let next = config_of k.statements c.settle-in-Quiescent.new.course in
+    let turned = was_made (turn k here) c.turns.left here there c.in_ok-stepped.field-0 c.in-Some.stepped c.in_ok-stepped.ensures.turn c.in-Some.is in
+    let quiet : here ≡ there = same_quiet k here there here.queue (turned ∙ ap (λ s. (s, there)) c.in-Quiescent.is) in
+    let settled : next ≡ there =
+    subst (λ (st : List Statement). config_of st c.settle-in-Quiescent.new.course ≡ config_of st c.turn.new.course) c.as_slice-statements.ensures c.settle-in-Quiescent.ensures.same in
+    let same : next ≡ here = settled ∙ sym quiet in
+    on_err c.from_residual-in_err-settle-in-Quiescent.result
+    (left_off k c.args.space.now c.args.fuel c.turns.left first next (same_after k first here next same c.turns.invariant.after) c.turns.invariant.within
+    (ap (λ (b : Configuration). run k c.args.space.now b c.turns.left) same ∙ c.turns.invariant.same))
+
 pub returns-in-Quiescent-clause-err : goal.returns-in-Quiescent-clause-err
 returns-in-Quiescent-clause-err c =
     let k = c.args.kernel.now in
     let first = config_of k.statements c.args.course.now in
     let here = config_of k.statements c.turns.course in
     let there = config_of k.statements c.turn.new.course in
+    let next = config_of k.statements c.settle-in-Quiescent.new.course in
     let turned = was_made (turn k here) c.turns.left here there c.in_ok-stepped.field-0 c.in-Some.stepped c.in_ok-stepped.ensures.turn c.in-Some.is in
-    let same : here ≡ there = same_quiet k here there here.queue (turned ∙ ap (λ s. (s, there)) c.in-Quiescent.is) in
+    let quiet : here ≡ there = same_quiet k here there here.queue (turned ∙ ap (λ s. (s, there)) c.in-Quiescent.is) in
+    let settled : next ≡ there =
+    subst (λ (st : List Statement). config_of st c.settle-in-Quiescent.new.course ≡ config_of st c.turn.new.course) c.as_slice-statements.ensures c.settle-in-Quiescent.ensures.same in
+    let same : next ≡ here = settled ∙ sym quiet in
     on_err c.ended.result
-    (left_off k c.args.space.now c.args.fuel c.turns.left first there (same_after k first here there (sym same) c.turns.invariant.after) c.turns.invariant.within
-    (ap (λ (b : Configuration). run k c.args.space.now b c.turns.left) (sym same) ∙ c.turns.invariant.same))
+    (left_off k c.args.space.now c.args.fuel c.turns.left first next (same_after k first here next same c.turns.invariant.after) c.turns.invariant.within
+    (ap (λ (b : Configuration). run k c.args.space.now b c.turns.left) same ∙ c.turns.invariant.same))
 
 pub ended-requires : goal.ended-requires
-ended-requires c = c.turns.invariant.within
+ended-requires c = record { within = c.turns.invariant.within; due = c.in_ok-settle-in-Quiescent.ensures.due }
 
 pub returns-in-Quiescent-clause-run : goal.returns-in-Quiescent-clause-run
 returns-in-Quiescent-clause-run c =
     let k = c.args.kernel.now in
     let here = config_of k.statements c.turns.course in
     let there = config_of k.statements c.turn.new.course in
+    let next = config_of k.statements c.settle-in-Quiescent.new.course in
     let goes : goes_on k.statements here.layers c.args.space.now ≡ true
     = ap (λ (st : List Statement). goes_on st (config_of st c.turns.course).layers c.args.space.now) (sym c.as_slice-statements.ensures) ∙ sym (c.in_ok-goes_on.ensures c.turns.invariant.due (subst (λ st. Keeps st c.turns.kept c.turns.course) (sym c.as_slice-statements.ensures) c.turns.invariant.kept)) ∙ c.if-branch.true in
     let turned = was_made (turn k here) c.turns.left here there c.in_ok-stepped.field-0 c.in-Some.stepped c.in_ok-stepped.ensures.turn c.in-Some.is in
     let quiet = run_quiet k c.args.space.now c.turns.left here there goes (turned ∙ ap (λ s. (s, there)) c.in-Quiescent.is) in
-    ok_run c.ended.result k there c.args.space.now c.args.fuel _ _ (sym c.turns.invariant.same ∙ quiet) c.ended.ensures
+    let settled : next ≡ there =
+    subst (λ (st : List Statement). config_of st c.settle-in-Quiescent.new.course ≡ config_of st c.turn.new.course) c.as_slice-statements.ensures c.settle-in-Quiescent.ensures.same in
+    ok_run c.ended.result k next c.args.space.now c.args.fuel _ _ (sym c.turns.invariant.same ∙ quiet ∙ ap (λ (d : Configuration). Ended d c.turns.left) (sym settled)) c.ended.ensures
 
 pub overflow_sub-steps-in-TopEnded : goal.overflow_sub-steps-in-TopEnded
 overflow_sub-steps-in-TopEnded c = let held = c.turns.invariant.within in omega (arith, held)
@@ -149,7 +172,7 @@ returns-in-TopEnded-clause-run c =
     )
 
 pub ended-requires-2 : goal.ended-requires-2
-ended-requires-2 c = c.turns.invariant.within
+ended-requires-2 c = record { within = c.turns.invariant.within; due = c.turns.invariant.due }
 
 pub returns-clause-run : goal.returns-clause-run
 returns-clause-run c =

@@ -26,7 +26,7 @@ returns-then-not-is_single-clause-turn c = λ statements layers ts changes head 
     let old = c.args.course.now in
     let left = c.drop_terminated.new.self in
     ap (λ (ls : List Layer). settled statements (Some id) c.args.cost (record (stepping old) { layers = ls })) (sym c.drop_terminated.ensures)
-    ∙ c.follow-2.ensures.turn statements id left c.requires (nothing_fails id.space left c.consistent.ensures)
+    ∙ c.follow-then-not-is_single.ensures.turn statements id left c.requires (nothing_fails id.space left c.consistent.ensures)
 
 pub returns-clause-turn : goal.returns-clause-turn
 returns-clause-turn c = λ statements layers ts changes head alone fits is.
