@@ -12,6 +12,7 @@ use Rattle.oz_semantics.specs.contracts.value.Value as value
 use Rattle.oz_semantics.specs.contracts.value.Tell as told
 use Rattle.oz_semantics.specs.contracts.configuration.Status as status
 use Rattle.oz_semantics.specs.contracts.configuration.Thread as thread
+use Rattle.oz_semantics.specs.contracts.configuration.Trigger as trigger
 use Rattle.shared_list.specs.contracts.list.SharedList as list
 use Rattle.cells_ports.specs.contracts.objects.Objects as objects
 use Rattle.term_store.specs.contracts.log.Log as log
@@ -69,17 +70,17 @@ numbers_send = declared_send numbers.the_type (search sendable, (search sendable
 numbers_sync : IsSync numbers.the_row
 numbers_sync = declared_sync numbers.the_type (search sendable, (search sendable, (search sendable, (search sendable, tt))))
 
-level_send : IsSend name.the_row → IsSend status.the_row → IsSend store.the_row → IsSend (sequence.the_row ident.the_row) → IsSend (sequence.the_row thread.the_row) → IsSend objects.the_row → IsSend level.the_row
-level_send s t u i h o = declared_send level.the_type (s, (t, (u, (search sendable, (i, (threads_send h, (o, (numbers_send, (search sendable, tt)))))))))
+level_send : IsSend name.the_row → IsSend status.the_row → IsSend store.the_row → IsSend (sequence.the_row ident.the_row) → IsSend (sequence.the_row thread.the_row) → IsSend (sequence.the_row trigger.the_row) → IsSend objects.the_row → IsSend level.the_row
+level_send s t u i h q o = declared_send level.the_type (s, (t, (u, (search sendable, (i, (threads_send h, (q, (o, (numbers_send, (search sendable, tt))))))))))
 
-level_sync : IsSync name.the_row → IsSync status.the_row → IsSync store.the_row → IsSync (sequence.the_row ident.the_row) → IsSync (sequence.the_row thread.the_row) → IsSync objects.the_row → IsSync level.the_row
-level_sync s t u i h o = declared_sync level.the_type (s, (t, (u, (search sendable, (i, (threads_sync h, (o, (numbers_sync, (search sendable, tt)))))))))
+level_sync : IsSync name.the_row → IsSync status.the_row → IsSync store.the_row → IsSync (sequence.the_row ident.the_row) → IsSync (sequence.the_row thread.the_row) → IsSync (sequence.the_row trigger.the_row) → IsSync objects.the_row → IsSync level.the_row
+level_sync s t u i h q o = declared_sync level.the_type (s, (t, (u, (search sendable, (i, (threads_sync h, (q, (o, (numbers_sync, (search sendable, tt))))))))))
 
-pub levels_send : IsSend name.the_row → IsSend status.the_row → IsSend store.the_row → IsSend (sequence.the_row ident.the_row) → IsSend (sequence.the_row thread.the_row) → IsSend objects.the_row → IsSend levels.the_row
-levels_send s t u i h o = view_send _ _ _ _ _ (declared_send levels.TheInside.the_type (Vec-send level.the_row (level_send s t u i h o), tt))
+pub levels_send : IsSend name.the_row → IsSend status.the_row → IsSend store.the_row → IsSend (sequence.the_row ident.the_row) → IsSend (sequence.the_row thread.the_row) → IsSend (sequence.the_row trigger.the_row) → IsSend objects.the_row → IsSend levels.the_row
+levels_send s t u i h q o = view_send _ _ _ _ _ (declared_send levels.TheInside.the_type (Vec-send level.the_row (level_send s t u i h q o), tt))
 
-pub levels_sync : IsSync name.the_row → IsSync status.the_row → IsSync store.the_row → IsSync (sequence.the_row ident.the_row) → IsSync (sequence.the_row thread.the_row) → IsSync objects.the_row → IsSync levels.the_row
-levels_sync s t u i h o = view_sync _ _ _ _ _ (declared_sync levels.TheInside.the_type (Vec-sync level.the_row (level_sync s t u i h o), tt))
+pub levels_sync : IsSync name.the_row → IsSync status.the_row → IsSync store.the_row → IsSync (sequence.the_row ident.the_row) → IsSync (sequence.the_row thread.the_row) → IsSync (sequence.the_row trigger.the_row) → IsSync objects.the_row → IsSync levels.the_row
+levels_sync s t u i h q o = view_sync _ _ _ _ _ (declared_sync levels.TheInside.the_type (Vec-sync level.the_row (level_sync s t u i h q o), tt))
 
 pub machine_send : IsSend (shared.the_row kernel.the_row) → IsSend levels.the_row → IsSend queue.the_row → IsSend ident.the_row → IsSend (option.the_row ident.the_row) → IsSend (list.the_row (sequence.the_row u8)) → IsSend machine.the_row
 machine_send k l q i o s = view_send _ _ _ _ _ (declared_send machine.TheInside.the_type (k, (declared_send course.the_type (l, (q, (due_send i o, (s, tt)))), (search sendable, tt))))

@@ -13,6 +13,7 @@ ghost use Rattle.oz_semantics.specs.contracts.value.Value as value;
 ghost use Rattle.oz_semantics.specs.contracts.value.Tell as told;
 ghost use Rattle.oz_semantics.specs.contracts.configuration.Status as status;
 ghost use Rattle.oz_semantics.specs.contracts.configuration.Thread as thread;
+ghost use Rattle.oz_semantics.specs.contracts.configuration.Trigger as trigger;
 ghost use Rattle.shared_list.specs.contracts.list.SharedList as list;
 ghost use Rattle.cells_ports.specs.contracts.objects.Objects as objects;
 ghost use Rattle.term_store.specs.contracts.classes.Classes as classes;
@@ -25,7 +26,7 @@ ghost use Rattle.recompute.specs.contracts.frozen.Frozen as frozen;
 use environments::Environment;
 use oz_base::{Ident, Sequence, Shared, SpaceName};
 use oz_language::Kernel;
-use oz_semantics::{Procedure, Status, Tell, Thread, Value};
+use oz_semantics::{Procedure, Status, Tell, Thread, Trigger, Value};
 use oz_threads::Queue;
 use recompute::Frozen;
 use shared_list::SharedList;
@@ -147,6 +148,14 @@ fn threads_cross()
     shares::<Sequence<Thread>>();
 }
 
+fn triggers_cross()
+    ensures send { IsSend (sequence.the_row trigger.the_row) }
+    ensures sync { IsSync (sequence.the_row trigger.the_row) }
+{
+    sends::<Sequence<Trigger>>();
+    shares::<Sequence<Trigger>>();
+}
+
 fn ident_lists_cross()
     ensures send { IsSend (list.the_row ident.the_row) }
     ensures sync { IsSync (list.the_row ident.the_row) }
@@ -204,6 +213,7 @@ fn levels_cross()
     status_crosses();
     idents_cross();
     threads_cross();
+    triggers_cross();
     objects_cross();
 }
 
