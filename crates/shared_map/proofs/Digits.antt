@@ -1,7 +1,7 @@
 -- The digits of a number in base sixteen are its way down a tree.
-use Rattle.std.proofs.Common.{◌≡◌, ℕ, suc, zero, ◌+◌, ◌-◌, ◌*◌, ◌/◌, ◌%◌, ◌^◌, ◌<◌, ◌≤◌, refl, sym, ap, ◌∙◌, arith}
+use Rattle.std.proofs.Common.{◌≡◌, ℕ, suc, zero, ◌+◌, ◌-◌, ◌*◌, ◌/◌, ◌%◌, ◌^◌, ◌<◌, ◌≤◌, refl, sym, ap, ◌∙◌, arith, bit_and}
 use Rattle.std.proofs.Math.Nat.{mod-lt, div-div-eq-div-mul}
-use Rattle.std.proofs.lemmas.Nat.{pow_pos, mod-pow-add, div-mul-add, mod-mul-add}
+use Rattle.std.proofs.lemmas.Nat.{pow_pos, and_mask, mod-pow-add, div-mul-add, mod-mul-add}
 use Rattle.shared_map.specs.Lookup.{choice}
 use Rattle.shared_map.proofs.Spans.{two_more, four_more, tree_span}
 
@@ -42,12 +42,15 @@ quad_index b k = ap (λ n. n / 2 ^ b) (split_two b k) ∙ div-mul-add (k / 2 ^ b
 pub quad_rest : (b k : ℕ) → k % (4 * 2 ^ b) % 2 ^ b ≡ k % 2 ^ b
 quad_rest b k = ap (λ n. n % 2 ^ b) (split_two b k) ∙ mod-mul-add (k / 2 ^ b % 4) (2 ^ b) (k % 2 ^ b) (mod-lt k (pow_pos b))
 
+pub lower_half : (b k d : ℕ) → d ≡ k / 2 ^ b % 16 → bit_and d 3 ≡ k / 2 ^ b % 4
+lower_half b k d digit = and_mask d 2 ∙ omega (arith, digit)
+
 -- a quad, a tree in it, and what is below
 pub fork_place : (b k d i : ℕ) → d ≡ k / 2 ^ b % 16 → d / 4 ≡ i → k % (16 * 2 ^ b) / 2 ^ (b + 2) ≡ i
 fork_place b k d i digit quad = fork_index b k ∙ ap (λ n. n / 4) (sym digit) ∙ quad
 
-pub quad_place : (b k j i : ℕ) → j ≡ k / 2 ^ b % 4 → j ≡ i → k % (4 * 2 ^ b) / 2 ^ b ≡ i
-quad_place b k j i index tree = quad_index b k ∙ sym index ∙ tree
+pub quad_place : (b k d i : ℕ) → d ≡ k / 2 ^ b % 16 → bit_and d 3 ≡ i → k % (4 * 2 ^ b) / 2 ^ b ≡ i
+quad_place b k d i digit tree = quad_index b k ∙ sym (lower_half b k d digit) ∙ tree
 
 pub tree_rest : (h k : ℕ) → 1 ≤ h → k % (16 * 2 ^ (4 * (h - 1))) ≡ k % (4 * 2 ^ (4 * h)) % 2 ^ (4 * h)
 tree_rest h k low = ap (λ m. k % m) (sym (tree_span h low)) ∙ sym (quad_rest (4 * h) k)

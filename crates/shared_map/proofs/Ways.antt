@@ -8,7 +8,7 @@ use Rattle.shared_map.specs.declared.tree.Quad.{Quad}
 use Rattle.shared_map.specs.declared.tree.Fork.{Fork}
 use Rattle.shared_map.specs.Lookup.{choice, lookup, quad_at, fork_at, row_at}
 use Rattle.shared_map.proofs.Spans.{four_more}
-use Rattle.shared_map.proofs.Digits.{fork_index, fork_rest, quad_index, quad_rest, choice_of}
+use Rattle.shared_map.proofs.Digits.{fork_index, fork_rest, quad_index, quad_rest, lower_half, choice_of}
 
 quad_down : {V : Type 0} (h k : ℕ) (q : Quad V) → quad_at h q (k % (4 * 2 ^ (4 * h))) ≡ lookup (h - 1) (choice (k / 2 ^ (4 * h) % 4) q.a q.b q.c q.d q.d) (k % 2 ^ (4 * h))
 quad_down h k q = by (k % (4 * 2 ^ (4 * h)) % 2 ^ (4 * h)) (quad_rest (4 * h) k)
@@ -31,8 +31,7 @@ fork_down h k f = by (k % (16 * 2 ^ (4 * h)) % 2 ^ (4 * h + 2)) (fork_rest (4 * 
 -- what a node holds at a number is what the branch of its digit holds at the rest
 branch_down : {V : Type 0} (h k d : ℕ) (f : Fork V) (q : Quad V) (t : Tree V) → d ≡ k / 2 ^ (4 * h) % 16 → q ≡ choice (d / 4) f.a f.b f.c f.d f.d → t ≡ choice (bit_and d 3) q.a q.b q.c q.d q.d → lookup (h - 1) t (k % 2 ^ (4 * h)) ≡ fork_at h f (k % (16 * 2 ^ (4 * h)))
 branch_down h k d f q t ed eq et =
-    let low : bit_and d 3 ≡ k / 2 ^ (4 * h) % 4 = and_mask d 2 ∙ omega (arith, ed) in
-    ap (λ u. lookup (h - 1) u (k % 2 ^ (4 * h))) (et ∙ ap (λ i. choice i q.a q.b q.c q.d q.d) low)
+    ap (λ u. lookup (h - 1) u (k % 2 ^ (4 * h))) (et ∙ ap (λ i. choice i q.a q.b q.c q.d q.d) (lower_half (4 * h) k d ed))
     ∙ sym (quad_down h k q)
     ∙ ap (λ p. quad_at h p (k % (4 * 2 ^ (4 * h)))) (eq ∙ ap (λ n. choice (n / 4) f.a f.b f.c f.d f.d) ed)
     ∙ sym (fork_down h k f)

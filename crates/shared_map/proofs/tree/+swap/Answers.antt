@@ -11,51 +11,52 @@ pub Fork::swap-returns-in-0-clause-swapped : goal.Fork::swap-returns-in-0-clause
 Fork::swap-returns-in-0-clause-swapped g t c =
     swap_a (2 ^ (4 * c.args.height + 2)) (c.args.key % (16 * 2 ^ (4 * c.args.height))) (c.args.key % (4 * 2 ^ (4 * c.args.height))) c.args.entry.now c.swap.new.entry
     (quad_at c.args.height c.args.self.now.a) (quad_at c.args.height c.args.self.now.b) (quad_at c.args.height c.args.self.now.c) (quad_at c.args.height c.args.self.now.d) (quad_at c.args.height c.swap.new.self) c.swap.result
-    (fork_place (4 * c.args.height) c.args.key c.digit-digit.result 0 c.digit-digit.ensures.value c.in-0.is) (sym (fork_rest (4 * c.args.height) c.args.key)) c.swap.ensures.swapped
+    (fork_place (4 * c.args.height) c.args.key c.digit.result 0 c.digit.ensures.value c.in-0.is) (sym (fork_rest (4 * c.args.height) c.args.key)) c.swap.ensures.swapped
 
 pub Fork::swap-returns-in-1-clause-swapped : goal.Fork::swap-returns-in-1-clause-swapped
 Fork::swap-returns-in-1-clause-swapped g t c =
     swap_b (2 ^ (4 * c.args.height + 2)) (c.args.key % (16 * 2 ^ (4 * c.args.height))) (c.args.key % (4 * 2 ^ (4 * c.args.height))) c.args.entry.now c.swap-in-1.new.entry
     (quad_at c.args.height c.args.self.now.a) (quad_at c.args.height c.args.self.now.b) (quad_at c.args.height c.args.self.now.c) (quad_at c.args.height c.args.self.now.d) (quad_at c.args.height c.swap-in-1.new.self) c.swap-in-1.result
-    (fork_place (4 * c.args.height) c.args.key c.digit-digit.result 1 c.digit-digit.ensures.value c.in-1.is) (sym (fork_rest (4 * c.args.height) c.args.key)) c.swap-in-1.ensures.swapped
+    (fork_place (4 * c.args.height) c.args.key c.digit.result 1 c.digit.ensures.value c.in-1.is) (sym (fork_rest (4 * c.args.height) c.args.key)) c.swap-in-1.ensures.swapped
 
 pub Fork::swap-returns-in-2-clause-swapped : goal.Fork::swap-returns-in-2-clause-swapped
 Fork::swap-returns-in-2-clause-swapped g t c =
     swap_c (2 ^ (4 * c.args.height + 2)) (c.args.key % (16 * 2 ^ (4 * c.args.height))) (c.args.key % (4 * 2 ^ (4 * c.args.height))) c.args.entry.now c.swap-in-2.new.entry
     (quad_at c.args.height c.args.self.now.a) (quad_at c.args.height c.args.self.now.b) (quad_at c.args.height c.args.self.now.c) (quad_at c.args.height c.args.self.now.d) (quad_at c.args.height c.swap-in-2.new.self) c.swap-in-2.result
-    (fork_place (4 * c.args.height) c.args.key c.digit-digit.result 2 c.digit-digit.ensures.value c.in-2.is) (sym (fork_rest (4 * c.args.height) c.args.key)) c.swap-in-2.ensures.swapped
+    (fork_place (4 * c.args.height) c.args.key c.digit.result 2 c.digit.ensures.value c.in-2.is) (sym (fork_rest (4 * c.args.height) c.args.key)) c.swap-in-2.ensures.swapped
 
 pub Fork::swap-returns-in_default-clause-swapped : goal.Fork::swap-returns-in_default-clause-swapped
 Fork::swap-returns-in_default-clause-swapped g t c =
-    let last : c.digit-digit.result / 4 ≡ 3 = grind (arith, c.in_default, c.digit-digit.ensures.below) in
+    let last : c.digit.result / 4 ≡ 3 = grind (arith, c.in_default, c.digit.ensures.below) in
     swap_d (2 ^ (4 * c.args.height + 2)) (c.args.key % (16 * 2 ^ (4 * c.args.height))) (c.args.key % (4 * 2 ^ (4 * c.args.height))) c.args.entry.now c.swap-in_default.new.entry
     (quad_at c.args.height c.args.self.now.a) (quad_at c.args.height c.args.self.now.b) (quad_at c.args.height c.args.self.now.c) (quad_at c.args.height c.args.self.now.d) (quad_at c.args.height c.swap-in_default.new.self) c.swap-in_default.result
-    (fork_place (4 * c.args.height) c.args.key c.digit-digit.result 3 c.digit-digit.ensures.value last) (sym (fork_rest (4 * c.args.height) c.args.key)) c.swap-in_default.ensures.swapped
+    (fork_place (4 * c.args.height) c.args.key c.digit.result 3 c.digit.ensures.value last) (sym (fork_rest (4 * c.args.height) c.args.key)) c.swap-in_default.ensures.swapped
 
 pub Quad::swap-returns-in-0-clause-swapped : goal.Quad::swap-returns-in-0-clause-swapped
 Quad::swap-returns-in-0-clause-swapped g t c =
     swap_a (2 ^ (4 * c.args.height)) (c.args.key % (4 * 2 ^ (4 * c.args.height))) (c.args.key % (16 * 2 ^ (4 * (c.args.height - 1)))) c.args.entry.now c.swap.new.entry
     (lookup (c.args.height - 1) c.args.self.now.a) (lookup (c.args.height - 1) c.args.self.now.b) (lookup (c.args.height - 1) c.args.self.now.c) (lookup (c.args.height - 1) c.args.self.now.d) (lookup (c.args.height - 1) c.swap.new.self) c.swap.result
-    (quad_place (4 * c.args.height) c.args.key c.args.index 0 c.requires.index c.in-0.is) (tree_rest c.args.height c.args.key c.requires.low) c.swap.ensures.swapped
+    (quad_place (4 * c.args.height) c.args.key c.digit.result 0 c.digit.ensures.value c.in-0.is) (tree_rest c.args.height c.args.key c.requires.low) c.swap.ensures.swapped
 
 pub Quad::swap-returns-in-1-clause-swapped : goal.Quad::swap-returns-in-1-clause-swapped
 Quad::swap-returns-in-1-clause-swapped g t c =
     swap_b (2 ^ (4 * c.args.height)) (c.args.key % (4 * 2 ^ (4 * c.args.height))) (c.args.key % (16 * 2 ^ (4 * (c.args.height - 1)))) c.args.entry.now c.swap-in-1.new.entry
     (lookup (c.args.height - 1) c.args.self.now.a) (lookup (c.args.height - 1) c.args.self.now.b) (lookup (c.args.height - 1) c.args.self.now.c) (lookup (c.args.height - 1) c.args.self.now.d) (lookup (c.args.height - 1) c.swap-in-1.new.self) c.swap-in-1.result
-    (quad_place (4 * c.args.height) c.args.key c.args.index 1 c.requires.index c.in-1.is) (tree_rest c.args.height c.args.key c.requires.low) c.swap-in-1.ensures.swapped
+    (quad_place (4 * c.args.height) c.args.key c.digit.result 1 c.digit.ensures.value c.in-1.is) (tree_rest c.args.height c.args.key c.requires.low) c.swap-in-1.ensures.swapped
 
 pub Quad::swap-returns-in-2-clause-swapped : goal.Quad::swap-returns-in-2-clause-swapped
 Quad::swap-returns-in-2-clause-swapped g t c =
     swap_c (2 ^ (4 * c.args.height)) (c.args.key % (4 * 2 ^ (4 * c.args.height))) (c.args.key % (16 * 2 ^ (4 * (c.args.height - 1)))) c.args.entry.now c.swap-in-2.new.entry
     (lookup (c.args.height - 1) c.args.self.now.a) (lookup (c.args.height - 1) c.args.self.now.b) (lookup (c.args.height - 1) c.args.self.now.c) (lookup (c.args.height - 1) c.args.self.now.d) (lookup (c.args.height - 1) c.swap-in-2.new.self) c.swap-in-2.result
-    (quad_place (4 * c.args.height) c.args.key c.args.index 2 c.requires.index c.in-2.is) (tree_rest c.args.height c.args.key c.requires.low) c.swap-in-2.ensures.swapped
+    (quad_place (4 * c.args.height) c.args.key c.digit.result 2 c.digit.ensures.value c.in-2.is) (tree_rest c.args.height c.args.key c.requires.low) c.swap-in-2.ensures.swapped
 
 pub Quad::swap-returns-in_default-clause-swapped : goal.Quad::swap-returns-in_default-clause-swapped
 Quad::swap-returns-in_default-clause-swapped g t c =
-    let last : c.args.index ≡ 3 = grind (arith, c.in_default, c.requires.index) in
+    let low : bit_and c.digit.result 3 ≡ c.digit.result % 4 = and_mask c.digit.result 2 in
+    let last : bit_and c.digit.result 3 ≡ 3 = grind (arith, c.in_default, low) in
     swap_d (2 ^ (4 * c.args.height)) (c.args.key % (4 * 2 ^ (4 * c.args.height))) (c.args.key % (16 * 2 ^ (4 * (c.args.height - 1)))) c.args.entry.now c.swap-in_default.new.entry
     (lookup (c.args.height - 1) c.args.self.now.a) (lookup (c.args.height - 1) c.args.self.now.b) (lookup (c.args.height - 1) c.args.self.now.c) (lookup (c.args.height - 1) c.args.self.now.d) (lookup (c.args.height - 1) c.swap-in_default.new.self) c.swap-in_default.result
-    (quad_place (4 * c.args.height) c.args.key c.args.index 3 c.requires.index last) (tree_rest c.args.height c.args.key c.requires.low) c.swap-in_default.ensures.swapped
+    (quad_place (4 * c.args.height) c.args.key c.digit.result 3 c.digit.ensures.value last) (tree_rest c.args.height c.args.key c.requires.low) c.swap-in_default.ensures.swapped
 
 pub Tree::start_fork-returns-clause-swapped : goal.Tree::start_fork-returns-clause-swapped
 Tree::start_fork-returns-clause-swapped g t c =
