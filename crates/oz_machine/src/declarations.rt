@@ -21,10 +21,7 @@ fn statement_of<'a>(statements: &'a [Statement], frame: &Frame) -> Option<&'a St
 }
 
 /// The identifiers and the body of a declaration that stands on a stack, if it is one.
-fn declared<'a>(
-    statements: &'a [Statement],
-    frame: &Frame,
-) -> Option<(&'a [Identifier], &'a [u32])>
+fn declared<'a>(statements: &'a [Statement], frame: &Frame) -> Option<(&'a [Identifier], &'a [u32])>
     ensures { IfSome result (λ d. AnswersDeclaration statements.now frame.now d.0.now d.1.now) }
 {
     match statement_of(statements, frame)? {
