@@ -17,12 +17,12 @@ use Rattle.builtins.specs.declared.answer.Readiness.TheVariants as readiness
 abbrev pub act_of : Act → answers.Act
 act_of act.Passes = answers.Passes
 act_of (act.GoesOn frames) = answers.GoesOn frames
-act_of (act.Declares environment names body) = answers.Declares environment names body
+act_of (act.Declares d) = answers.Declares d.environment d.names d.body
 act_of (act.Starts frames) = answers.Starts frames
 act_of (act.GivesValue x v) = answers.GivesValue x v
 act_of (act.GivesList x items) = answers.GivesTerm x (list_term items)
 act_of (act.GivesVariable x y) = answers.GivesVariable x y
-act_of (act.MakesProcedure x parameters body environment) = answers.MakesProcedure x parameters body environment
+act_of (act.MakesProcedure x c) = answers.MakesProcedure x c.parameters c.body c.environment
 act_of (act.MakesName x) = answers.MakesName x
 act_of (act.MakesCell x content) = answers.MakesCell x content
 act_of (act.Reads n x) = answers.Reads n x

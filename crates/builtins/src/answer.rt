@@ -1,8 +1,24 @@
 //! What a statement answers: it acts, raises an exception, or can't step yet (CTM 2.4).
 use environments::Environment;
-use oz_base::{Ident, Sequence};
+use oz_base::{Ident, Sequence, Shared};
 use oz_language::{Constant, Identifier};
 use oz_semantics::{Frame, RaiseKind, Value};
+
+/// A body, and identifiers that stand for new variables in it. The others stand for what they stand for in the environment.
+#[derive(Drop)]
+pub struct Declaration {
+    pub environment: Environment,
+    pub names: Sequence<Identifier>,
+    pub body: Sequence<u32>,
+}
+
+/// A new procedure but for its name. The identifiers of its body that are no parameters stand for what they stand for in the environment.
+#[derive(Drop)]
+pub struct Closure {
+    pub parameters: Sequence<Identifier>,
+    pub body: Sequence<u32>,
+    pub environment: Environment,
+}
 
 /// What a step does, in words of the thread and of its space. Cells and ports are those of this space, by their numbers.
 #[derive(Drop)]
@@ -12,11 +28,7 @@ pub enum Act {
     /// These go on, before what is left of the stack.
     GoesOn(Sequence<Frame>),
     /// A body goes on, in which these identifiers stand for new variables.
-    Declares {
-        environment: Environment,
-        names: Sequence<Identifier>,
-        body: Sequence<u32>,
-    },
+    Declares(Shared<Declaration>),
     /// A new thread with these.
     Starts(Sequence<Frame>),
     /// The variable is this value.
@@ -37,9 +49,7 @@ pub enum Act {
     /// The variable is a new procedure.
     MakesProcedure {
         variable: Ident,
-        parameters: Sequence<Identifier>,
-        body: Sequence<u32>,
-        environment: Environment,
+        procedure: Shared<Closure>,
     },
     /// The variable is a new name.
     MakesName {

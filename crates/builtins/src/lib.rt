@@ -16,7 +16,7 @@ mod readiness;
 mod records;
 mod table;
 
-pub use answer::{Act, Answer, Readiness};
+pub use answer::{Act, Answer, Closure, Declaration, Readiness};
 pub use calls::{answer_call, answer_given, arguments_of};
 pub use readiness::{ready_by, ready_call, ready_given, ready_one};
 pub use table::{Row, lookup, rows};

@@ -13,7 +13,7 @@ ghost use Rattle.oz_acts.specs.Doings.{IsDone, is_quiet, is_shown, started_by};
 
 use crate::numbers::next_of;
 use crate::objects::{exchange, make_cell, make_name, make_port, read_cell, send};
-use builtins::Act;
+use builtins::{Act, Closure, Declaration};
 use environments::Environment;
 use oz_base::{Copies, Ident, Sequence, Shared, SpaceName};
 use oz_language::{Constant, Identifier};
@@ -59,16 +59,16 @@ fn declare(
     alloc: Global,
     levels: &mut Levels,
     id: &Ident,
-    mut environment: Environment,
-    names: &[Identifier],
-    body: &[u32],
+    declaration: &Declaration,
 ) -> Result<(), AllocError>
-    ensures ok { IfOk result (λ done. IsDone id.now (act_effect (layer_of levels.old id.now.space) (answers.Declares environment names.now body.now)) levels.old levels.new true) }
+    ensures ok { IfOk result (λ done. IsDone id.now (act_effect (layer_of levels.old id.now.space) (answers.Declares declaration.now.environment declaration.now.names declaration.now.body)) levels.old levels.new true) }
     ensures err { OnErr result (levels.new ≡ levels.old) }
 {
     let next = next_of(levels, &id.space);
+    let names = declaration.names.as_slice();
+    let mut environment = declaration.environment.copied(alloc)?;
     bind_from(alloc, &mut environment, names, &id.space, next.variable)?;
-    let frames = frames_of(alloc, &environment, body)?;
+    let frames = frames_of(alloc, &environment, declaration.body.as_slice())?;
     levels.declare(id, frames, names.len() as u64)
 }
 
@@ -91,12 +91,13 @@ fn give_list(
     levels.tell_by(alloc, id, &tells, Given::Variables(count))
 }
 
-/// The same environment, with room for the new variables of a procedure that keeps it.
-fn gathered(alloc: Global, mut environment: Environment) -> Result<Environment, AllocError>
-    ensures { IfOk result (λ gathered. gathered ≡ environment) }
+/// A copy of the environment, with room for the new variables of a procedure that keeps it.
+fn gathered(alloc: Global, environment: &Environment) -> Result<Environment, AllocError>
+    ensures { IfOk result (λ gathered. gathered ≡ environment.now) }
 {
-    environment.gather(alloc)?;
-    Ok(environment)
+    let mut gathered = environment.copied(alloc)?;
+    gathered.gather(alloc)?;
+    Ok(gathered)
 }
 
 /// The variable is a new procedure.
@@ -105,24 +106,21 @@ fn make_procedure(
     levels: &mut Levels,
     id: &Ident,
     variable: Ident,
-    parameters: Sequence<Identifier>,
-    body: Sequence<u32>,
-    environment: Environment,
+    closure: &Closure,
 ) -> Result<bool, AllocError>
     requires { is_some (layer_at levels.old id.now.space) ≡ true }
-    ensures ok { IfOk result (IsDone id.now (act_effect (layer_of levels.old id.now.space) (answers.MakesProcedure variable parameters body environment)) levels.old levels.new) }
+    ensures ok { IfOk result (IsDone id.now (act_effect (layer_of levels.old id.now.space) (answers.MakesProcedure variable closure.now.parameters closure.now.body closure.now.environment)) levels.old levels.new) }
     ensures err { OnErr result (levels.new ≡ levels.old) }
 {
     let next = next_of(levels, &id.space);
-    let environment = gathered(alloc, environment)?;
     let procedure = Procedure {
         name: Ident {
             space: id.space.copied(alloc)?,
             number: next.procedure,
         },
-        parameters,
-        body,
-        environment,
+        parameters: closure.parameters.copied(alloc)?,
+        body: closure.body.copied(alloc)?,
+        environment: gathered(alloc, &closure.environment)?,
     };
     let value = Value::Procedure(Shared::new(alloc, procedure)?);
     levels.tell_by(alloc, id, &[Tell::Is { variable, value }], Given::Procedure)
@@ -142,7 +140,7 @@ pub fn is_quiet(act: &Act) -> bool
     match act {
         Act::Passes
         | Act::GoesOn(_)
-        | Act::Declares { .. }
+        | Act::Declares(_)
         | Act::Starts(_)
         | Act::Writes { .. }
         | Act::Delays { .. } => true,
@@ -176,7 +174,7 @@ pub fn started(
         })),
         Act::Passes
         | Act::GoesOn(_)
-        | Act::Declares { .. }
+        | Act::Declares(_)
         | Act::GivesValue { .. }
         | Act::GivesList { .. }
         | Act::GivesVariable { .. }
@@ -206,73 +204,86 @@ pub fn act(
     ensures ok { IfOk result (IsDone id.now (act_effect (layer_of levels.old id.now.space) (act_of act.old)) levels.old levels.new) }
     ensures err { OnErr result (levels.new ≡ levels.old) }
 {
-    match mem::replace(act, Act::Passes) {
+    match act {
         Act::Passes => {
             take_off(levels, id);
             Ok(true)
         }
         Act::GoesOn(frames) => {
+            let frames = mem::replace(frames, Sequence::new(alloc));
             levels.go_on(id, frames.into_vec())?;
             Ok(true)
         }
-        Act::Declares {
-            environment,
-            names,
-            body,
-        } => {
-            declare(
-                alloc,
-                levels,
-                id,
-                environment,
-                names.as_slice(),
-                body.as_slice(),
-            )?;
+        Act::Declares(declaration) => {
+            declare(alloc, levels, id, declaration.get())?;
             Ok(true)
         }
         Act::Starts(frames) => {
+            let frames = mem::replace(frames, Sequence::new(alloc));
             levels.start(id, frames.into_vec())?;
             Ok(true)
         }
         Act::GivesValue { variable, value } => {
-            let tell = Tell::Is { variable, value };
+            let tell = Tell::Is {
+                variable: variable.copied(alloc)?,
+                value: value.copied(alloc)?,
+            };
             levels.tell_by(alloc, id, &[tell], Given::Nothing)
         }
         Act::GivesList { variable, items } => {
-            give_list(alloc, levels, id, &variable, items.as_slice())
+            give_list(alloc, levels, id, variable, items.as_slice())
         }
         Act::GivesVariable { variable, other } => {
             let equation = Tell::Equal {
-                left: variable,
-                right: other,
+                left: variable.copied(alloc)?,
+                right: other.copied(alloc)?,
             };
             levels.tell_by(alloc, id, &[equation], Given::Nothing)
         }
         Act::MakesProcedure {
             variable,
-            parameters,
-            body,
-            environment,
-        } => make_procedure(alloc, levels, id, variable, parameters, body, environment),
-        Act::MakesName { variable } => make_name(alloc, levels, id, variable),
-        Act::MakesCell { variable, content } => make_cell(alloc, levels, id, variable, content),
-        Act::Reads { cell, variable } => read_cell(alloc, levels, id, cell, variable),
+            procedure,
+        } => make_procedure(alloc, levels, id, variable.copied(alloc)?, procedure.get()),
+        Act::MakesName { variable } => make_name(alloc, levels, id, variable.copied(alloc)?),
+        Act::MakesCell { variable, content } => make_cell(
+            alloc,
+            levels,
+            id,
+            variable.copied(alloc)?,
+            content.copied(alloc)?,
+        ),
+        Act::Reads { cell, variable } => {
+            read_cell(alloc, levels, id, *cell, variable.copied(alloc)?)
+        }
         Act::Writes { cell, content } => {
-            levels.assign(alloc, id, cell, content)?;
+            levels.assign(alloc, id, *cell, content.copied(alloc)?)?;
             Ok(true)
         }
         Act::Exchanges {
             cell,
             variable,
             content,
-        } => exchange(alloc, levels, id, cell, variable, content),
-        Act::MakesPort { variable, stream } => make_port(alloc, levels, id, variable, stream),
-        Act::Sends { port, item } => send(alloc, levels, id, port, item),
+        } => exchange(
+            alloc,
+            levels,
+            id,
+            *cell,
+            variable.copied(alloc)?,
+            content.copied(alloc)?,
+        ),
+        Act::MakesPort { variable, stream } => make_port(
+            alloc,
+            levels,
+            id,
+            variable.copied(alloc)?,
+            stream.copied(alloc)?,
+        ),
+        Act::Sends { port, item } => send(alloc, levels, id, *port, item.copied(alloc)?),
         Act::Delays {
             procedure,
             variable,
         } => {
-            levels.delay(id, procedure, variable)?;
+            levels.delay(id, procedure.copied(alloc)?, variable.copied(alloc)?)?;
             Ok(true)
         }
         Act::Shows(_) => unreachable!(),

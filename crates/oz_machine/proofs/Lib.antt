@@ -3,6 +3,7 @@ pub mod DoingLaws
 pub mod NeedLaws
 pub mod RestLaws
 pub mod TurnLaws
+pub mod DeclareLaws
 pub mod SearchLaws
 pub mod QuietLaws
 pub mod StepEdits

@@ -2,14 +2,17 @@
 use Rattle.std.specs.Prelude.{ℕ, ◌≡◌, Bool, true, false, if◌then◌else◌, List, [], ◌∷◌, Option, Some, None, map, drop}
 use Rattle.oz_base.specs.Lists.{first}
 use Rattle.oz_base.specs.declared.names.Ident.{Ident}
+use Rattle.oz_language.specs.declared.kernel.Identifier.{Identifier}
 use Rattle.oz_language.specs.declared.kernel.Statement.{Statement}
 use Rattle.oz_semantics.specs.Names.{named}
 use Rattle.oz_semantics.specs.Configurations.{stack_of}
-use Rattle.oz_semantics.specs.Sights.{can_step}
-use Rattle.oz_semantics.specs.Statements.{stack_answer}
+use Rattle.oz_semantics.specs.Sights.{Sight, can_step}
+use Rattle.oz_semantics.specs.Answers as answers
+use Rattle.oz_semantics.specs.Statements.{code_answer, stack_answer}
 use Rattle.oz_semantics.specs.Readiness.{answer_ready}
 use Rattle.oz_semantics.specs.Spaces.{sight}
 use Rattle.oz_semantics.specs.Changes.{Change}
+use Rattle.oz_semantics.specs.declared.configuration.Frame.{Frame}
 use Rattle.oz_semantics.specs.declared.configuration.Thread.{Thread}
 use Rattle.oz_semantics.specs.declared.configuration.Layer.{Layer}
 use Rattle.builtins.specs.Answers.{act_of, IsAnswer}
@@ -46,6 +49,17 @@ abbrev pub IsHeadAnswer : List Statement → List Layer → List Ident → Optio
 IsHeadAnswer statements layers queue None = Unit {0}
 IsHeadAnswer statements layers queue (Some answer) =
     (id : Ident) → first queue ≡ Some id → IsAnswer (stack_answer (sight statements layers id.space) (stack_of layers id)) answer
+
+-- whatever is seen, a statement on a stack answers that it declares these for the body
+abbrev pub AnswersDeclaration : List Statement → Frame → List Identifier → List ℕ → Type 0
+AnswersDeclaration statements frame names body =
+    (s : Sight) → s.statements ≡ statements → code_answer s frame.environment frame.code ≡ answers.Acts (answers.Declares frame.environment names body)
+
+-- the statement on top of a stack does
+pub record IsDeclaration (statements : List Statement) (stack : List Frame) (names : List Identifier) (body : List ℕ) : Type 0 where
+  pub frame : Frame
+  pub top : Some frame ≡ first stack
+  pub answers : AnswersDeclaration statements frame names body
 
 -- an answer that shows a text
 abbrev pub shows : Answer → Bool

@@ -3,6 +3,7 @@
 #![tactic(auto)]
 
 mod course;
+mod declarations;
 mod following;
 mod machine;
 mod opening;

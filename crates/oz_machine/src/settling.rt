@@ -10,6 +10,7 @@ ghost use Rattle.oz_machine.specs.Courses.{asked, config_of, layers_after};
 ghost use Rattle.oz_machine.specs.Quiet.{top_steps, able_in, IsHeadAnswer};
 
 use crate::course::{Course, Due};
+use crate::declarations::declares;
 use builtins::Answer;
 use oz_base::{Copies, Ident};
 use oz_language::Statement;
@@ -135,7 +136,7 @@ fn join_both(
     queue.push_both(alloc, first, second)
 }
 
-/// A thread joins the queue, in which no other is, if it can step. Its answer is left in `answered`.
+/// A thread joins the queue, in which no other is, if it can step. Its answer is left in `answered`, but that of a declaration.
 fn join_alone(
     alloc: Global,
     statements: &[Statement],
@@ -144,11 +145,15 @@ fn join_alone(
     queue: &mut Queue,
     answered: &mut Option<Answer>,
 ) -> Result<(), AllocError>
-    requires { queue.old ≡ [] }
+    requires queue { queue.old ≡ [] }
+    requires answered { answered.old ≡ None }
     ensures ok { OnOk result (queue.new ≡ queue.old ++ able_in statements.now levels.now id.now) }
     ensures answer { OnOk result (IsHeadAnswer statements.now levels.now queue.new answered.new) }
     ensures err { OnErr result (queue.new ≡ queue.old) }
 {
+    if declares(statements, levels, id) {
+        return queue.push(id.copied(alloc)?);
+    }
     let answer = answered.insert(thread_answer(alloc, statements, levels, id)?);
     if let Answer::Rests = answer {
         return Ok(());

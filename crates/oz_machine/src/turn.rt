@@ -1,8 +1,9 @@
 //! One turn of the machine: the head of the queue makes one step.
 ghost use Rattle.std.specs.Prelude.{◌≡◌, ◌≤◌, ◌<◌, ◌+◌, ◌&&◌, not, true, false, is_some, length, position, List, IfOk, IfSome, OnErr, Some, MatchOption, option_copied};
 ghost use Rattle.oz_base.specs.Lists.{first};
+ghost use Rattle.oz_language.specs.declared.kernel.Kernel.{Kernel};
 ghost use Rattle.oz_language.specs.declared.kernel.Statement.{Statement};
-ghost use Rattle.oz_semantics.specs.Configurations.{is_of, layer_at};
+ghost use Rattle.oz_semantics.specs.Configurations.{is_of, layer_at, stack_of};
 ghost use Rattle.oz_semantics.specs.Answers as answers;
 ghost use Rattle.oz_semantics.specs.Steps.{without_top, after_answer, shown_by, stepped};
 ghost use Rattle.oz_semantics.specs.Schedule.{turn};
@@ -13,10 +14,11 @@ ghost use Rattle.space_core.specs.Telling.{has_below};
 ghost use Rattle.oz_machine.specs.declared.course.Due.TheVariants.{Nobody};
 ghost use Rattle.oz_machine.specs.Courses.{config_of, stepping, Keeps};
 ghost use Rattle.oz_acts.specs.Doings.{is_quiet, is_shown};
-ghost use Rattle.oz_machine.specs.Quiet.{IsHeadAnswer, KeepsHead, shows};
+ghost use Rattle.oz_machine.specs.Quiet.{IsDeclaration, IsHeadAnswer, KeepsHead, shows};
 ghost use Rattle.oz_machine.specs.Turns.{cost_of, CostsWithin, HasNotEnded, IsTurn};
 
 use crate::course::Course;
+use crate::declarations::declaration;
 use crate::following::{follow, go_on};
 use crate::quiet::go_on_quietly;
 use crate::raising::{raise, raise_kind};
@@ -25,7 +27,7 @@ use crate::told::go_on_told;
 use builtins::{Act, Answer};
 use oz_acts::{act, is_quiet, started, take_off};
 use oz_base::{Copies, Ident, Sequence};
-use oz_language::Kernel;
+use oz_language::{Identifier, Kernel};
 use oz_semantics::{RaiseKind, Stepped};
 use space_core::Levels;
 use std::alloc::{AllocError, Global};
@@ -215,6 +217,79 @@ fn step_as(
     Ok(Some(make_step(alloc, kernel, id, answer, kept, course)?))
 }
 
+/// The thread makes the declaration on top of its stack.
+fn declare(
+    alloc: Global,
+    id: &Ident,
+    names: &[Identifier],
+    body: &[u32],
+    kept: bool,
+    course: &mut Course,
+) -> Result<Stepped, AllocError>
+    requires head { first course.old.queue ≡ Some id.now }
+    requires there { is_some (layer_at course.old.levels id.now.space) ≡ true }
+    ensures turn { (k : Kernel) → KeepsHead k.statements id.now kept course.old → IsDeclaration k.statements (stack_of course.old.levels id.now) names.now body.now
+        → IfOk result (λ made. stepped k id.now (stepping course.old) ≡ (made, config_of k.statements course.new)) }
+    ensures cost { IfOk result (λ made. cost_of made ≡ 1) }
+    ensures err { OnErr result (course.new ≡ course.old) }
+{
+    course.levels.declare_in(alloc, id, names, body)?;
+    if kept {
+        return Ok(go_on_quietly(id, None, 1, course));
+    }
+    course.levels.consistent();
+    Ok(go_on(id, 1, course))
+}
+
+/// A step of the thread at the head of the queue, whose answer is made now.
+fn step_answering(
+    alloc: Global,
+    kernel: &Kernel,
+    place: usize,
+    id: &Ident,
+    kept: bool,
+    course: &mut Course,
+    fuel: u64,
+) -> Result<Option<Stepped>, AllocError>
+    requires within { place < length course.old.levels }
+    requires place { Some place ≡ position (is_of id.now.space) course.old.levels }
+    requires head { first course.old.queue ≡ Some id.now }
+    requires kept { KeepsHead kernel.now.statements id.now kept course.old }
+    requires fuel { 1 ≤ fuel }
+    ensures turn { IfOk result (IsTurn (stepped kernel.now id.now (stepping course.old)) fuel (config_of kernel.now.statements course.old) (config_of kernel.now.statements course.new)) }
+    ensures cost { IfOk result (λ turned. IfSome turned (CostsWithin fuel)) }
+    ensures err { OnErr result (course.new ≡ course.old) }
+{
+    let statements = kernel.statements.as_slice();
+    let mut answer = top_answer(alloc, statements, &course.levels, place, id)?;
+    step_as(alloc, kernel, place, id, &mut answer, kept, course, fuel)
+}
+
+/// A step of the thread at the head of the queue, whose answer was not made. A declaration needs none.
+fn step_anew(
+    alloc: Global,
+    kernel: &Kernel,
+    place: usize,
+    id: &Ident,
+    kept: bool,
+    course: &mut Course,
+    fuel: u64,
+) -> Result<Option<Stepped>, AllocError>
+    requires within { place < length course.old.levels }
+    requires place { Some place ≡ position (is_of id.now.space) course.old.levels }
+    requires head { first course.old.queue ≡ Some id.now }
+    requires kept { KeepsHead kernel.now.statements id.now kept course.old }
+    requires fuel { 1 ≤ fuel }
+    ensures turn { IfOk result (IsTurn (stepped kernel.now id.now (stepping course.old)) fuel (config_of kernel.now.statements course.old) (config_of kernel.now.statements course.new)) }
+    ensures cost { IfOk result (λ turned. IfSome turned (CostsWithin fuel)) }
+    ensures err { OnErr result (course.new ≡ course.old) }
+{
+    match declaration(kernel.statements.as_slice(), &course.levels, id) {
+        None => step_answering(alloc, kernel, place, id, kept, course, fuel),
+        Some((names, body)) => Ok(Some(declare(alloc, id, names, body, kept, course)?)),
+    }
+}
+
 /// A step of the thread at the head of the queue. Its answer was made already, or it is made now. None exactly where the step costs more
 /// than the fuel: it is not made, and nothing changes.
 fn step_of(
@@ -240,11 +315,7 @@ fn step_of(
     };
     match answered {
         Some(answer) => step_as(alloc, kernel, place, id, answer, kept, course, fuel),
-        None => {
-            let statements = kernel.statements.as_slice();
-            let mut answer = top_answer(alloc, statements, &course.levels, place, id)?;
-            step_as(alloc, kernel, place, id, &mut answer, kept, course, fuel)
-        }
+        None => step_anew(alloc, kernel, place, id, kept, course, fuel),
     }
 }
 

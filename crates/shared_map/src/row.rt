@@ -26,31 +26,36 @@ pub struct Row<V> {
 
 /// One of two, by a test.
 #[inline(always)]
-pub fn either<'a, T>(first: bool, a: &'a T, b: &'a T) -> &'a T
+fn either<'a, T>(first: bool, a: &'a T, b: &'a T) -> &'a T
     ensures { result.now ≡ cond first a.now b.now }
 {
     if first { a } else { b }
 }
 
+/// One of four, by its number.
+#[inline(always)]
+pub fn one_of<'a, T>(index: u64, a: &'a T, b: &'a T, c: &'a T, d: &'a T) -> &'a T
+    requires { index < 4 }
+    ensures { result.now ≡ choice index a.now b.now c.now d.now d.now }
+{
+    let even = index & 1 == 0;
+    either(index < 2, either(even, a, b), either(even, c, d))
+}
+
 impl<V> Four<V> {
     #[inline(always)]
     fn at(&self, index: u64) -> &Option<V>
+        requires { index < 4 }
         ensures { result.now ≡ choice index self.now.a self.now.b self.now.c self.now.d self.now.d }
     {
-        either(
-            index < 2,
-            either(index == 0, &self.a, &self.b),
-            either(index == 2, &self.c, &self.d),
-        )
+        one_of(index, &self.a, &self.b, &self.c, &self.d)
     }
 
     #[inline(always)]
     fn get(&self, key: u64) -> Option<&V>
+        requires { key < 4 }
         ensures { option_copied result ≡ four_at self.now key }
     {
-        if key > 3 {
-            return None;
-        }
         self.at(key).as_ref()
     }
 
@@ -92,23 +97,18 @@ fn place(key: u64) -> (u64, u64)
 impl<V> Row<V> {
     #[inline(always)]
     fn at(&self, index: u64) -> &Four<V>
+        requires { index < 4 }
         ensures { result.now ≡ choice index self.now.a self.now.b self.now.c self.now.d self.now.d }
     {
-        either(
-            index < 2,
-            either(index == 0, &self.a, &self.b),
-            either(index == 2, &self.c, &self.d),
-        )
+        one_of(index, &self.a, &self.b, &self.c, &self.d)
     }
 
     #[inline(always)]
     pub fn get(&self, key: u64) -> Option<&V>
+        requires { key < 16 }
         ensures { option_copied result ≡ row_at self.now key }
     {
         let (index, rest) = place(key);
-        if index > 3 {
-            return None;
-        }
         self.at(index).get(rest)
     }
 

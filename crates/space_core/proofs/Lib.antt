@@ -17,5 +17,6 @@ pub mod SilentLaws
 pub mod TreeAnswers
 pub mod StackLaws
 pub mod LayerLaws
+pub mod DeclareLaws
 pub mod AdvanceLaws
 pub mod CatchLaws

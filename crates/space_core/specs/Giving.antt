@@ -1,12 +1,14 @@
 -- What a step makes of the layer of its space besides what it tells.
-use Rattle.std.specs.Prelude.{ℕ, ◌+◌, List, [], ◌∷◌, ◌++◌, drop, slice_set}
+use Rattle.std.specs.Prelude.{ℕ, ◌+◌, List, [], ◌∷◌, ◌++◌, drop, length, slice_set}
 use Rattle.oz_base.specs.declared.names.Ident.{Ident}
-use Rattle.oz_semantics.specs.Configurations.{with_frames, giving_out, spawning, with_content}
+use Rattle.oz_language.specs.declared.kernel.Identifier.{Identifier}
+use Rattle.oz_semantics.specs.Configurations.{fresh_variables, with_frames, giving_out, spawning, with_content}
 use Rattle.oz_semantics.specs.declared.configuration.Frame.{Frame}
 use Rattle.oz_semantics.specs.declared.configuration.Layer.{Layer}
 use Rattle.oz_semantics.specs.declared.configuration.Next.{Next}
 use Rattle.cells_ports.specs.Objects.{Contents}
 use Rattle.space_core.specs.Levels.{replacing}
+use Rattle.space_core.specs.Stacks.{declared_on}
 use Rattle.space_core.specs.declared.given.Given.{Given}
 use Rattle.space_core.specs.declared.given.Given.TheVariants.{Nothing, Variables, Procedure, Name, Cell, Content, Port, End}
 use Rattle.space_core.specs.declared.level.Level.{Level}
@@ -69,6 +71,10 @@ after_giving given l = record l { numbers = numbers_after given l.numbers; objec
 -- the statement on top of a thread's stack gave way to these, and so many variables were given out
 abbrev pub declaring : ℕ → List Frame → ℕ → Layer → Layer
 declaring number frames count l = giving_out count (with_frames number (replacing frames) l)
+
+-- the statement on top of a thread's stack gave way to a body, in which the identifiers stand for new variables
+abbrev pub declaring_in : ℕ → List Identifier → List ℕ → Layer → Layer
+declaring_in number names body l = giving_out (length names) (with_frames number (declared_on names (fresh_variables l (length names)) body) l)
 
 -- the statement on top of a thread's stack was taken off, and a thread with these began
 abbrev pub spawning_by : ℕ → List Frame → Layer → Layer

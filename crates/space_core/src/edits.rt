@@ -5,15 +5,17 @@ ghost use Rattle.oz_semantics.specs.Configurations.{thread_at, frames_in, with_f
 ghost use Rattle.space_core.specs.Firing.{delaying};
 ghost use Rattle.space_core.specs.Levels.{replacing};
 ghost use Rattle.space_core.specs.Shown.{IsQuiet};
-ghost use Rattle.space_core.specs.Giving.{numbers_after, objects_after, after_giving, declaring, spawning_by, assigning};
+ghost use Rattle.space_core.specs.Giving.{numbers_after, objects_after, after_giving, declaring, declaring_in, spawning_by, assigning};
 ghost use Rattle.space_core.specs.Stacks.{cut_out};
 ghost use Rattle.space_core.specs.Unwinding.{IsLevelCaught};
 
+use crate::declarations::number_after;
 use crate::given::Given;
 use crate::level::{Level, Numbers};
 use crate::stacks::Landing;
 use cells_ports::Objects;
 use oz_base::{Copies, Ident};
+use oz_language::Identifier;
 use oz_semantics::{Frame, Trigger};
 use std::alloc::{AllocError, Global};
 
@@ -178,6 +180,25 @@ pub fn declare(
 {
     let next = level.numbers.variable.checked_add(count).ok_or(AllocError)?;
     level.threads.replace_top(number, frames)?;
+    level.numbers.variable = next;
+    Ok(())
+}
+
+/// The statement on top of a thread's stack gives way to a body, in which the identifiers stand for new variables.
+pub fn declare_in(
+    alloc: Global,
+    level: &mut Level,
+    number: u64,
+    names: &[Identifier],
+    body: &[u32],
+) -> Result<(), AllocError>
+    ensures ok { OnOk result (IsQuiet (declaring_in number names.now body.now) level.old level.new) }
+    ensures err { OnErr result (level.new ≡ level.old) }
+{
+    let from = level.numbers.variable;
+    let next = number_after(from, names.len())?;
+    let threads = &mut level.threads;
+    threads.declare_in(alloc, number, names, &level.space, from, body)?;
     level.numbers.variable = next;
     Ok(())
 }

@@ -1,5 +1,5 @@
 //! The layers.
-ghost use Rattle.std.specs.Prelude.{◌≡◌, ◌<◌, ◌∷◌, [], true, length, drop, slice_get, position, is_some, IfOk, OnOk, OnErr, option_copied};
+ghost use Rattle.std.specs.Prelude.{◌≡◌, ◌<◌, ◌∷◌, [], Some, true, length, drop, slice_get, position, is_some, IfOk, OnOk, OnErr, option_copied};
 ghost use Rattle.oz_base.specs.Lists.{first};
 ghost use Rattle.oz_semantics.specs.Names.{parent_of};
 ghost use Rattle.oz_semantics.specs.Configurations.{is_of, layer_at, layer_of, view, ancestor_variables, stack_of, new_layer, next_child, in_layer, with_frames, without_terminated, giving_out, spawning, failed, raised_by, ending};
@@ -7,7 +7,9 @@ ghost use Rattle.oz_semantics.specs.Spaces.{alike_on, is_held};
 ghost use Rattle.oz_semantics.specs.Edits.{created};
 ghost use Rattle.oz_semantics.specs.Settling.{inconsistent_spaces};
 ghost use Rattle.oz_semantics.specs.Changes.{Pushes, Spawns, GivesOut, Holds, AddsTrigger, changed_all};
+ghost use Rattle.oz_semantics.specs.Effects.{declared_changes};
 ghost use Rattle.oz_semantics.specs.Steps.{without_top};
+ghost use Rattle.oz_semantics.specs.declared.configuration.Frame.{Frame};
 ghost use Rattle.space_core.specs.Levels.{OfLayer, IsToldTo, replacing};
 ghost use Rattle.space_core.specs.Telling.{has_below};
 ghost use Rattle.need_laws.specs.Needs.{has_triggers};
@@ -25,6 +27,7 @@ use crate::stacks::Landing;
 use crate::tree::{self, add_level, child_count, child_of, drop_below, store_above};
 use crate::{edits, silence, telling};
 use oz_base::{Copies, Ident, SpaceName, copies_of};
+use oz_language::Identifier;
 use oz_semantics::{Frame, Next, Status, Tell, Thread, Trigger};
 use std::alloc::{AllocError, Global};
 use std::marker::Model;
@@ -331,6 +334,25 @@ impl Levels {
             return Ok(());
         };
         edits::declare(&mut self.levels[place], id.number, frames, count)
+    }
+
+    /// The statement on top of a thread's stack is taken off, and a body goes on in its place, in which the identifiers stand for new
+    /// variables of the thread's space. It refuses for want of memory, or where the space gave out 2^64 - 1.
+    pub fn declare_in(
+        &mut self,
+        alloc: Global,
+        id: &Ident,
+        names: &[Identifier],
+        body: &[u32],
+    ) -> Result<(), AllocError>
+        ensures ok { (frame : Frame) → Some frame ≡ first (stack_of self.old id.now)
+            → OnOk result (self.new ≡ changed_all id.now (declared_changes (layer_of self.old id.now.space) frame.environment names.now body.now) (without_top id.now self.old)) }
+        ensures err { OnErr result (self.new ≡ self.old) }
+    {
+        let Some(place) = level_place(self.levels.as_slice(), &id.space) else {
+            return Ok(());
+        };
+        edits::declare_in(alloc, &mut self.levels[place], id.number, names, body)
     }
 
     /// The statement on top of a thread's stack is taken off, and a new thread of its space begins with these. It refuses for want of

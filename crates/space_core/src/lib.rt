@@ -3,6 +3,7 @@
 #![tactic(auto)]
 
 mod advances;
+mod declarations;
 mod edits;
 mod firing;
 mod given;

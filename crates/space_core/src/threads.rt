@@ -1,15 +1,19 @@
 //! The threads of one space.
-ghost use Rattle.std.specs.Prelude.{◌≡◌, ◌<◌, ◌≤◌, ◌+◌, ◌++◌, List, [], drop, length, filter, slice_index_or, slice_set, IfOk, OnOk, OnErr, MatchOption, option_copied};
+ghost use Rattle.std.specs.Prelude.{◌≡◌, ◌<◌, ◌≤◌, ◌+◌, ◌++◌, List, [], drop, length, map, filter, slice_index_or, slice_set, IfOk, OnOk, OnErr, MatchOption, option_copied};
 ghost use Rattle.oz_base.specs.Lists.{first, is_empty};
+ghost use Rattle.std.specs.List.{range_with_len};
+ghost use Rattle.oz_semantics.specs.Names.{named};
 ghost use Rattle.oz_semantics.specs.Configurations.{is_numbered, thread_at, frames_in};
 ghost use Rattle.oz_semantics.specs.declared.configuration.Thread.{Thread};
 ghost use Rattle.space_core.specs.Levels.{replacing};
 ghost use Rattle.space_core.specs.Places.{IsAbsent, IsFirst};
-ghost use Rattle.space_core.specs.Stacks.{IsLanding, cut_out};
+ghost use Rattle.space_core.specs.Stacks.{IsLanding, cut_out, declared_on};
 ghost use Rattle.space_core.specs.Threads.{goes_on, with_stack, with_new, without_ended, IsPopped};
 
+use crate::declarations::declare;
 use crate::stacks::{Landing, nearest_mark};
-use oz_base::{Copies, Ident, Sequence, Stack};
+use oz_base::{Copies, Ident, Sequence, SpaceName, Stack};
+use oz_language::Identifier;
 use oz_semantics::{Frame, Thread};
 use std::alloc::{AllocError, Global};
 use std::marker::Model;
@@ -122,6 +126,29 @@ impl Threads {
             return Ok(());
         };
         self.threads.get_mut(place).frames.replace_top(frames)?;
+        self.ended |= is_terminated(self.threads.get(place));
+        Ok(())
+    }
+
+    /// The statement on top of a thread's stack gives way to a body, in which the identifiers stand for as many variables of the space,
+    /// from this number on.
+    pub fn declare_in(
+        &mut self,
+        alloc: Global,
+        number: u64,
+        names: &[Identifier],
+        space: &SpaceName,
+        from: u64,
+        body: &[u32],
+    ) -> Result<(), AllocError>
+        ensures ok { OnOk result (self.new ≡ with_stack number (declared_on names.now (map (named space.now) (range_with_len from (length names.now))) body.now) self.old) }
+        ensures err { OnErr result (self.new ≡ self.old) }
+    {
+        let Some(place) = self.place(number) else {
+            return Ok(());
+        };
+        let stack = &mut self.threads.get_mut(place).frames;
+        declare(alloc, stack, names, space, from, body)?;
         self.ended |= is_terminated(self.threads.get(place));
         Ok(())
     }

@@ -15,7 +15,7 @@ use crate::branches::{match_pattern, test};
 use crate::calls::{builtin_called, called};
 use crate::frames::{frames_of, guard};
 use crate::variables::{Arguments, all_bound, bound, look};
-use builtins::{Act, Answer};
+use builtins::{Act, Answer, Closure, Declaration};
 use environments::Environment;
 use oz_base::{Copies, Sequence, Shared, SpaceName};
 use oz_language::{Constant, Identifier, Literal, Operation, Piece, Statement};
@@ -81,11 +81,14 @@ fn makes_procedure(
 ) -> Result<Answer, AllocError>
     ensures { IfOk result (λ a. answer_of a ≡ answers.Acts (answers.MakesProcedure (bound environment.now name) parameters.now body.now environment.now)) }
 {
-    Ok(Answer::Acts(Act::MakesProcedure {
-        variable: bound(alloc, environment, name)?,
+    let closure = Closure {
         parameters: parameters.copied(alloc)?,
         body: body.copied(alloc)?,
         environment: environment.copied(alloc)?,
+    };
+    Ok(Answer::Acts(Act::MakesProcedure {
+        variable: bound(alloc, environment, name)?,
+        procedure: Shared::new(alloc, closure)?,
     }))
 }
 
@@ -98,11 +101,12 @@ fn declares(
 ) -> Result<Answer, AllocError>
     ensures { IfOk result (λ a. answer_of a ≡ answers.Acts (answers.Declares environment.now names.now body.now)) }
 {
-    Ok(Answer::Acts(Act::Declares {
+    let declaration = Declaration {
         environment: environment.copied(alloc)?,
         names: names.copied(alloc)?,
         body: body.copied(alloc)?,
-    }))
+    };
+    Ok(Answer::Acts(Act::Declares(Shared::new(alloc, declaration)?)))
 }
 
 /// `{P X ..}`

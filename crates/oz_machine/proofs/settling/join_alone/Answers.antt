@@ -13,7 +13,7 @@ returns-clause-ok c =
     let id = c.args.id.now in
     let own = subst (IsAnswer (stack_answer (sight c.args.statements.now c.args.levels.now id.space) (stack_of c.args.levels.now id))) (sym c.insert-answer.ensures.value) c.in_ok-thread_answer.ensures in
     c.in_ok-push.ensures.ok
-    ∙ ap (λ (i : Ident). c.args.queue.now ++ i ∷ []) c.in_ok-copied.ensures
+    ∙ ap (λ (i : Ident). c.args.queue.now ++ i ∷ []) c.in_ok-copied-2.ensures
     ∙ ap (λ (ids : List Ident). c.args.queue.now ++ ids) (alone_joins c.args.statements.now c.args.levels.now id c.insert-answer.result.now own c.in_default.not-Rests)
 
 pub returns-in-Rests-clause-ok : goal.returns-in-Rests-clause-ok
@@ -26,7 +26,7 @@ returns-in-Rests-clause-ok c =
 pub returns-clause-answer : goal.returns-clause-answer
 returns-clause-answer c =
     let id = c.args.id.now in
-    let queue = c.push.new.self in
+    let queue = c.push-2.new.self in
     let own = subst (IsAnswer (stack_answer (sight c.args.statements.now c.args.levels.now id.space) (stack_of c.args.levels.now id))) (sym c.insert-answer.ensures.value) c.in_ok-thread_answer.ensures in
-    let alone : queue ≡ id ∷ [] = c.in_ok-push.ensures.ok ∙ ap (λ (ids : List Ident). ids ++ c.in_ok-copied.field-0 ∷ []) c.requires ∙ ap (λ (i : Ident). i ∷ []) c.in_ok-copied.ensures in
+    let alone : queue ≡ id ∷ [] = c.in_ok-push.ensures.ok ∙ ap (λ (ids : List Ident). ids ++ c.in_ok-copied-2.field-0 ∷ []) c.requires.queue ∙ ap (λ (i : Ident). i ∷ []) c.in_ok-copied-2.ensures in
     alone_answer c.args.statements.now c.args.levels.now queue id c.insert-answer.result.now alone own

@@ -1,8 +1,7 @@
-use Rattle.std.proofs.Common.{◌∙◌, subst}
+use Rattle.std.proofs.Common.{◌∙◌}
 use Rattle.oz_semantics.specs.Configurations.{stack_of}
 use Rattle.oz_semantics.specs.Spaces.{sight}
 use Rattle.oz_semantics.specs.Statements.{stack_answer}
-use Rattle.builtins.specs.Answers.{IsAnswer}
 use Rattle.settle_laws.proofs.SettleLaws.{nothing_fails}
 use Rattle.oz_machine.specs.Courses.{stepping}
 use Rattle.oz_acts.proofs.PlaceLaws.{place_none}
@@ -23,12 +22,3 @@ returns-in-Some-answered-clause-turn c =
     let id = c.args.id.now in
     let layers = c.args.course.now.levels in
     c.step_as.ensures.turn (stack_answer (sight k.statements layers id.space) (stack_of layers id)) ((rw c.in-Some-answered.is at c.requires.answered) id c.requires.head)
-
-pub returns-in_ok-answer-in-None-clause-turn : goal.returns-in_ok-answer-in-None-clause-turn
-returns-in_ok-answer-in-None-clause-turn c =
-    let k = c.args.kernel.now in
-    let id = c.args.id.now in
-    let layers = c.args.course.now.levels in
-    let answer = c.in_ok-answer-in-None.answer in
-    c.step_as-in-None.ensures.turn (stack_answer (sight k.statements layers id.space) (stack_of layers id))
-    (subst (λ st. IsAnswer (stack_answer (sight st layers id.space) (stack_of layers id)) answer) c.as_slice-statements.ensures c.in_ok-answer-in-None.ensures)

@@ -1,0 +1,24 @@
+use Rattle.std.proofs.Common.{◌∙◌, refl}
+use Rattle.oz_semantics.specs.Configurations.{layer_of}
+use Rattle.oz_semantics.specs.Effects.{declared_changes}
+use Rattle.settle_laws.proofs.SettleLaws.{nothing_fails}
+use Rattle.oz_machine.specs.Courses.{stepping}
+use Rattle.oz_machine.proofs.DeclareLaws.{declaration_made}
+use Rattle.oz_machine.proofs.turn.declare.Goals as goal
+
+pub returns-then-kept-clause-turn : goal.returns-then-kept-clause-turn
+returns-then-kept-clause-turn c = λ k keeps d.
+    let id = c.args.id.now in
+    let now = c.args.course.now in
+    let names = c.args.names.now in
+    let body = c.args.body.now in
+    let made = c.in_ok-declare_in.ensures.ok d.frame d.top in
+    declaration_made k id names body (stepping now) d c.declare_in.new.self c.requires.there made
+    ∙ c.go_on_quietly.ensures.turn k.statements now.levels (declared_changes (layer_of now.levels id.space) d.frame.environment names body) (keeps c.if-kept.true) made refl
+
+pub returns-clause-turn : goal.returns-clause-turn
+returns-clause-turn c = λ k keeps d.
+    let id = c.args.id.now in
+    let new = c.declare_in.new.self in
+    declaration_made k id c.args.names.now c.args.body.now (stepping c.args.course.now) d new c.requires.there (c.in_ok-declare_in.ensures.ok d.frame d.top)
+    ∙ c.go_on.ensures.turn k.statements new (nothing_fails id.space new c.consistent.ensures)
