@@ -1,6 +1,6 @@
 -- Edits of the tree of spaces (CTM 12.5; Schulte 4): creation, injection, commitment, copies and merging. None of them looks at the queue,
 -- which follows after the step.
-use Rattle.std.specs.Prelude.{ℕ, ◌+◌, ◌-◌, not, if◌then◌else◌, is_some, List, [], ◌∷◌, ◌++◌, Option, Some, None, map, filter, length, drop, slice_get, unwrap_or}
+use Rattle.std.specs.Prelude.{ℕ, ◌+◌, ◌-◌, Bool, not, if◌then◌else◌, is_some, List, [], ◌∷◌, ◌++◌, Option, Some, None, map, filter, length, drop, slice_get, unwrap_or}
 use Rattle.std.specs.List.{fold}
 use Rattle.oz_base.specs.Lists.{list_eq, edit_first}
 use Rattle.oz_base.specs.declared.names.Ident.{Ident}
