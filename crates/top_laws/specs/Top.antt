@@ -6,8 +6,7 @@ use Rattle.oz_language.specs.declared.kernel.Kernel.{Kernel}
 use Rattle.oz_semantics.specs.Names.{is_top}
 use Rattle.oz_semantics.specs.Configurations.{layer_at, layer_of, is_open, counting_child}
 use Rattle.oz_semantics.specs.Sights.{can_step}
-use Rattle.oz_semantics.specs.Readiness.{thread_ready}
-use Rattle.oz_semantics.specs.Spaces.{sight}
+use Rattle.oz_semantics.specs.Spaces.{thread_ready}
 use Rattle.oz_semantics.specs.Settling.{Turned}
 use Rattle.oz_semantics.specs.Schedule.{turn}
 use Rattle.oz_semantics.specs.Runs.{Ended, TopRaised, run}
@@ -22,7 +21,7 @@ use Rattle.turn_laws.specs.Kept.{IsKept}
 -- no thread of the top can step. Where it is not open none can, whatever their statements
 abbrev pub TopRests : List Statement → List Layer → Type 0
 TopRests statements layers =
-    is_open (layer_of layers []).status ≡ true → (t : Thread) → Contains (layer_of layers []).threads t → can_step (thread_ready (sight statements layers []) t) ≡ false
+    is_open (layer_of layers []).status ≡ true → (t : Thread) → Contains (layer_of layers []).threads t → can_step (thread_ready statements layers [] t) ≡ false
 
 -- the top is as it was
 abbrev pub IsSameTop : List Layer → List Layer → Type 0
