@@ -1,6 +1,7 @@
 pub mod Members
 pub mod NameLaws
 pub mod ViewLaws
+pub mod AnswerLaws
 pub mod SpacelessLaws
 pub mod TouchedLaws
 pub mod CoverLaws
