@@ -76,7 +76,7 @@ same_named_layer (n ∷ ls) l m e (inr a) (inr b) q = same_named_layer ls l m (a
 
 -- Names after edits
 
-names_edited : (test : Layer → Bool) (change : Layer → Layer) (ls : List Layer) → ((l : Layer) → find test ls ≡ Some l → (change l).space ≡ l.space) → names_of (edit_first test change ls) ≡ names_of ls
+pub names_edited : (test : Layer → Bool) (change : Layer → Layer) (ls : List Layer) → ((l : Layer) → find test ls ≡ Some l → (change l).space ≡ l.space) → names_of (edit_first test change ls) ≡ names_of ls
 names_edited test change [] h = refl
 names_edited test change (l ∷ ls) h = by (test l) h (names_edited test change ls)
   where
@@ -86,7 +86,7 @@ names_edited test change (l ∷ ls) h = by (test l) h (names_edited test change 
     by true g rest = ap (λ s. s ∷ names_of ls) (g l refl)
     by false g rest = ap (λ ss. l.space ∷ ss) (rest g)
 
-ascending_filter : (keep : Layer → Bool) (ls : List Layer) → is_ascending (names_of ls) ≡ true → is_ascending (names_of (filter keep ls)) ≡ true
+pub ascending_filter : (keep : Layer → Bool) (ls : List Layer) → is_ascending (names_of ls) ≡ true → is_ascending (names_of (filter keep ls)) ≡ true
 ascending_filter keep [] e = refl
 ascending_filter keep (l ∷ ls) e = by (keep l) (ascending_filter keep ls (and-right _ _ e))
   where
@@ -119,7 +119,7 @@ put_in {A = A} test new (y ∷ ys) x h = by (test y) h (put_in test new ys x)
     by false (inl e) rest = inl e
     by false (inr k) rest = inr (rest k)
 
-ascending_put : (new : Layer) (ls : List Layer) → is_ascending (names_of ls) ≡ true → ((m : Layer) → In m ls → m.space ≡ new.space → ⊥) → is_ascending (names_of (placed new ls)) ≡ true
+pub ascending_put : (new : Layer) (ls : List Layer) → is_ascending (names_of ls) ≡ true → ((m : Layer) → In m ls → m.space ≡ new.space → ⊥) → is_ascending (names_of (placed new ls)) ≡ true
 ascending_put new [] e fresh = refl
 ascending_put new (l ∷ ls) e fresh = by (space_lt new.space l.space) refl (ascending_put new ls (and-right _ _ e) (λ m h. fresh m (inr h)))
   where
@@ -188,7 +188,8 @@ module _ (space : List ℕ) (change : Layer → Layer) (layers : List Layer)
   begins_after t l h = elim (in_edit (is_of space) change layers l h) [
     | inl k ↦ t.begins l (contains-from_In layers l k)
     | inr r ↦ (let before = t.begins r.0 (contains-from_In layers r.0 (found_in (is_of space) change layers r.0 r.1).0) in
-        subst (λ (m : Layer). 1 ≤ m.next.child) (sym r.2) (omega (arith, before, (keeps r.0 r.1).1)))
+        let more = (keeps r.0 r.1).1 in
+        subst (λ (m : Layer). 1 ≤ m.next.child) (sym r.2) (omega (arith, before, more)))
   ]
 
   pub tree_changed : IsTree layers → IsTree changed
@@ -200,7 +201,7 @@ module _ (space : List ℕ) (change : Layer → Layer) (layers : List Layer)
 
 -- The end of a space
 
-below_child : (s : List ℕ) (n : ℕ) → is_below s (child_name s n) ≡ true
+pub below_child : (s : List ℕ) (n : ℕ) → is_below s (child_name s n) ≡ true
 below_child [] n = refl
 below_child (a ∷ s) n = and_both _ _ (eq-refl a) (below_child s n)
 
@@ -249,7 +250,7 @@ raise_tree space x layers t = end_tree space (raised_by x) layers (λ l. (refl, 
 
 -- A new space
 
-last_apart : (s t : List ℕ) (m n : ℕ) → child_name s m ≡ child_name t n → (s ≡ t) × (m ≡ n)
+pub last_apart : (s t : List ℕ) (m n : ℕ) → child_name s m ≡ child_name t n → (s ≡ t) × (m ≡ n)
 last_apart [] [] m n e = (refl, let k : m ≡ n = cc in k)
 last_apart [] (b ∷ []) m n e = cc
 last_apart [] (b ∷ c ∷ t) m n e = cc
