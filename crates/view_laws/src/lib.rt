@@ -3,24 +3,8 @@
 //! Each function does nothing: its contract states laws of the definitions.
 #![tactic(auto)]
 
-ghost use Rattle.view_laws.specs.Touched.{TouchedDecide, FirstsDecide, TouchedHold, UntouchedAlike, TouchesNothing, TouchesTwice};
 ghost use Rattle.view_laws.specs.Sights.{ChangeUnseen, QuietUnseen, TellSeen, EndUnseen, FailureUnseen, RaiseUnseen, CreationUnseen, CommitmentUnseen, ViewSplits};
 ghost use Rattle.view_laws.specs.Trees.{TreesLead, ChangeTree, EndTree, FailureTree, RaiseTree, CreationTree};
-ghost use Rattle.view_laws.specs.Spaceless.{SpacelessAnswer, SpacelessReady, QuietSpaceless, TellSpaceless};
-ghost use Rattle.view_laws.specs.Readies.{ReadinessStays, UntouchedUnmoved, ChangeReady, QuietReady};
-ghost use Rattle.view_laws.specs.Queues.{QueueExact, QueueOnce, QueueTells, QuietQueue};
-ghost use Rattle.view_laws.specs.Needs.{NothingFires};
-ghost use Rattle.view_laws.specs.Steps.{ChangesMade, StackMade, StepNumbered, StepNew, RunnableOnce, MoverTold, QuietSound, QuietSettles, ChangesSettle, StackSettle};
-
-/// What the touched variables decide: whether two views are alike, and whether a wait is for the ancestors. Nothing: it holds laws.
-pub fn touched_law()
-    ensures decide { TouchedDecide }
-    ensures firsts { FirstsDecide }
-    ensures waits { TouchedHold }
-    ensures untouched { UntouchedAlike }
-    ensures nothing { TouchesNothing }
-    ensures twice { TouchesTwice }
-{}
 
 /// What changes of layers do to what spaces see. Nothing: it holds laws.
 pub fn sight_law()
@@ -43,43 +27,4 @@ pub fn tree_law()
     ensures failure { FailureTree }
     ensures raised { RaiseTree }
     ensures creation { CreationTree }
-{}
-
-/// What a thread goes by where no space is a value. Nothing: it holds laws.
-pub fn spaceless_law()
-    ensures answer { SpacelessAnswer }
-    ensures ready { SpacelessReady }
-    ensures quiet { QuietSpaceless }
-    ensures tell { TellSpaceless }
-{}
-
-/// What a thread can do where more is told than before, and where a layer changes. Nothing: it holds laws.
-pub fn ready_law()
-    ensures stays { ReadinessStays }
-    ensures unmoved { UntouchedUnmoved }
-    ensures change { ChangeReady }
-    ensures quiet { QuietReady }
-{}
-
-/// What the queue tells of the layers. Nothing: it holds laws.
-pub fn queue_law()
-    ensures exact { QueueExact }
-    ensures once { QueueOnce }
-    ensures tells { QueueTells }
-    ensures quiet { QuietQueue }
-{}
-
-/// What a step that tells nothing leaves of the layers, and what follows it. Nothing: it holds laws.
-pub fn step_law()
-    ensures changes { ChangesMade }
-    ensures stack { StackMade }
-    ensures numbered { StepNumbered }
-    ensures new { StepNew }
-    ensures once { RunnableOnce }
-    ensures mover { MoverTold }
-    ensures sound { QuietSound }
-    ensures nothing_fires { NothingFires }
-    ensures quiet { QuietSettles }
-    ensures changes_settle { ChangesSettle }
-    ensures stack_settle { StackSettle }
 {}
