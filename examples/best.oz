@@ -1,6 +1,6 @@
 % Branch and bound, written with spaces. Whoever betters the best solution so far goes on: that is injected into each space.
 
-% The best solution X as best(X), or none; and how many spaces were looked at. {Better X Y} fails where Y is not better than X.
+% The best solution X as best(X), or none; and how many spaces it looked at. {Better X Y} fails where Y is no better than X.
 fun {Best Script Better}
    Looked={NewCell 0}
    fun {In S Found}
