@@ -122,7 +122,7 @@ in
    {Place Columns}
 end
 
-% A walk home from the market. The streets go round in circles, so there are walks of any length, and the leftmost is endless.
+% A walk home from the market. The streets go round in circles, so walks may be of any length, and the leftmost has no end.
 proc {Walk Places}
    proc {From Place Places}
       Rest
