@@ -22,3 +22,4 @@ pub mod StepLaws
 pub mod NumberLaws
 pub mod NeedLaws
 pub mod SettleLaws
+pub mod BehindLaws
