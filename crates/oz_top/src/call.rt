@@ -22,7 +22,6 @@ ghost use Rattle.oz_top.specs.Call.{answered, minded, answer_of, TextGives, AsTe
 
 use crate::answers::{Plan, answered};
 use crate::reply::add_decimal;
-use crate::served::first_unserved;
 use command_line::read_command;
 use kernel_trans::translate;
 use oz_language::{Command, Fault, RefusalKind};
@@ -30,6 +29,7 @@ use oz_lex::one_reading;
 use oz_outside::{Gate, READ_LIMIT, ReadError as SourceError, Sink, Source, read_all, write_all};
 use oz_reader::{Program, ReadError, read_program};
 use oz_replies::Cause;
+use served_tokens::first_unserved;
 use std::alloc::{AllocError, Global};
 
 fn make_plan(alloc: Global, cause: Cause, reply: &[u8]) -> Result<Plan, AllocError>

@@ -6,7 +6,6 @@ mod call;
 mod open;
 mod reply;
 mod search;
-mod served;
 
 pub use call::{Outcome, oz_call};
 
