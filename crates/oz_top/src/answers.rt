@@ -12,7 +12,6 @@ ghost use Rattle.oz_machine.specs.Answers.{IsRun};
 ghost use Rattle.oz_top.specs.Searching.{leaves_of, answer_of_leaves};
 ghost use Rattle.oz_top.specs.Call.{answered};
 
-use crate::reply::{add_decimal, add_leaves_reply, lines};
 use crate::search::depth_first;
 use kernel_form::kernel_text;
 use oz_base::{Ident, SpaceName};
@@ -20,6 +19,7 @@ use oz_language::{Command, Kernel};
 use oz_machine::{Machine, Ran};
 use oz_outside::Gate;
 use oz_replies::Cause;
+use reply_text::{add_decimal, add_leaves_reply, lines};
 use std::alloc::{AllocError, Global};
 
 /// A cause, and what is to be written for it.

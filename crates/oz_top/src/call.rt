@@ -21,7 +21,6 @@ ghost use Rattle.oz_replies.specs.declared.cause.Cause.{Cause};
 ghost use Rattle.oz_top.specs.Call.{answered, minded, answer_of, TextGives, AsText, IsCommand, Plans, IsDue, IsRead, IsBounded, Ends, Answers, IsExcused};
 
 use crate::answers::{Plan, answered};
-use crate::reply::add_decimal;
 use command_line::read_command;
 use kernel_trans::translate;
 use oz_language::{Command, Fault, RefusalKind};
@@ -29,6 +28,7 @@ use oz_lex::one_reading;
 use oz_outside::{Gate, READ_LIMIT, ReadError as SourceError, Sink, Source, read_all, write_all};
 use oz_reader::{Program, ReadError, read_program};
 use oz_replies::Cause;
+use reply_text::add_decimal;
 use served_tokens::first_unserved;
 use std::alloc::{AllocError, Global};
 

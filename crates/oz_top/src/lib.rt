@@ -4,7 +4,6 @@
 mod answers;
 mod call;
 mod open;
-mod reply;
 mod search;
 
 pub use call::{Outcome, oz_call};

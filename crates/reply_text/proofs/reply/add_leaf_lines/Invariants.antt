@@ -1,6 +1,6 @@
 use Rattle.std.proofs.Common.{◌≡◌, ◌+◌, ◌++◌, drop}
 use Rattle.oz_replies.specs.Replies.{leaf_lines}
-use Rattle.oz_top.proofs.reply.add_leaf_lines.Given as goal
+use Rattle.reply_text.proofs.reply.add_leaf_lines.Given as goal
 
 -- what was written so far, and then the lines of the other leaves
 abbrev pub invariant-loop-leaf : goal.invariant-loop-leaf
