@@ -1,3 +1,2 @@
-mod Opening
-mod Visiting
+mod TopAnswers
 mod Answering

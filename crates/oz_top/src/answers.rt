@@ -9,11 +9,12 @@ ghost use Rattle.oz_semantics.specs.Texts.{term_text};
 ghost use Rattle.machine_search.specs.Visits.{found_below};
 ghost use Rattle.oz_replies.specs.Replies.{shown_lines, spent, answer_of_raise, searched, all_answer, run_answer, kernel_answer};
 ghost use Rattle.oz_machine.specs.Answers.{IsRun};
-ghost use Rattle.oz_top.specs.Searching.{leaves_of, answer_of_leaves};
+ghost use Rattle.leaf_search.specs.Searching.{leaves_of};
+ghost use Rattle.oz_top.specs.Answers.{answer_of_leaves};
 ghost use Rattle.oz_top.specs.Call.{answered};
 
-use crate::search::depth_first;
 use kernel_form::kernel_text;
+use leaf_search::depth_first;
 use oz_base::{Ident, SpaceName};
 use oz_language::{Command, Kernel};
 use oz_machine::{Machine, Ran};

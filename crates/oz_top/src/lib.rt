@@ -3,8 +3,6 @@
 
 mod answers;
 mod call;
-mod open;
-mod search;
 
 pub use call::{Outcome, oz_call};
 

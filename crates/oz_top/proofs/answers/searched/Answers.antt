@@ -1,7 +1,7 @@
 use Rattle.std.proofs.Common.{◌≡◌, subst}
 use Rattle.std.specs.Prelude.{IfOk}
 use Rattle.oz_replies.specs.Replies.{Answer}
-use Rattle.oz_top.proofs.Answering.{script_searched}
+use Rattle.oz_top.proofs.TopAnswers.{script_searched}
 use Rattle.oz_top.proofs.answers.searched.Goals as goal
 
 pub returns-in-Some : goal.returns-in-Some

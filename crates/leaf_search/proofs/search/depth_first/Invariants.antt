@@ -1,7 +1,7 @@
 use Rattle.std.proofs.Common.{◌≡◌}
 use Rattle.machine_search.specs.Visits.{found_below, found_from}
-use Rattle.oz_top.specs.Searching.{waiting, AreOf}
-use Rattle.oz_top.proofs.search.depth_first.Given as goal
+use Rattle.leaf_search.specs.Searching.{waiting, AreOf}
+use Rattle.leaf_search.proofs.search.depth_first.Given as goal
 
 -- what was found so far, and then what the nodes that wait find
 abbrev pub invariant-nodes : goal.invariant-nodes

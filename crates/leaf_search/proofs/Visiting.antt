@@ -1,30 +1,27 @@
 -- What a visit of one node finds.
 use Rattle.std.proofs.Common.{◌≡◌, ◌≢◌, ℕ, zero, suc, ◌+◌, ◌-◌, ◌<◌, ◌≤◌, nat_le, Bool, true, false, if◌then◌else◌, List, ◌++◌, Option, Some, None, refl, sym, subst, ap, arith, ◌∙◌}
 use Rattle.oz_language.specs.declared.kernel.Kernel.{Kernel}
-use Rattle.oz_search.specs.Trees.{Found, in_steps, report}
+use Rattle.oz_search.specs.Trees.{report}
 use Rattle.oz_search.specs.Nodes.{Reached}
 use Rattle.oz_search.specs.declared.leaf.Outcome.{Outcome}
 use Rattle.oz_search.specs.declared.leaf.Outcome.TheVariants as outcome
 use Rattle.oz_search.specs.declared.tree.Kind.{Kind}
 use Rattle.oz_search.specs.declared.tree.Kind.TheVariants as kinds
-use Rattle.search_law.specs.NodeLaw.{leaves_alone}
 use Rattle.oz_semantics.specs.Spaces.{state}
 use Rattle.oz_semantics.specs.Runs as runs
-use Rattle.oz_semantics.specs.Search.{node_in_state, node_of_run, node_at, kind_of, state_text, script_variable, with_root, search_space, script_found}
+use Rattle.oz_semantics.specs.Search.{node_in_state, node_of_run, node_at, kind_of, state_text}
 use Rattle.oz_semantics.specs.declared.configuration.Configuration.{Configuration}
 use Rattle.oz_semantics.specs.declared.outcome.State.{State}
 use Rattle.oz_semantics.specs.declared.outcome.State.TheVariants as states
-use Rattle.machine_search.specs.Visits.{leaf_of, children_of, found_below, Visits}
+use Rattle.machine_search.specs.Visits.{leaf_of, children_of, Visits}
 use Rattle.machine_search.proofs.MakerLaws.{node_law, no_node_law}
-use Rattle.machine_search.proofs.SpaceLaws.{script_law}
-use Rattle.oz_replies.specs.Replies.{answer_of_tree}
 use Rattle.oz_machine.specs.Courses.{Loaded}
 use Rattle.oz_machine.specs.Answers.{IsRun, PrintsWithin}
 use Rattle.oz_machine.specs.declared.runs.Ran.{Ran}
 use Rattle.oz_machine.specs.declared.runs.Ran.TheVariants.{Ended, TopEnded, OutOfFuel}
 use Rattle.oz_machine.specs.declared.texts.Text.{Text}
-use Rattle.oz_top.specs.declared.open.Rest.{Rest}
-use Rattle.oz_top.specs.Searching.{is_running, Restless, RestsBy, children_by, leaf_by, leaves_of, answer_of_leaves}
+use Rattle.leaf_search.specs.declared.open.Rest.{Rest}
+use Rattle.leaf_search.specs.Searching.{is_running, Restless, RestsBy, children_by, leaf_by}
 
 -- ---- nodes that are there
 
@@ -133,21 +130,3 @@ unprinted m d space (suc f) r rest n run e h p =
     let ended = subst (λ (x : Ran). IsRun d space (suc f - 1) (runs.run m.kernel space m.config (suc f - 1)) x) h.0 run in
     unprinted_by m.kernel m.config d space f rest.steps s (subst (λ x. IsRun d space x (runs.run m.kernel space m.config x) (Ended (Some s) rest.steps)) one ended) e
     (subst (λ (q : Kernel). f - rest.steps < (state_text q.words d.config space s).nodes) e (subst (λ x. x - rest.steps < (state_text d.kernel.words d.config space s).nodes) one p))
-
--- ---- what the search finds
-
-alone_of : (shown : List ℕ) (budget : ℕ) (o : Found (List ℕ × Outcome)) → answer_of_tree shown budget o ≡ answer_of_leaves shown budget (leaves_of (leaves_alone o))
-alone_of shown budget None = refl
-alone_of shown budget (Some found) = refl
-
-steps_of : (fuel : ℕ) (o : Found Outcome) → leaves_of (in_steps fuel o) ≡ leaves_of o
-steps_of fuel None = refl
-steps_of fuel (Some found) = refl
-
--- the leaves of the traversal over configurations are those of the script
-pub script_answer : (k : Kernel) (c : Configuration) (shown : List ℕ) (budget fuel : ℕ)
-    → answer_of_leaves shown budget (leaves_of (found_below k (search_space c) (with_root k.statements script_variable c) fuel)) ≡ answer_of_tree shown budget (script_found k c fuel)
-script_answer k c shown budget fuel =
-    sym (alone_of shown budget (script_found k c fuel)
-    ∙ ap (λ (o : Found Outcome). answer_of_leaves shown budget (leaves_of o)) (script_law k c fuel)
-    ∙ ap (answer_of_leaves shown budget) (steps_of fuel (found_below k (search_space c) (with_root k.statements script_variable c) fuel)))

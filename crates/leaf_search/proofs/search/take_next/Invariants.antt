@@ -1,7 +1,7 @@
 use Rattle.std.proofs.Common.{◌≡◌, length}
 use Rattle.oz_language.specs.declared.kernel.Kernel.{Kernel}
-use Rattle.oz_top.specs.Searching.{waiting, AreOf}
-use Rattle.oz_top.proofs.search.take_next.Given as goal
+use Rattle.leaf_search.specs.Searching.{waiting, AreOf}
+use Rattle.leaf_search.proofs.search.take_next.Given as goal
 
 -- the nodes passed so far had no alternative left
 abbrev pub invariant-nodes : goal.invariant-nodes

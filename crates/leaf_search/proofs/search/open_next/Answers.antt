@@ -1,8 +1,8 @@
 use Rattle.std.proofs.Common.{◌∙◌, ◌+◌, refl, ap}
 use Rattle.oz_semantics.specs.Search.{chosen_in}
 use Rattle.oz_machine.specs.Courses.{Loaded}
-use Rattle.oz_top.proofs.Opening.{opens_next}
-use Rattle.oz_top.proofs.search.open_next.Goals as goal
+use Rattle.leaf_search.proofs.Opening.{opens_next}
+use Rattle.leaf_search.proofs.search.open_next.Goals as goal
 
 pub returns : goal.returns
 returns c =

@@ -4,7 +4,7 @@ ghost use Rattle.std.specs.Prelude.{◌≡◌, ◌+◌, ◌<◌, ◌++◌, ◌�
 ghost use Rattle.oz_language.specs.declared.kernel.Kernel.{Kernel};
 ghost use Rattle.oz_semantics.specs.Search.{node_at};
 ghost use Rattle.machine_search.specs.Visits.{Visits, found_below};
-ghost use Rattle.oz_top.specs.Searching.{waiting, AreOf, OpensNext, is_running, RestsBy, children_by, leaf_by, leaves_of};
+ghost use Rattle.leaf_search.specs.Searching.{waiting, AreOf, OpensNext, is_running, RestsBy, children_by, leaf_by, leaves_of};
 
 use crate::open::{Open, Rest};
 use oz_base::{Sequence, SpaceName, Stack};

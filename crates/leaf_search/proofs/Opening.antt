@@ -4,8 +4,8 @@ use Rattle.std.specs.List.{range_with_len}
 use Rattle.oz_semantics.specs.Search.{chosen_in}
 use Rattle.oz_semantics.specs.declared.configuration.Configuration.{Configuration}
 use Rattle.oz_machine.specs.Courses.{Loaded}
-use Rattle.oz_top.specs.declared.open.Open.{Open}
-use Rattle.oz_top.specs.Searching.{alternatives_of, waiting, AreOf, OpensNext}
+use Rattle.leaf_search.specs.declared.open.Open.{Open}
+use Rattle.leaf_search.specs.Searching.{alternatives_of, waiting, AreOf, OpensNext}
 
 first_waits : (f : ℕ → Configuration) (a n : ℕ) → 0 < n → map f (range_with_len a n) ≡ f a ∷ map f (range_with_len (a + 1) (n - 1))
 first_waits f a zero h = absurd (omega arith)

@@ -1,8 +1,8 @@
 use Rattle.std.proofs.Common.{◌∙◌, List, sym, subst, ap}
-use Rattle.oz_top.specs.declared.open.Open.{Open}
-use Rattle.oz_top.specs.Searching.{waiting, AreOf}
-use Rattle.oz_top.proofs.Opening.{none_left}
-use Rattle.oz_top.proofs.search.take_next.Goals as goal
+use Rattle.leaf_search.specs.declared.open.Open.{Open}
+use Rattle.leaf_search.specs.Searching.{waiting, AreOf}
+use Rattle.leaf_search.proofs.Opening.{none_left}
+use Rattle.leaf_search.proofs.search.take_next.Goals as goal
 
 pub returns-then-node-gt0 : goal.returns-then-node-gt0
 returns-then-node-gt0 c =

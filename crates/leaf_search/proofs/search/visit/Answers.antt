@@ -1,6 +1,6 @@
 use Rattle.std.proofs.Common.{◌∙◌}
-use Rattle.oz_top.proofs.Visiting.{visited, no_node, unprinted}
-use Rattle.oz_top.proofs.search.visit.Goals as goal
+use Rattle.leaf_search.proofs.Visiting.{visited, no_node, unprinted}
+use Rattle.leaf_search.proofs.search.visit.Goals as goal
 
 pub returns-in_default-clause-finds : goal.returns-in_default-clause-finds
 returns-in_default-clause-finds c =

@@ -5,9 +5,9 @@ use Rattle.oz_semantics.specs.Search.{node_at}
 use Rattle.oz_semantics.specs.declared.configuration.Configuration.{Configuration}
 use Rattle.machine_search.specs.Visits.{Visits, found_from}
 use Rattle.machine_search.proofs.VisitLaws.{begins_law, visits_law, stops_law}
-use Rattle.oz_top.specs.declared.open.Open.{Open}
-use Rattle.oz_top.specs.Searching.{waiting, AreOf, leaves_of}
-use Rattle.oz_top.proofs.search.depth_first.Goals as goal
+use Rattle.leaf_search.specs.declared.open.Open.{Open}
+use Rattle.leaf_search.specs.Searching.{waiting, AreOf, leaves_of}
+use Rattle.leaf_search.proofs.search.depth_first.Goals as goal
 
 pub returns-in_default : goal.returns-in_default
 returns-in_default g c =

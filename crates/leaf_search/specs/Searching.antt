@@ -9,13 +9,11 @@ use Rattle.oz_semantics.specs.Search.{chosen_in}
 use Rattle.oz_semantics.specs.declared.configuration.Configuration.{Configuration}
 use Rattle.oz_semantics.specs.declared.outcome.State.{State}
 use Rattle.oz_semantics.specs.declared.outcome.State.TheVariants as states
-use Rattle.oz_replies.specs.Replies.{Answer, spent, leaves_reply}
-use Rattle.oz_replies.specs.declared.cause.Cause.TheVariants as causes
 use Rattle.oz_machine.specs.Courses.{Loaded}
 use Rattle.oz_machine.specs.declared.runs.Ran.{Ran}
 use Rattle.oz_machine.specs.declared.runs.Ran.TheVariants as ran
-use Rattle.oz_top.specs.declared.open.Open.{Open}
-use Rattle.oz_top.specs.declared.open.Rest.{Rest}
+use Rattle.leaf_search.specs.declared.open.Open.{Open}
+use Rattle.leaf_search.specs.declared.open.Rest.{Rest}
 
 -- the alternatives of a node that wait, from the left
 abbrev pub alternatives_of : List ℕ → Open → List Configuration
@@ -80,8 +78,3 @@ leaf_by states.Running text = []
 abbrev pub leaves_of : Found Outcome → Option (List Outcome)
 leaves_of None = None
 leaves_of (Some found) = Some found.0
-
--- what is written of them, behind what was shown
-abbrev pub answer_of_leaves : List ℕ → ℕ → Option (List Outcome) → Answer
-answer_of_leaves shown budget None = spent shown budget
-answer_of_leaves shown budget (Some leaves) = (causes.Done, shown ++ leaves_reply leaves)
