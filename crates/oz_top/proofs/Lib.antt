@@ -1,2 +1,1 @@
-mod TopAnswers
 mod Answering

@@ -18,9 +18,10 @@ ghost use Rattle.oz_language.specs.declared.fault.RefusalKind.{RefusalKind};
 ghost use Rattle.oz_language.specs.declared.fault.Fault.{Fault};
 ghost use Rattle.oz_search.specs.declared.leaf.Outcome.{Outcome as Leaf};
 ghost use Rattle.oz_replies.specs.declared.cause.Cause.{Cause};
-ghost use Rattle.oz_top.specs.Call.{answered, minded, answer_of, TextGives, AsText, IsCommand, Plans, IsDue, IsRead, IsBounded, Ends, Answers, IsExcused};
+ghost use Rattle.command_answers.specs.Answers.{answered};
+ghost use Rattle.oz_top.specs.Call.{minded, answer_of, TextGives, AsText, IsCommand, Plans, IsDue, IsRead, IsBounded, Ends, Answers, IsExcused};
 
-use crate::answers::{Plan, answered};
+use command_answers::{Plan, answered};
 use command_line::read_command;
 use kernel_trans::translate;
 use oz_language::{Command, Fault, RefusalKind};

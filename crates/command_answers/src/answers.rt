@@ -10,8 +10,7 @@ ghost use Rattle.machine_search.specs.Visits.{found_below};
 ghost use Rattle.oz_replies.specs.Replies.{shown_lines, spent, answer_of_raise, searched, all_answer, run_answer, kernel_answer};
 ghost use Rattle.oz_machine.specs.Answers.{IsRun};
 ghost use Rattle.leaf_search.specs.Searching.{leaves_of};
-ghost use Rattle.oz_top.specs.Answers.{answer_of_leaves};
-ghost use Rattle.oz_top.specs.Call.{answered};
+ghost use Rattle.command_answers.specs.Answers.{answered, answer_of_leaves};
 
 use kernel_form::kernel_text;
 use leaf_search::depth_first;

@@ -3,8 +3,8 @@ use Rattle.std.proofs.lemmas.Result.{IfOk-weaker}
 use Rattle.std.specs.Prelude.{IfOk}
 use Rattle.oz_replies.specs.Replies.{Answer}
 use Rattle.oz_replies.specs.declared.cause.Cause.{Cause}
-use Rattle.oz_top.proofs.TopAnswers.{run_over, run_raised, run_ended}
-use Rattle.oz_top.proofs.answers.run_answer.Goals as goal
+use Rattle.command_answers.proofs.TopAnswers.{run_over, run_raised, run_ended}
+use Rattle.command_answers.proofs.answers.run_answer.Goals as goal
 
 pub returns-in-OutOfFuel : goal.returns-in-OutOfFuel
 returns-in-OutOfFuel c =

@@ -1,8 +1,8 @@
 use Rattle.std.proofs.Common.{◌≡◌, subst}
 use Rattle.std.specs.Prelude.{IfOk}
 use Rattle.oz_replies.specs.Replies.{Answer}
-use Rattle.oz_top.proofs.TopAnswers.{script_searched}
-use Rattle.oz_top.proofs.answers.searched.Goals as goal
+use Rattle.command_answers.proofs.TopAnswers.{script_searched}
+use Rattle.command_answers.proofs.answers.searched.Goals as goal
 
 pub returns-in-Some : goal.returns-in-Some
 returns-in-Some g c =

@@ -19,7 +19,7 @@ use Rattle.oz_machine.specs.Courses.{Loaded}
 use Rattle.oz_machine.specs.Answers.{IsRun, IsScript}
 use Rattle.oz_machine.specs.declared.runs.Ran.TheVariants as ran
 use Rattle.leaf_search.specs.Searching.{leaves_of}
-use Rattle.oz_top.specs.Answers.{answer_of_leaves}
+use Rattle.command_answers.specs.Answers.{answer_of_leaves}
 
 -- The tree of the script
 

@@ -1,8 +1,8 @@
 use Rattle.std.proofs.Common.{◌≡◌, subst}
 use Rattle.std.specs.Prelude.{IfOk}
 use Rattle.oz_replies.specs.Replies.{Answer}
-use Rattle.oz_top.proofs.TopAnswers.{all_over, all_raised, all_ended}
-use Rattle.oz_top.proofs.answers.all_answer.Goals as goal
+use Rattle.command_answers.proofs.TopAnswers.{all_over, all_raised, all_ended}
+use Rattle.command_answers.proofs.answers.all_answer.Goals as goal
 
 pub returns-in-OutOfFuel : goal.returns-in-OutOfFuel
 returns-in-OutOfFuel g c =
