@@ -1,5 +1,5 @@
 -- Which answer a text has, and what a call that ends with it has read and written.
-use Rattle.std.proofs.Common.{◌≡◌, ◌≢◌, ◌⊎◌, inl, inr, ℕ, ◌+◌, ◌-◌, ◌<◌, ◌≤◌, Bool, true, false, cond, List, [], ◌++◌, Option, Some, None, length, drop, nat_le, codes, refl, sym, subst, ap, arith, ◌∙◌, append-nil, length-append, lit≤}
+use Rattle.std.proofs.Common.{◌≡◌, ◌≢◌, ◌⊎◌, inl, inr, ℕ, ◌+◌, ◌<◌, ◌≤◌, Bool, true, false, cond, List, [], ◌++◌, Option, Some, None, length, drop, nat_le, codes, refl, sym, subst, ap, arith, ◌∙◌, append-nil, length-append, lit≤}
 use Rattle.std.proofs.KnownBytes.{Consumes-nil}
 use Rattle.std.proofs.lemmas.List.{drop_all}
 use Rattle.std.proofs.Math.Seq.{drop-append_seam}
@@ -9,7 +9,7 @@ use Rattle.oz_search.specs.declared.leaf.Outcome.{Outcome}
 use Rattle.oz_semantics.specs.Configurations.{view}
 use Rattle.oz_semantics.specs.Texts.{Printed, term_text}
 use Rattle.oz_semantics.specs.Runs.{Ran, Ended, TopRaised, Over, run, opening}
-use Rattle.oz_semantics.specs.Search.{has_script, search_space, with_root, script_found}
+use Rattle.oz_semantics.specs.Search.{has_script, script_found}
 use Rattle.oz_language.specs.Tokens.{Whole}
 use Rattle.oz_language.specs.Refusals.{Program, Accepts, IsRefused}
 use Rattle.oz_replies.specs.Served.{IsServed, unserved_in}
@@ -24,17 +24,10 @@ use Rattle.oz_language.specs.declared.kernel.Kernel.{Kernel}
 use Rattle.oz_language.specs.declared.fault.Fault.{Fault}
 use Rattle.oz_language.specs.declared.fault.RefusalKind.TheVariants as kinds
 use Rattle.oz_semantics.specs.declared.configuration.Configuration.{Configuration}
-use Rattle.oz_semantics.specs.declared.outcome.State.{State}
 use Rattle.oz_replies.specs.declared.cause.Cause.{Cause}
 use Rattle.oz_replies.specs.declared.cause.Cause.TheVariants as causes
-use Rattle.oz_machine.specs.Courses.{Loaded}
-use Rattle.oz_machine.specs.Answers.{IsRun, IsScript}
-use Rattle.machine_search.specs.Visits.{found_below}
-use Rattle.oz_base.specs.declared.names.Ident.{Ident}
-use Rattle.oz_top.specs.Searching.{leaves_of, answer_of_leaves}
-use Rattle.oz_top.proofs.Visiting.{script_answer}
-use Rattle.oz_machine.specs.declared.runs.Ran.TheVariants as ran
-use Rattle.oz_top.specs.Call.{Reading, Writing, answered, minded, answer_of, HasRead, ProgramGives, TextGives, ReadGives, AsText, IsCommand, Plans, IsDue, IsRead, IsBounded, Ends, IsExcused}
+use Rattle.command_answers.specs.Answers.{answered}
+use Rattle.oz_top.specs.Call.{Reading, Writing, minded, answer_of, HasRead, ProgramGives, TextGives, ReadGives, AsText, IsCommand, Plans, IsDue, IsRead, IsBounded, Ends, IsExcused}
 
 -- a text gives the plan of the call
 pub plans_text : (words : List (List ℕ)) (old new : Reading) (text : List ℕ) (k : Command) (cause : Cause) (reply : List ℕ) → IsCommand words k → HasRead old new text → TextGives text k cause reply → Plans words old new cause reply
@@ -283,66 +276,6 @@ whole_written : (old new : Option (List ℕ)) (before reply : List ℕ) → old 
 whole_written None new before reply o h = cc
 whole_written (Some xs) None before reply o h = absurd h
 whole_written (Some xs) (Some ys) before reply o h = let k : xs ≡ before = cc in ap Some (h ∙ ap (λ zs. zs ++ reply) k)
-
--- The top
-
--- the budget does not suffice for it
-over_top : (k : Kernel) (rest : Configuration → ℕ → Answer) (budget : ℕ) (m : Loaded) → IsRun m [] budget (run k [] (opening k) budget) ran.OutOfFuel
-    → spent (shown_lines m.config) budget ≡ answer_of_top k rest budget (run k [] (opening k) budget)
-over_top k rest budget m r = ap (answer_of_top k rest budget) (sym r)
-
--- an exception ends it
-raised_top : (k : Kernel) (rest : Configuration → ℕ → Answer) (budget steps : ℕ) (m : Loaded) (x : Ident) → m.kernel ≡ k → IsRun m [] budget (run k [] (opening k) budget) (ran.TopEnded x steps)
-    → answer_of_raise (shown_lines m.config) budget (budget - steps) (term_text m.kernel.words (view m.config.layers []) x) ≡ answer_of_top k rest budget (run k [] (opening k) budget)
-raised_top k rest budget steps m x e r =
-    ap (λ (q : Kernel). answer_of_raise (shown_lines m.config) budget (budget - steps) (term_text q.words (view m.config.layers []) x)) e
-    ∙ ap (answer_of_top k rest budget) (sym r.1)
-
--- it comes to rest
-ended_top : (k : Kernel) (rest : Configuration → ℕ → Answer) (budget steps : ℕ) (m : Loaded) (s : Option State) → IsRun m [] budget (run k [] (opening k) budget) (ran.Ended s steps)
-    → rest m.config (budget - steps) ≡ answer_of_top k rest budget (run k [] (opening k) budget)
-ended_top k rest budget steps m s r = ap (answer_of_top k rest budget) (sym r.1)
-
--- what `all` answers then
-pub all_over : (k : Kernel) (budget : ℕ) (m : Loaded) → IsRun m [] budget (run k [] (opening k) budget) ran.OutOfFuel → spent (shown_lines m.config) budget ≡ all_answer k budget
-unfolding all_answer
-all_over k budget m r = over_top k (searched k budget) budget m r
-
-pub all_raised : (k : Kernel) (budget steps : ℕ) (m : Loaded) (x : Ident) → m.kernel ≡ k → IsRun m [] budget (run k [] (opening k) budget) (ran.TopEnded x steps)
-    → answer_of_raise (shown_lines m.config) budget (budget - steps) (term_text m.kernel.words (view m.config.layers []) x) ≡ all_answer k budget
-unfolding all_answer
-all_raised k budget steps m x e r = raised_top k (searched k budget) budget steps m x e r
-
-pub all_ended : (k : Kernel) (budget steps : ℕ) (m : Loaded) (s : Option State) → m.kernel ≡ k → IsRun m [] budget (run k [] (opening k) budget) (ran.Ended s steps)
-    → searched m.kernel budget m.config (budget - steps) ≡ all_answer k budget
-unfolding all_answer
-all_ended k budget steps m s e r = ap (λ (x : Kernel). searched x budget m.config (budget - steps)) e ∙ ended_top k (searched k budget) budget steps m s r
-
--- and `run`
-abbrev shown_alone : Configuration → ℕ → Answer
-shown_alone c left = (causes.Done, shown_lines c)
-
-pub run_over : (k : Kernel) (budget : ℕ) (m : Loaded) → IsRun m [] budget (run k [] (opening k) budget) ran.OutOfFuel → spent (shown_lines m.config) budget ≡ run_answer k budget
-unfolding run_answer
-run_over k budget m r = over_top k shown_alone budget m r
-
-pub run_raised : (k : Kernel) (budget steps : ℕ) (m : Loaded) (x : Ident) → m.kernel ≡ k → IsRun m [] budget (run k [] (opening k) budget) (ran.TopEnded x steps)
-    → answer_of_raise (shown_lines m.config) budget (budget - steps) (term_text m.kernel.words (view m.config.layers []) x) ≡ run_answer k budget
-unfolding run_answer
-run_raised k budget steps m x e r = raised_top k shown_alone budget steps m x e r
-
-pub run_ended : (k : Kernel) (budget steps : ℕ) (m : Loaded) (s : Option State) → IsRun m [] budget (run k [] (opening k) budget) (ran.Ended s steps) → ◌≡◌ {A = Answer} (causes.Done, shown_lines m.config) (run_answer k budget)
-unfolding run_answer
-run_ended k budget steps m s r = ended_top k shown_alone budget steps m s r
-
--- the tree of the script is searched
-pub script_searched : (m : Loaded) (budget left : ℕ) (x : Ident) → IsScript m (Some x)
-    → ◌≡◌ {A = Answer} (answer_of_leaves (shown_lines m.config) budget (leaves_of (found_below m.kernel (search_space m.config) (with_root m.kernel.statements x m.config) left)))
-    (searched m.kernel budget m.config left)
-script_searched m budget left x h =
-    ap (λ (y : Ident). answer_of_leaves (shown_lines m.config) budget (leaves_of (found_below m.kernel (search_space m.config) (with_root m.kernel.statements y m.config) left))) h.1
-    ∙ script_answer m.kernel m.config (shown_lines m.config) budget left
-    ∙ ap (λ b. cond b (answer_of_tree (shown_lines m.config) budget (script_found m.kernel m.config left)) (causes.NoScript, shown_lines m.config ++ line (codes "no script"))) (sym h.0)
 
 -- The whole call
 

@@ -1,3 +1,1 @@
-mod Opening
-mod Visiting
 mod Answering

@@ -4,14 +4,14 @@ use Rattle.std.specs.Io.KnownBytes.{Appends, Consumes, IsAtEnd}
 use Rattle.oz_outside.specs.Counts.{Rose}
 use Rattle.oz_language.specs.Refusals.{Program, Accepts, IsRefused}
 use Rattle.oz_replies.specs.Served.{unserved_in}
-use Rattle.oz_language.specs.Translation.{kernel_of}
 use Rattle.oz_language.specs.Commands.{Spells, IsUsage}
 use Rattle.oz_language.specs.declared.command.Command.{Command}
 use Rattle.oz_language.specs.declared.command.Command.TheVariants as command
-use Rattle.oz_replies.specs.Replies.{Answer, IsReply, text_limit, usage_reply, too_large_reply, refused_reply, refused_answer, unless_unserved, all_answer, run_answer, kernel_answer}
+use Rattle.oz_replies.specs.Replies.{Answer, IsReply, text_limit, usage_reply, too_large_reply, refused_reply, refused_answer, unless_unserved}
 use Rattle.oz_language.specs.declared.fault.Fault.{Fault}
 use Rattle.oz_replies.specs.declared.cause.Cause.{Cause}
 use Rattle.oz_replies.specs.declared.cause.Cause.TheVariants as causes
+use Rattle.command_answers.specs.Answers.{answered}
 
 -- what a call sees of its source, and of its sink
 pub record Reading : Type 0 where
@@ -31,12 +31,6 @@ pub record HasRead (old new : Reading) (text : List ℕ) : Type 0 where
 -- whatever became of reading, no more bytes were taken than a text may have and one
 abbrev pub IsBounded : Option (List ℕ) → Option (List ℕ) → Type 0
 IsBounded old new = (bytes : List ℕ) × (length bytes ≤ text_limit + 1) × Consumes old new bytes
-
--- what a command answers for a program that may have all its tokens
-abbrev pub answered : Command → Program → Answer
-answered (command.All workers budget) p = all_answer (kernel_of p) budget
-answered (command.Run budget) p = run_answer (kernel_of p) budget
-answered command.Kernel p = kernel_answer p
 
 -- the place of a token that is not served yet, where the command runs the program
 abbrev pub minded : Command → Option ℕ → Option ℕ

@@ -18,11 +18,10 @@ ghost use Rattle.oz_language.specs.declared.fault.RefusalKind.{RefusalKind};
 ghost use Rattle.oz_language.specs.declared.fault.Fault.{Fault};
 ghost use Rattle.oz_search.specs.declared.leaf.Outcome.{Outcome as Leaf};
 ghost use Rattle.oz_replies.specs.declared.cause.Cause.{Cause};
-ghost use Rattle.oz_top.specs.Call.{answered, minded, answer_of, TextGives, AsText, IsCommand, Plans, IsDue, IsRead, IsBounded, Ends, Answers, IsExcused};
+ghost use Rattle.command_answers.specs.Answers.{answered};
+ghost use Rattle.oz_top.specs.Call.{minded, answer_of, TextGives, AsText, IsCommand, Plans, IsDue, IsRead, IsBounded, Ends, Answers, IsExcused};
 
-use crate::answers::{Plan, answered};
-use crate::reply::add_decimal;
-use crate::served::first_unserved;
+use command_answers::{Plan, answered};
 use command_line::read_command;
 use kernel_trans::translate;
 use oz_language::{Command, Fault, RefusalKind};
@@ -30,6 +29,8 @@ use oz_lex::one_reading;
 use oz_outside::{Gate, READ_LIMIT, ReadError as SourceError, Sink, Source, read_all, write_all};
 use oz_reader::{Program, ReadError, read_program};
 use oz_replies::Cause;
+use reply_text::add_decimal;
+use served_tokens::first_unserved;
 use std::alloc::{AllocError, Global};
 
 fn make_plan(alloc: Global, cause: Cause, reply: &[u8]) -> Result<Plan, AllocError>

@@ -1,12 +1,7 @@
 //! The call that does all that the program does.
 #![tactic(auto)]
 
-mod answers;
 mod call;
-mod open;
-mod reply;
-mod search;
-mod served;
 
 pub use call::{Outcome, oz_call};
 

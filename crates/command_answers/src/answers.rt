@@ -1,0 +1,231 @@
+//! What a command answers for a program.
+ghost use Rattle.std.specs.Prelude.{◌≡◌, ◌++◌, [], IfOk, OnOk, codes};
+ghost use Rattle.oz_language.specs.Refusals.{Program};
+ghost use Rattle.oz_language.specs.Translation.{kernel_of};
+ghost use Rattle.oz_semantics.specs.Configurations.{view};
+ghost use Rattle.oz_semantics.specs.Runs.{run, opening};
+ghost use Rattle.oz_semantics.specs.Search.{with_root, search_space};
+ghost use Rattle.oz_semantics.specs.Texts.{term_text};
+ghost use Rattle.machine_search.specs.Visits.{found_below};
+ghost use Rattle.oz_replies.specs.Replies.{shown_lines, spent, answer_of_raise, searched, all_answer, run_answer, kernel_answer};
+ghost use Rattle.oz_machine.specs.Answers.{IsRun};
+ghost use Rattle.leaf_search.specs.Searching.{leaves_of};
+ghost use Rattle.command_answers.specs.Answers.{answered, answer_of_leaves};
+
+use kernel_form::kernel_text;
+use leaf_search::depth_first;
+use oz_base::{Ident, SpaceName};
+use oz_language::{Command, Kernel};
+use oz_machine::{Machine, Ran};
+use oz_outside::Gate;
+use oz_replies::Cause;
+use reply_text::{add_decimal, add_leaves_reply, lines};
+use std::alloc::{AllocError, Global};
+
+/// A cause, and what is to be written for it.
+#[derive(Drop)]
+pub struct Plan {
+    pub cause: Cause,
+    pub reply: Vec<u8>,
+}
+
+/// The lines of what was shown, with which each answer begins.
+fn shown_lines(alloc: Global, machine: &Machine) -> Result<Vec<u8>, AllocError>
+    ensures { IfOk result (λ lines. lines.items ≡ shown_lines machine.now.config) }
+{
+    lines(alloc, machine.shown())
+}
+
+/// The budget is exceeded.
+fn spent(alloc: Global, mut reply: Vec<u8>, budget: u64) -> Result<Plan, AllocError>
+    ensures { IfOk result (λ plan. (plan.cause, plan.reply.items) ≡ spent reply.items budget) }
+{
+    reply.extend_from_slice(b"spent ")?;
+    add_decimal(alloc, budget, &mut reply)?;
+    reply.extend_from_slice(b"\n")?;
+    Ok(Plan {
+        cause: Cause::Spent { total: budget },
+        reply,
+    })
+}
+
+/// The budget did not suffice for the top.
+fn out_of_fuel(alloc: Global, machine: &Machine, budget: u64) -> Result<Plan, AllocError>
+    ensures { IfOk result (λ plan. (plan.cause, plan.reply.items) ≡ spent (shown_lines machine.now.config) budget) }
+{
+    let reply = shown_lines(alloc, machine)?;
+    spent(alloc, reply, budget)
+}
+
+/// Adds the line of an exception of the top.
+fn add_raised(text: &[u8], out: &mut Vec<u8>) -> Result<(), AllocError>
+    ensures { OnOk result (out.new.items ≡ out.old.items ++ codes "raised " ++ text.now ++ codes "\n") }
+{
+    out.extend_from_slice(b"raised ")?;
+    out.extend_from_slice(text)?;
+    out.extend_from_slice(b"\n")
+}
+
+/// An exception of the top, with so many steps left for its text.
+fn raised(
+    alloc: Global,
+    machine: &Machine,
+    exception: &Ident,
+    budget: u64,
+    left: u64,
+) -> Result<Plan, AllocError>
+    ensures { IfOk result (λ plan. (plan.cause, plan.reply.items)
+        ≡ answer_of_raise (shown_lines machine.now.config) budget left (term_text machine.now.kernel.words (view machine.now.config.layers []) exception.now)) }
+{
+    let mut reply = shown_lines(alloc, machine)?;
+    match machine.top_text(alloc, exception, left)? {
+        None => spent(alloc, reply, budget),
+        Some(text) => {
+            add_raised(text.bytes.as_slice(), &mut reply)?;
+            let cause = Cause::Raised { text: text.bytes };
+            Ok(Plan { cause, reply })
+        }
+    }
+}
+
+/// Searches the tree of a script, with so many steps left.
+fn search<G: Gate>(
+    alloc: Global,
+    mut machine: Machine,
+    script: Ident,
+    budget: u64,
+    left: u64,
+    gate: &G,
+) -> Result<Plan, AllocError>
+    ensures { IfOk result (λ plan. (plan.cause, plan.reply.items)
+        ≡ answer_of_leaves (shown_lines machine.config) budget
+        (leaves_of (found_below machine.kernel (search_space machine.config) (with_root machine.kernel.statements script machine.config) left))) }
+{
+    let mut reply = shown_lines(alloc, &machine)?;
+    let space = machine.root(alloc, script)?;
+    match depth_first(alloc, machine, &space, left, gate)? {
+        None => spent(alloc, reply, budget),
+        Some(leaves) => {
+            add_leaves_reply(alloc, leaves.as_slice(), &mut reply)?;
+            Ok(Plan {
+                cause: Cause::Done,
+                reply,
+            })
+        }
+    }
+}
+
+fn no_script(alloc: Global, machine: &Machine) -> Result<Plan, AllocError>
+    ensures { IfOk result (λ plan. (plan.cause ≡ Cause.NoScript) × (plan.reply.items ≡ shown_lines machine.now.config ++ codes "no script\n")) }
+{
+    let mut reply = shown_lines(alloc, machine)?;
+    reply.extend_from_slice(b"no script\n")?;
+    Ok(Plan {
+        cause: Cause::NoScript,
+        reply,
+    })
+}
+
+/// What `all` answers where the top has come to rest.
+fn searched<G: Gate>(
+    alloc: Global,
+    machine: Machine,
+    budget: u64,
+    left: u64,
+    gate: &G,
+) -> Result<Plan, AllocError>
+    ensures { IfOk result (λ plan. (plan.cause, plan.reply.items) ≡ searched machine.kernel budget machine.config left) }
+{
+    match machine.script() {
+        None => no_script(alloc, &machine),
+        Some(script) => search(alloc, machine, script, budget, left, gate),
+    }
+}
+
+/// What `run` answers where the top has come to rest.
+fn done(alloc: Global, machine: &Machine) -> Result<Plan, AllocError>
+    ensures { IfOk result (λ plan. (plan.cause ≡ Cause.Done) × (plan.reply.items ≡ shown_lines machine.now.config)) }
+{
+    Ok(Plan {
+        cause: Cause::Done,
+        reply: shown_lines(alloc, machine)?,
+    })
+}
+
+/// Runs the top of a kernel.
+fn run_top(alloc: Global, kernel: Kernel, budget: u64) -> Result<(Machine, Ran), AllocError>
+    ensures kernel { IfOk result (λ ended. ended.0.kernel ≡ kernel) }
+    ensures run { IfOk result (λ ended. IsRun ended.0 [] budget (run kernel [] (opening kernel) budget) ended.1) }
+{
+    let mut machine = Machine::load(alloc, kernel)?;
+    let ran = machine.run(alloc, &SpaceName::top(), budget)?;
+    Ok((machine, ran))
+}
+
+/// What `all` answers for a kernel.
+fn all_answer<G: Gate>(
+    alloc: Global,
+    kernel: Kernel,
+    budget: u64,
+    gate: &G,
+) -> Result<Plan, AllocError>
+    ensures { IfOk result (λ plan. (plan.cause, plan.reply.items) ≡ all_answer kernel budget) }
+{
+    let (machine, ran) = run_top(alloc, kernel, budget)?;
+    match ran {
+        Ran::OutOfFuel => out_of_fuel(alloc, &machine, budget),
+        Ran::TopEnded { exception, steps } => raised(
+            alloc,
+            &machine,
+            &exception,
+            budget,
+            budget - steps,
+        ),
+        Ran::Ended { steps, .. } => searched(alloc, machine, budget, budget - steps, gate),
+    }
+}
+
+/// What `run` answers for a kernel.
+fn run_answer(alloc: Global, kernel: Kernel, budget: u64) -> Result<Plan, AllocError>
+    ensures { IfOk result (λ plan. (plan.cause, plan.reply.items) ≡ run_answer kernel budget) }
+{
+    let (machine, ran) = run_top(alloc, kernel, budget)?;
+    match ran {
+        Ran::OutOfFuel => out_of_fuel(alloc, &machine, budget),
+        Ran::TopEnded { exception, steps } => raised(
+            alloc,
+            &machine,
+            &exception,
+            budget,
+            budget - steps,
+        ),
+        Ran::Ended { .. } => done(alloc, &machine),
+    }
+}
+
+/// What `kernel` answers: the kernel as a text.
+fn kernel_answer(alloc: Global, kernel: &Kernel) -> Result<Plan, AllocError>
+    ensures { (p : Program) → kernel.now ≡ kernel_of p → IfOk result (λ plan. (plan.cause, plan.reply.items) ≡ kernel_answer p) }
+{
+    let text = kernel_text(alloc, kernel)?;
+    Ok(Plan {
+        cause: Cause::Done,
+        reply: text.into_vec(),
+    })
+}
+
+/// What a command answers for the kernel of a program that may have all its tokens.
+pub fn answered<G: Gate>(
+    alloc: Global,
+    command: Command,
+    kernel: Kernel,
+    gate: &G,
+) -> Result<Plan, AllocError>
+    ensures { (p : Program) → kernel ≡ kernel_of p → IfOk result (λ plan. (plan.cause, plan.reply.items) ≡ answered command p) }
+{
+    match command {
+        Command::All { budget, .. } => all_answer(alloc, kernel, budget, gate),
+        Command::Run { budget } => run_answer(alloc, kernel, budget),
+        Command::Kernel => kernel_answer(alloc, &kernel),
+    }
+}
