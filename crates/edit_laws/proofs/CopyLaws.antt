@@ -14,8 +14,8 @@ use Rattle.view_laws.proofs.NameLaws.{equal_names, above_parent}
 use Rattle.view_laws.proofs.ListLaws.{map_in, in_map, filter_in, in_filter, in_edit, edited_in, found_in}
 use Rattle.view_laws.proofs.TreeLaws.{tree_changed}
 use Rattle.edit_laws.specs.Edits.{HasChild, InjectedTree, CopiedTree}
-use Rattle.edit_laws.proofs.NameLaws.{append_cancel, goes_on_from, not_above_top, parent_child, moved_front, child_front}
-use Rattle.edit_laws.proofs.GraftLaws.{there_of, number_given, AreApart, apart_mapped, old_all_put, new_all_put, tree_grafted}
+use Rattle.edit_laws.proofs.NameLaws.{append_cancel, goes_on_from, not_above_top, parent_child, below_front, moved_front, child_front}
+use Rattle.edit_laws.proofs.GraftLaws.{there_of, number_given, AreApart, apart_mapped, in_all_put, old_all_put, new_all_put, tree_grafted}
 
 pub injected_tree : InjectedTree
 injected_tree space procedure layers t = tree_changed space (starting procedure) layers (λ l e. (refl, omega arith)) t
@@ -140,6 +140,22 @@ module _ (parent child : List ℕ) (layers : List Layer) (has : HasChild layers 
         | inl k ↦ given_child x.0 (sym (equal_names child x.0.space k))
         | inr k ↦ given_below x.0 y.0 y.1 k
       ])
+
+  -- The layers of the copy are those of the child
+
+  pub copy_goes : (u : List ℕ) (l : Layer) → In l layers → l.space ≡ child ++ u → In (copy l) after × ((copy l).space ≡ new ++ u)
+  copy_goes u l i e = (
+    new_all_put copies base (copy l) (map_in copy (filter (is_in child) layers) l (in_filter (is_in child) layers l i (ap (is_below child) e ∙ below_front child u))),
+    named_from u l e,
+  )
+
+  pub copy_comes : (u : List ℕ) (m : Layer) → In m after → m.space ≡ new ++ u → (l : Layer) × In l layers × (l.space ≡ child ++ u)
+  copy_comes u m i e = elim (in_all_put copies base m i) [
+    | inl j ↦ (let x = in_map copy (filter (is_in child) layers) m j in
+        let y = filter_in (is_in child) layers x.0 x.1 in
+        (x.0, y.0, cut x.0 y.1 ∙ ap (λ v. child ++ v) (append_cancel new (drop (length child) x.0.space) u (sym (copy_name x.0 y.1) ∙ ap (λ (l : Layer). l.space) x.2 ∙ e))))
+    | inr j ↦ absurd (fresh u m j e)
+  ]
 
   pub copied_is_tree : IsTree after
   copied_is_tree = tree_grafted copies base base_tree copies_apart copies_fresh copies_begin copies_given

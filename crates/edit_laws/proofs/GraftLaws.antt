@@ -81,7 +81,7 @@ new_put {A = A} test new (y ∷ ys) = by (test y) (new_put test new ys)
     by true rest = inl refl
     by false rest = inr rest
 
-abbrev is_before : Layer → Layer → Bool
+abbrev pub is_before : Layer → Layer → Bool
 is_before n other = space_lt n.space other.space
 
 pub in_all_put : (ns ls : List Layer) (m : Layer) → In m (all_placed ns ls) → In m ns ⊎ In m ls

@@ -4,3 +4,7 @@ pub mod NumberedLaws
 pub mod TopLaws
 pub mod CopyLaws
 pub mod MergeLaws
+pub mod ViewLaws
+pub mod CopySights
+pub mod MergeSights
+pub mod ToldSights

@@ -16,7 +16,7 @@ use Rattle.view_laws.proofs.SightLaws.{space_of}
 use Rattle.view_laws.proofs.TreeLaws.{names_edited, tree_changed, tree_left, last_apart}
 use Rattle.edit_laws.specs.Edits.{HasChild, TakenTree}
 use Rattle.edit_laws.proofs.NameLaws.{cons_head, cons_tail, append_cancel, goes_on_from, longer, properly_front, not_top_longer, Built, empty, more, built, child_of, child_front}
-use Rattle.edit_laws.proofs.GraftLaws.{there_of, found_itself, IsCounted, number_given, AreApart, apart_mapped, old_all_put, new_all_put, tree_grafted}
+use Rattle.edit_laws.proofs.GraftLaws.{there_of, found_itself, IsCounted, number_given, AreApart, apart_mapped, in_all_put, old_all_put, new_all_put, tree_grafted}
 
 -- the name of a space below the child
 pub into_front : (s p : Layer) (n : ℕ) (u : List ℕ) → space_into s p (s.space ++ n ∷ u) ≡ p.space ++ (n + (p.next.child - 1)) ∷ u
@@ -50,16 +50,16 @@ module _ (parent child : List ℕ) (layers : List Layer) (has : HasChild layers 
   s_at : layer_at layers child ≡ Some s
   s_at = there_of (layer_at layers child) child has.child_there
 
-  p_in : In p layers
+  pub p_in : In p layers
   p_in = (found_in (is_of parent) counting_child layers p p_at).0
 
-  s_in : In s layers
+  pub s_in : In s layers
   s_in = (found_in (is_of child) counting_child layers s s_at).0
 
-  p_named : p.space ≡ parent
+  pub p_named : p.space ≡ parent
   p_named = space_of layers parent p p_at
 
-  s_named : s.space ≡ child
+  pub s_named : s.space ≡ child
   s_named = space_of layers child s s_at
 
   abbrev raise : ℕ
@@ -72,7 +72,7 @@ module _ (parent child : List ℕ) (layers : List Layer) (has : HasChild layers 
   s_begins = t.begins s (contains-from_In layers s s_in)
 
   -- the child's name
-  s_child : (n : ℕ) × (s.space ≡ p.space ++ n ∷ [])
+  pub s_child : (n : ℕ) × (s.space ≡ p.space ++ n ∷ [])
   s_child = let c = child_of parent child has.below in (c.0, s_named ∙ c.1 ∙ ap (λ u. child_name u c.0) (sym p_named))
 
   abbrev r : Renaming
@@ -157,17 +157,17 @@ module _ (parent child : List ℕ) (layers : List Layer) (has : HasChild layers 
   p_base : In (join p) base
   p_base = edited_in (is_of p.space) join away p (found_itself away p away_tree.ordered p_away)
 
-  -- each of these layers is of a space that was there
-  base_from : (m : Layer) → In m base → (x : Layer) × In x layers × (x.space ≡ m.space)
+  -- each of these layers is of a space that was left
+  base_from : (m : Layer) → In m base → (x : Layer) × In x left × (x.space ≡ m.space)
   base_from m i = elim (in_edit (is_of p.space) join away m i) [
     | inl j ↦ from_away m j
     | inr e ↦ (let x = from_away e.0 (found_in (is_of p.space) join away e.0 e.1).0 in (x.0, x.1, x.2 ∙ sym (ap (λ (l : Layer). l.space) e.2)))
   ]
     where
-      from_away : (m : Layer) → In m away → (x : Layer) × In x layers × (x.space ≡ m.space)
+      from_away : (m : Layer) → In m away → (x : Layer) × In x left × (x.space ≡ m.space)
       from_away m i = elim (in_edit (is_of s.space) merged_away left m i) [
-        | inl j ↦ (m, (filter_in is_left layers m j).0, refl)
-        | inr e ↦ (e.0, (filter_in is_left layers e.0 (found_in (is_of s.space) merged_away left e.0 e.1).0).0, sym (ap (λ (l : Layer). l.space) e.2))
+        | inl j ↦ (m, j, refl)
+        | inr e ↦ (e.0, (found_in (is_of s.space) merged_away left e.0 e.1).0, sym (ap (λ (l : Layer). l.space) e.2))
       ]
 
   -- What was below the child
@@ -200,17 +200,42 @@ module _ (parent child : List ℕ) (layers : List Layer) (has : HasChild layers 
           let number : c.number ≡ d.number = omega (arith, heads) in
           c.whole ∙ ap₂ (λ n u. s.space ++ n ∷ u) number (cons_tail (c.number + raise) (d.number + raise) c.rest d.rest tails) ∙ sym d.whole
 
-  taken_fresh : (n m : Layer) → In n taken → In m base → m.space ≡ n.space → ⊥
-  taken_fresh n m i j e =
-      let x = in_map take (filter deep layers) n i in
-      let y = filter_in deep layers x.0 x.1 in
-      let c = cut_at s.space x.0.space y.1 in
-      let low = (deep_counted x.0 y.0 c).counted in
-      let z = base_from m j in
-      let k = number_given layers t p p_in (c.number + raise) c.rest z.0 z.1 (z.2 ∙ e ∙ sym (ap (λ (l : Layer). l.space) x.2) ∙ take_name x.0 c.number c.rest c.whole) in
+  -- the new names are new
+  pub name_fresh : (l : Layer) → In l layers → (n : ℕ) (u : List ℕ) → 1 ≤ n → l.space ≡ p.space ++ (n + raise) ∷ u → ⊥
+  name_fresh l i n u low e =
+      let k = number_given layers t p p_in (n + raise) u l i e in
       let less = k.given in
       let one = p_begins in
       absurd (omega (arith, low, less, one))
+
+  base_fresh : (m : Layer) → In m base → (n : ℕ) (u : List ℕ) → 1 ≤ n → m.space ≡ p.space ++ (n + raise) ∷ u → ⊥
+  base_fresh m i n u low e = let x = base_from m i in name_fresh x.0 (filter_in is_left layers x.0 x.1).0 n u low (x.2 ∙ e)
+
+  -- where a layer comes from that was below the child
+  record IsTaken (m : Layer) : Type 0 where
+    from : Layer
+    among : In from layers
+    name : IsCut s.space from.space
+    is : take from ≡ m
+    counted : 1 ≤ name.number
+    new : m.space ≡ p.space ++ (name.number + raise) ∷ name.rest
+
+  taken_from : (m : Layer) → In m taken → IsTaken m
+  taken_from m i =
+      let x = in_map take (filter deep layers) m i in
+      let y = filter_in deep layers x.0 x.1 in
+      let c = cut_at s.space x.0.space y.1 in
+      record {
+        from = x.0;
+        among = y.0;
+        name = c;
+        is = x.2;
+        counted = (deep_counted x.0 y.0 c).counted;
+        new = sym (ap (λ (l : Layer). l.space) x.2) ∙ take_name x.0 c.number c.rest c.whole;
+      }
+
+  taken_fresh : (n m : Layer) → In n taken → In m base → m.space ≡ n.space → ⊥
+  taken_fresh n m i j e = let x = taken_from n i in base_fresh m j x.name.number x.name.rest x.counted (e ∙ x.new)
 
   taken_begin : (n : Layer) → In n taken → 1 ≤ n.next.child
   taken_begin n i =
@@ -254,6 +279,75 @@ module _ (parent child : List ℕ) (layers : List Layer) (has : HasChild layers 
       let y = filter_in deep layers x.0 x.1 in
       let c = cut_at s.space x.0.space y.1 in
       subst (λ (l : Layer). IsGivenOut after l.space) x.2 (given_built x.0 y.0 c.number c.rest c.whole (built c.rest))
+
+  -- What is there
+
+  pub take_goes : (n : ℕ) (u : List ℕ) (l : Layer) → In l layers → l.space ≡ s.space ++ n ∷ u → In (take l) after × ((take l).space ≡ p.space ++ (n + raise) ∷ u)
+  take_goes n u l i e = (
+    new_all_put taken base (take l) (map_in take (filter deep layers) l (in_filter deep layers l i (ap (is_properly_below s.space) e ∙ properly_front s.space n u))),
+    take_name l n u e,
+  )
+
+  pub take_comes : (n : ℕ) (u : List ℕ) → 1 ≤ n → (m : Layer) → In m after → m.space ≡ p.space ++ (n + raise) ∷ u → (l : Layer) × In l layers × (l.space ≡ s.space ++ n ∷ u)
+  take_comes n u low m i e = elim (in_all_put taken base m i) [
+    | inl j ↦ (let x = taken_from m j in (x.from, x.among, x.name.whole ∙ same x.name.number x.name.rest (sym x.new ∙ e)))
+    | inr j ↦ absurd (base_fresh m j n u low e)
+  ]
+    where
+      same : (k : ℕ) (v : List ℕ) → p.space ++ (k + raise) ∷ v ≡ p.space ++ (n + raise) ∷ u → s.space ++ k ∷ v ≡ s.space ++ n ∷ u
+      same k v f =
+          let tails : (k + raise) ∷ v ≡ (n + raise) ∷ u = append_cancel p.space ((k + raise) ∷ v) ((n + raise) ∷ u) f in
+          let heads = cons_head (k + raise) (n + raise) v u tails in
+          let number : k ≡ n = omega (arith, heads) in
+          ap₂ (λ a b. s.space ++ a ∷ b) number (cons_tail (k + raise) (n + raise) v u tails)
+
+  -- a name properly below that of the child is of no layer
+  pub under_gone : (m : Layer) → In m after → (k : ℕ) (q : List ℕ) → m.space ≡ s.space ++ k ∷ q → ⊥
+  under_gone m i k q e = elim (in_all_put taken base m i) [
+    | inl j ↦ (let x = taken_from m j in
+        let own = number_given layers t p p_in s_child.0 [] s s_in s_child.1 in
+        let names : p.space ++ (x.name.number + raise) ∷ x.name.rest ≡ p.space ++ s_child.0 ∷ (k ∷ q) =
+        sym x.new ∙ e ∙ ap (λ u. u ++ k ∷ q) s_child.1 ∙ append_assoc p.space (s_child.0 ∷ []) (k ∷ q) in
+        let heads = cons_head (x.name.number + raise) s_child.0 x.name.rest (k ∷ q) (append_cancel p.space ((x.name.number + raise) ∷ x.name.rest) (s_child.0 ∷ (k ∷ q)) names) in
+        let low = x.counted in
+        let less = own.given in
+        let one = p_begins in
+        absurd (omega (arith, low, less, one, heads)))
+    | inr j ↦ (let x = base_from m j in not_deep x.0 x.1 k q (x.2 ∙ e))
+  ]
+
+  -- a layer that is left, of another space than the child and the parent, stays
+  pub left_stays : (l : Layer) → In l layers → is_left l ≡ true → (l.space ≡ s.space → ⊥) → (l.space ≡ p.space → ⊥) → In l after
+  left_stays l i e apart other = old_all_put taken base l (in_base (in_away (in_filter is_left layers l i e)))
+    where
+      in_away : In l left → In l away
+      in_away j = elim (edit_in (is_of s.space) merged_away left l j) [ inl k ↦ k | inr k ↦ absurd (apart (space_of left s.space l k)) ]
+
+      in_base : In l away → In l base
+      in_base j = elim (edit_in (is_of p.space) join away l j) [ inl k ↦ k | inr k ↦ absurd (other (space_of away p.space l k)) ]
+
+  s_left : In s left
+  s_left = in_filter is_left layers s s_in (by (is_properly_below s.space s.space) refl)
+    where
+      by : (b : Bool) → is_properly_below s.space s.space ≡ b → not b ≡ true
+      by true e = absurd ((properly s.space s.space e).1 refl)
+      by false e = refl
+
+  pub child_stays : In (merged_away s) after
+  child_stays = old_all_put taken base (merged_away s) (elim (edit_in (is_of p.space) join away (merged_away s) (edited_in (is_of s.space) merged_away left s (found_itself left s left_tree.ordered s_left))) [
+    | inl k ↦ k
+    | inr k ↦ absurd (longer p.space s_child.0 [] (sym (space_of away p.space (merged_away s) k) ∙ s_child.1))
+  ])
+
+  pub parent_stays : In (join p) after
+  parent_stays = old_all_put taken base (join p) p_base
+
+  -- what is at the numbers of the child
+  pub deep_number : (l : Layer) → In l layers → (n : ℕ) (u : List ℕ) → l.space ≡ s.space ++ n ∷ u → 1 ≤ n
+  deep_number l i n u e = (number_given layers t s s_in n u l i e).counted
+
+  pub taken_name : (m : Layer) → In m taken → (n : ℕ) × (u : List ℕ) × (1 ≤ n) × (m.space ≡ p.space ++ (n + raise) ∷ u)
+  taken_name m i = let x = taken_from m i in (x.name.number, x.name.rest, x.counted, x.new)
 
   pub taken_is_tree : IsTree (taken_into s p layers)
   taken_is_tree = tree_grafted taken base base_tree taken_apart taken_fresh taken_begin taken_given

@@ -1,9 +1,11 @@
-//! Laws of the edits of the tree of spaces: they leave a tree of spaces.
+//! Laws of the edits of the tree of spaces: they leave a tree of spaces, and what is there and seen after them.
 //!
 //! Each function does nothing: its contract states laws of the definitions.
 #![tactic(auto)]
 
 ghost use Rattle.edit_laws.specs.Edits.{InjectedTree, InjectedNumbered, InjectedTop, CopiedTree, CopiedNumbered, CopiedTop, TakenTree, TakenNumbered, TakenTop};
+ghost use Rattle.edit_laws.specs.Layers.{CopiedLayer, CopiedOther, TakenLayer, TakenGone, TakenChild, TakenParent, TakenOther};
+ghost use Rattle.edit_laws.specs.Sights.{ViewParts, FromParts, TellLast, InjectionUnseen, CopyUnseen, CopySeen, CopyRenamed, TakenUnseen, TakenAway, TakenSeen, MergeUnseen, MergeBeside, MergeSeen, MergeBelow, MergeRenamed};
 
 /// What is left where a procedure is applied in a space. Nothing: it holds laws.
 pub fn injection_law()
@@ -24,4 +26,34 @@ pub fn merge_law()
     ensures tree { TakenTree }
     ensures numbered { TakenNumbered }
     ensures top { TakenTop }
+{}
+
+/// Which layers are there after a space was copied, or became a part of its parent. Nothing: it holds laws.
+pub fn edit_layer_law()
+    ensures copied { CopiedLayer }
+    ensures copied_other { CopiedOther }
+    ensures taken { TakenLayer }
+    ensures gone { TakenGone }
+    ensures child { TakenChild }
+    ensures parent { TakenParent }
+    ensures taken_other { TakenOther }
+{}
+
+/// What spaces see after a procedure was applied in a space, or a space was copied, or became a part of its parent. Nothing: it holds laws.
+pub fn edit_sight_law()
+    ensures parts { ViewParts }
+    ensures from { FromParts }
+    ensures last { TellLast }
+    ensures injection { InjectionUnseen }
+    ensures copy_unseen { CopyUnseen }
+    ensures copy_seen { CopySeen }
+    ensures copy_renamed { CopyRenamed }
+    ensures taken_unseen { TakenUnseen }
+    ensures taken_away { TakenAway }
+    ensures taken_seen { TakenSeen }
+    ensures merge_unseen { MergeUnseen }
+    ensures merge_beside { MergeBeside }
+    ensures merge_seen { MergeSeen }
+    ensures merge_below { MergeBelow }
+    ensures merge_renamed { MergeRenamed }
 {}
