@@ -8,3 +8,4 @@ pub mod ViewLaws
 pub mod CopySights
 pub mod MergeSights
 pub mod ToldSights
+pub mod OutsideLaws

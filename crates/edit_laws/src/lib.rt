@@ -6,6 +6,7 @@
 ghost use Rattle.edit_laws.specs.Edits.{InjectedTree, InjectedNumbered, InjectedTop, CopiedTree, CopiedNumbered, CopiedTop, TakenTree, TakenNumbered, TakenTop};
 ghost use Rattle.edit_laws.specs.Layers.{CopiedLayer, CopiedOther, TakenLayer, TakenGone, TakenChild, TakenParent, TakenOther};
 ghost use Rattle.edit_laws.specs.Sights.{ViewParts, FromParts, TellLast, InjectionUnseen, CopyUnseen, CopySeen, CopyRenamed, TakenUnseen, TakenAway, TakenSeen, MergeUnseen, MergeBeside, MergeSeen, MergeBelow, MergeRenamed};
+ghost use Rattle.edit_laws.specs.Outside.{CopyNamed, MergeNamed};
 
 /// What is left where a procedure is applied in a space. Nothing: it holds laws.
 pub fn injection_law()
@@ -48,6 +49,7 @@ pub fn edit_sight_law()
     ensures copy_unseen { CopyUnseen }
     ensures copy_seen { CopySeen }
     ensures copy_renamed { CopyRenamed }
+    ensures copy_named { CopyNamed }
     ensures taken_unseen { TakenUnseen }
     ensures taken_away { TakenAway }
     ensures taken_seen { TakenSeen }
@@ -56,4 +58,5 @@ pub fn edit_sight_law()
     ensures merge_seen { MergeSeen }
     ensures merge_below { MergeBelow }
     ensures merge_renamed { MergeRenamed }
+    ensures merge_named { MergeNamed }
 {}

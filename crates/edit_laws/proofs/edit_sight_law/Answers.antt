@@ -2,6 +2,7 @@ use Rattle.edit_laws.proofs.ViewLaws as views
 use Rattle.edit_laws.proofs.CopySights as copies
 use Rattle.edit_laws.proofs.MergeSights as takes
 use Rattle.edit_laws.proofs.ToldSights as merges
+use Rattle.edit_laws.proofs.OutsideLaws as outside
 use Rattle.edit_laws.proofs.edit_sight_law.Goals as goal
 
 pub returns : goal.returns
@@ -13,6 +14,7 @@ returns c = record {
   copy_unseen = copies.copy_unseen;
   copy_seen = copies.copy_seen;
   copy_renamed = copies.copy_renamed;
+  copy_named = outside.copy_named;
   taken_unseen = takes.taken_unseen;
   taken_away = takes.taken_away;
   taken_seen = takes.taken_seen;
@@ -21,4 +23,5 @@ returns c = record {
   merge_seen = merges.merge_seen;
   merge_below = merges.merge_below;
   merge_renamed = merges.merge_renamed;
+  merge_named = outside.merge_named;
 }
