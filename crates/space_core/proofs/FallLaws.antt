@@ -10,7 +10,7 @@ use Rattle.oz_semantics.specs.Settling.{failing, inconsistent_spaces, without_in
 use Rattle.oz_semantics.specs.declared.configuration.Layer.{Layer}
 use Rattle.oz_laws.proofs.SameLaws.{In, In-from_contains, contains-from_In, In-flat, and-right}
 use Rattle.view_laws.specs.Trees.{IsTree, is_ascending, names_of}
-use Rattle.view_laws.proofs.Members.{decide, not_both, or_left, or_right, some_of, by_some}
+use Rattle.view_laws.proofs.Members.{decide, not_both, some_of, by_some}
 use Rattle.view_laws.proofs.NameLaws.{below_itself, below_trans, equal_names, names_equal, above_parent, not_above_parent, properly, properly_by}
 use Rattle.view_laws.proofs.SightLaws.{of_space, failure_unseen, parent_above}
 use Rattle.view_laws.proofs.TreeLaws.{one_of_name, failure_tree}

@@ -1,6 +1,6 @@
 -- What becomes of the spaces below one that was told more is what is left where those fail that see what is inconsistent.
-use Rattle.std.proofs.Common.{◌≡◌, ◌⊎◌, inl, inr, ℕ, zero, suc, ◌<◌, ◌≤◌, Bool, true, false, not, ◌&&◌, List, [], ◌∷◌, ◌++◌, length, drop, slice_get, refl, sym, ap, ap₂, subst, ◌∙◌, arith, Contains, Some, filter, map, flat_map}
-use Rattle.std.specs.List.{list_any, list_all}
+use Rattle.std.proofs.Common.{◌≡◌, inl, inr, ℕ, zero, suc, true, false, not, List, [], ◌∷◌, ◌++◌, length, drop, slice_get, refl, sym, ap, ap₂, subst, ◌∙◌, arith, Contains, Some, filter, flat_map}
+use Rattle.std.specs.List.{list_all}
 use Rattle.std.proofs.lemmas.Bool.{false≢true}
 use Rattle.std.proofs.lemmas.List.{append-nil}
 use Rattle.std.proofs.Math.Seq.{drop-length, drop-append_seam}

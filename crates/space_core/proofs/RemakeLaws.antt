@@ -1,20 +1,19 @@
 -- A space is told more, and what is kept of those below it is made anew.
-use Rattle.std.proofs.Common.{◌≡◌, ◌≢◌, ◌⊎◌, inl, inr, ℕ, zero, suc, ◌<◌, ◌≤◌, Bool, true, false, cond, List, [], ◌∷◌, ◌++◌, length, drop, flat_map, nat_lt, slice_get, slice_set, slice_index_or, get_or, refl, sym, ap, ap₂, subst, ◌∙◌, arith, Contains, Option, Some, None, map}
+use Rattle.std.proofs.Common.{◌≡◌, ◌⊎◌, inl, inr, ℕ, zero, suc, ◌<◌, ◌≤◌, Bool, true, false, List, [], ◌∷◌, ◌++◌, length, drop, flat_map, nat_lt, slice_get, slice_set, slice_index_or, get_or, refl, sym, ap, subst, ◌∙◌, arith, Contains, Some}
 use Rattle.std.specs.Prelude.{position}
 use Rattle.std.specs.Option.{option_map}
 use Rattle.std.specs.List.{list_all}
-use Rattle.std.proofs.lemmas.Bool.{false≢true}
 use Rattle.std.proofs.lemmas.Bool.Decides.{nat_tests}
-use Rattle.std.proofs.lemmas.List.{length-set, get_or-set_same}
+use Rattle.std.proofs.lemmas.List.{length-set}
 use Rattle.std.proofs.lemmas.Option.{get_or_from_slice_get, slice_get-get_or}
 use Rattle.oz_base.specs.Lists.{list_eq}
-use Rattle.oz_semantics.specs.Names.{is_below, is_properly_below, space_lt}
+use Rattle.oz_semantics.specs.Names.{is_properly_below, space_lt}
 use Rattle.oz_semantics.specs.Store.{is_consistent, named_by}
-use Rattle.oz_semantics.specs.Configurations.{is_of, layer_at, view, in_layer, telling}
-use Rattle.oz_semantics.specs.Settling.{inconsistent_spaces, without_inconsistent}
+use Rattle.oz_semantics.specs.Configurations.{is_of, view, in_layer, telling}
+use Rattle.oz_semantics.specs.Settling.{inconsistent_spaces}
 use Rattle.oz_semantics.specs.declared.value.Tell.{Tell}
 use Rattle.oz_semantics.specs.declared.configuration.Layer.{Layer}
-use Rattle.oz_laws.proofs.SameLaws.{In, In-from_contains, contains-from_In, and-left, and-right}
+use Rattle.oz_laws.proofs.SameLaws.{contains-from_In, and-left, and-right}
 use Rattle.settle_laws.specs.Settles.{Settles}
 use Rattle.settle_laws.proofs.SettleLaws.{nothing_fails}
 use Rattle.settle_laws.proofs.SoundLaws.{nothing_sound}
@@ -23,12 +22,11 @@ use Rattle.view_laws.specs.Trees.{IsTree, is_ascending, names_of}
 use Rattle.view_laws.proofs.Members.{decide, not_both, each}
 use Rattle.view_laws.proofs.ListLaws.{map_in}
 use Rattle.view_laws.proofs.NameLaws.{properly, names_equal, equal_names}
-use Rattle.view_laws.proofs.SightLaws.{space_of}
 use Rattle.view_laws.proofs.TreeLaws.{above_not_less, one_of_name}
 use Rattle.space_core.specs.Fates.{IsFate, IsStale, EachFate, AreFates, left_as, settled}
 use Rattle.space_core.specs.Places.{IsFirst}
 use Rattle.space_core.specs.Shown.{shown, shown_all, is_home, Fits, IsSound}
-use Rattle.space_core.specs.Telling.{has_below, IsToldMore, IsAlone, IsRemade, IsLeft, sees_at}
+use Rattle.space_core.specs.Telling.{has_below, IsToldMore, IsAlone, IsRemade, IsLeft}
 use Rattle.space_core.specs.declared.fates.Fate.{Fate}
 use Rattle.space_core.specs.declared.fates.Fate.TheVariants.{Stays, Gone, Fails, Sees}
 use Rattle.space_core.specs.declared.level.Level.{Level}
@@ -36,7 +34,7 @@ use Rattle.space_core.proofs.AnswerLaws.{PlaceIn}
 use Rattle.space_core.proofs.FateLaws.{got_in, not_under_itself, settled_shows, settled_sound}
 use Rattle.space_core.proofs.Firsts.{Found, position_here, position_later, found_by_position}
 use Rattle.space_core.proofs.MemberLaws.{IsElsewhere, elsewhere_in, set_member}
-use Rattle.space_core.proofs.SoundLaws.{Edited, all_home, none_inconsistent, place_within, place_member, read_shown}
+use Rattle.space_core.proofs.SoundLaws.{all_home, none_inconsistent, place_within, place_member}
 use Rattle.space_core.proofs.TellLaws.{after_tree, after_homes, fits_apart, own_shows, own_name, shows_more, tell_fits, tell_edit}
 
 -- Places

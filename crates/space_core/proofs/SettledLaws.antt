@@ -1,5 +1,5 @@
 -- Spaces have their fates one after another, the last one first.
-use Rattle.std.proofs.Common.{◌≡◌, ℕ, zero, suc, ◌+◌, ◌<◌, ◌≤◌, List, [], ◌∷◌, ◌++◌, length, take, drop, slice_get, slice_set, slice_index_or, refl, sym, ap, ◌∙◌, arith, Some, None, append_assoc, length-append}
+use Rattle.std.proofs.Common.{◌≡◌, ℕ, zero, suc, ◌+◌, ◌<◌, ◌≤◌, List, [], ◌∷◌, ◌++◌, length, drop, slice_get, slice_set, slice_index_or, refl, sym, ap, ◌∙◌, arith, Some, None, append_assoc, length-append}
 use Rattle.std.specs.List.{remove}
 use Rattle.oz_semantics.specs.declared.value.Tell.{Tell}
 use Rattle.space_core.specs.Ending.{fallen}

@@ -1,16 +1,15 @@
 -- What comes of a tell that the spaces below see too, step by step.
-use Rattle.std.proofs.Common.{◌≡◌, ◌⊎◌, inl, inr, ℕ, zero, suc, ◌+◌, ◌<◌, ◌≤◌, Bool, true, false, List, [], ◌∷◌, ◌++◌, length, filter, slice_get, slice_set, slice_index_or, refl, sym, ap, ap₂, subst, ◌∙◌, arith, Contains, Some, Result, Ok, Err, length-append}
+use Rattle.std.proofs.Common.{◌≡◌, ◌⊎◌, inl, inr, ℕ, zero, suc, ◌+◌, ◌<◌, ◌≤◌, Bool, true, false, List, [], ◌∷◌, ◌++◌, length, filter, slice_get, slice_set, slice_index_or, refl, sym, ap, ap₂, subst, ◌∙◌, arith, Some, Result, Ok, Err, length-append}
 use Rattle.std.specs.Prelude.{OnErr, IfOk}
 use Rattle.std.proofs.lemmas.List.{length-set, set-set, get_or_default}
 use Rattle.std.proofs.lemmas.Option.{get_or_from_slice_get}
 use Rattle.oz_base.specs.declared.names.Ident.{Ident}
 use Rattle.oz_semantics.specs.Names.{is_top}
-use Rattle.oz_semantics.specs.Store.{is_consistent}
 use Rattle.oz_semantics.specs.declared.value.Tell.{Tell}
 use Rattle.term_store.specs.Telling.{IsTold}
 use Rattle.space_core.specs.Fates.{IsChosen, IsFate, IsStale, EachFate, AreFates, settled}
 use Rattle.space_core.specs.Shown.{shown_all, is_other}
-use Rattle.space_core.specs.Telling.{has_below, IsMarked, IsToldMore, IsLevelTold, IsLeft, IsStoreAt, sees_at, ToldThrough, IsToldThrough}
+use Rattle.space_core.specs.Telling.{has_below, IsMarked, IsToldMore, IsLevelTold, IsStoreAt, sees_at, ToldThrough, IsToldThrough}
 use Rattle.space_core.specs.declared.fates.Fate.{Fate}
 use Rattle.space_core.specs.declared.level.Level.{Level}
 use Rattle.space_core.proofs.AnswerLaws.{unchanged}

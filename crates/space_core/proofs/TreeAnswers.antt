@@ -9,7 +9,7 @@ use Rattle.oz_semantics.specs.Names.{is_properly_below, space_lt, parent_of}
 use Rattle.oz_semantics.specs.Edits.{created}
 use Rattle.oz_semantics.specs.Spaces.{alike_on}
 use Rattle.oz_semantics.specs.Store.{named_by, is_consistent}
-use Rattle.oz_semantics.specs.Configurations.{is_of, layer_at, in_layer, view, ancestor_variables, telling, ending, raised_by, failed, next_child, layer_of, new_layer, counting_child}
+use Rattle.oz_semantics.specs.Configurations.{is_of, in_layer, view, ancestor_variables, telling, ending, raised_by, failed, next_child, layer_of, new_layer, counting_child}
 use Rattle.oz_semantics.specs.declared.value.Tell.{Tell}
 use Rattle.oz_semantics.specs.declared.configuration.Layer.{Layer}
 use Rattle.settle_laws.specs.Settles.{Settles}

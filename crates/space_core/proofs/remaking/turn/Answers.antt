@@ -1,4 +1,4 @@
-use Rattle.std.proofs.Common.{◌≡◌, slice_set, sym, ap, subst, ◌∙◌}
+use Rattle.std.proofs.Common.{sym, ap, ◌∙◌}
 use Rattle.space_core.specs.Fates.{turned}
 use Rattle.space_core.specs.declared.fates.Fate.{Fate}
 use Rattle.space_core.proofs.SettledLaws.{turned_stays, turned_gone, turned_fails, turned_sees}
