@@ -2,10 +2,9 @@
 use Rattle.std.proofs.Common.{◌≡◌, ℕ, ◌+◌, ◌<◌, ◌≤◌, arith, length, true, false, List, [], ◌∷◌, ◌++◌, slice_set, slice_index_or, refl, sym, ap, ap₂, subst, ◌∙◌, drop, Option, Some, None, unwrap_or, Bool}
 use Rattle.std.specs.Prelude.{MatchOption}
 use Rattle.std.specs.List.{list_all}
-use Rattle.std.proofs.lemmas.List.{get_or-set_same, get_or_default, set-set, set-get_or, length-set}
+use Rattle.std.proofs.lemmas.List.{get_or-set_same, get_or_default, set-set, set-get_or}
 use Rattle.oz_base.specs.Lists.{list_eq}
 use Rattle.oz_base.specs.declared.names.Ident.{Ident}
-use Rattle.oz_semantics.specs.Names.{is_properly_below}
 use Rattle.oz_semantics.specs.Store.{named_by, is_consistent}
 use Rattle.oz_semantics.specs.Configurations.{is_of, is_numbered, in_layer, view, telling, with_frames, thread_at, frames_in, stack_of, new_layer}
 use Rattle.oz_semantics.specs.Changes.{GivesOut, done}
@@ -15,8 +14,9 @@ use Rattle.oz_semantics.specs.declared.value.Tell.{Tell}
 use Rattle.oz_semantics.specs.declared.configuration.Frame.{Frame}
 use Rattle.oz_semantics.specs.declared.configuration.Thread.{Thread}
 use Rattle.oz_semantics.specs.declared.configuration.Layer.{Layer}
-use Rattle.settle_laws.specs.Settles.{Settles}
-use Rattle.settle_laws.proofs.SettleLaws.{nothing_fails}
+use Rattle.settle_laws.specs.Settles.{Settles, IsQuiet as IsQuietChange}
+use Rattle.settle_laws.proofs.EditLaws.{are_quiet}
+use Rattle.settle_laws.proofs.SettleLaws.{quiet_settles}
 use Rattle.view_laws.proofs.SightLaws.{space_of}
 use Rattle.cells_ports.specs.Objects.{Contents}
 use Rattle.space_core.specs.Advances.{given_out, IsAdvanced, IsRaised, taken_on}
@@ -24,17 +24,17 @@ use Rattle.space_core.specs.Giving.{giving, objects_after, after_giving}
 use Rattle.space_core.specs.Places.{IsFirst}
 use Rattle.space_core.specs.Shown.{shown, shown_all, is_home, IsSound, IsQuiet}
 use Rattle.space_core.specs.Stacks.{cut_out}
-use Rattle.space_core.specs.Telling.{has_below, after_giving_at, IsToldMore, ToldAt, ClashesAt, HasThread}
+use Rattle.space_core.specs.Telling.{after_giving_at, IsToldMore, IsLeft, ToldThrough, ToldAt, ClashesAt, HasThread}
 use Rattle.space_core.specs.declared.given.Given.{Given}
 use Rattle.space_core.specs.declared.given.Given.TheVariants.{Nothing, Variables, Procedure, Name, Cell, Content, Port, End}
 use Rattle.space_core.specs.declared.level.Level.{Level}
 use Rattle.space_core.specs.Threads.{Running}
 use Rattle.space_core.proofs.AnswerLaws.{PlaceIn, unchanged}
 use Rattle.space_core.proofs.CatchLaws.{quiet_twice, quiet_as, quiet_same, room_for, room_to_cut}
-use Rattle.space_core.proofs.Firsts.{first_edited, edit_same, any_edited}
+use Rattle.space_core.proofs.Firsts.{first_edited, edit_same}
 use Rattle.space_core.proofs.LayerLaws.{frames_twice, uncut_handler, told_by, told_by_is, raised_is}
-use Rattle.space_core.proofs.SoundLaws.{Edited, quiet_edit, read_shown, place_within, place_member, none_inconsistent}
-use Rattle.space_core.proofs.TellLaws.{tell_edit}
+use Rattle.space_core.proofs.RemakeLaws.{Told, told_there, told_within, told_all}
+use Rattle.space_core.proofs.SoundLaws.{Edited, quiet_edit, read_shown, place_within, place_member}
 
 -- A change that keeps the name of the space
 abbrev pub KeepsName : (Layer → Layer) → Type 0
@@ -44,13 +44,11 @@ KeepsName change = (k : Layer) → (change k).space ≡ k.space
 pub record Reached (levels news : List Level) (space : List ℕ) (place : ℕ) (change : Layer → Layer) : Type 0 where
   pub edited : Edited levels news space change
   pub here : PlaceIn news space place
-  pub below : has_below (shown_all news) space ≡ has_below (shown_all levels) space
 
 reached : (levels news : List Level) (space : List ℕ) (place : ℕ) (change : Layer → Layer) → KeepsName change → PlaceIn levels space place → Edited levels news space change → Reached levels news space place change
 reached levels news space place change keeps h e = record {
   edited = e;
   here = subst (λ (ls : List Layer). (x : Layer) × IsFirst (is_of space) ls place x) (sym e.shows) (first_edited (is_of space) change (λ k. ap (λ s. list_eq s space) (keeps k)) (shown_all levels) place h.0 h.1);
-  below = ap (λ ls. has_below ls space) e.shows ∙ any_edited (λ (k : Layer). is_properly_below space k.space) (is_of space) change (λ k. ap (is_properly_below space) (keeps k)) (shown_all levels);
 }
 
 pub quiet_step : (levels : List Level) (space : List ℕ) (place : ℕ) → IsSound levels → PlaceIn levels space place → (l m : Level) → l ≡ slice_index_or levels place l → (change : Layer → Layer)
@@ -72,8 +70,8 @@ gives_quietly (Content n content) l = record { becomes = refl; space = refl; sto
 gives_quietly (Port stream) l = record { becomes = refl; space = refl; store = refl; told_from = refl; touched = refl; traced = refl; variables = omega arith; children = omega arith }
 gives_quietly (End n end) l = record { becomes = refl; space = refl; store = refl; told_from = refl; touched = refl; traced = refl; variables = omega arith; children = omega arith }
 
--- A space of which none is below gives something out and is told more
-module _ (levels : List Level) (id : Ident) (place : ℕ) (s : IsSound levels) (h : PlaceIn levels id.space place) (none : has_below (shown_all levels) id.space ≡ false)
+-- A space gives something out and is told more
+module _ (levels : List Level) (id : Ident) (place : ℕ) (s : IsSound levels) (h : PlaceIn levels id.space place)
     (ts : List Tell) (given : Given) (news : List Level) (t : ToldAt place ts given levels news) where
   abbrev gave : List Level
   gave = after_giving_at place given t.before levels
@@ -93,58 +91,57 @@ module _ (levels : List Level) (id : Ident) (place : ℕ) (s : IsSound levels) (
   homes : t.home ≡ true → list_all (λ t. list_all (is_home (shown_all gave) id.space) (named_by t)) ts ≡ true
   homes k = subst (λ (p : List ℕ). list_all (λ t. list_all (is_home (shown_all gave) p) (named_by t)) ts ≡ true) name (sym t.homes ∙ k)
 
-  telling_step : Reached gave news id.space place (telling ts)
-  telling_step = subst (λ (ls : List Level). Reached gave ls id.space place (telling ts)) (sym t.left) (
-      reached gave (slice_set gave place t.told) id.space place (telling ts) (λ k. refl) giving_step.here
-      (tell_edit gave id.space place giving_step.here.0 giving_step.here.1 (after_giving given t.before) t.told read_gave ts t.home t.tells homes giving_step.edited.sound (giving_step.below ∙ none)))
+  told_step : Told gave news id.space place ts t.told
+  told_step = told_all gave id.space place giving_step.here.0 giving_step.here.1 (after_giving given t.before) t.told read_gave ts t.home t.tells homes giving_step.edited.sound news t.left
 
   pub told_here : PlaceIn news id.space place
-  told_here = telling_step.here
+  told_here = told_step.here
+
+  pub told_inside : place < length news
+  told_inside = told_within gave news id.space place ts t.told told_step
 
   pub told_sound_at : IsSound news
-  told_sound_at = telling_step.edited.sound
+  told_sound_at = told_step.sound
 
-  pub told_shows_at : shown_all news ≡ in_layer id.space (telling ts) (in_layer id.space (giving given) (shown_all levels))
-  told_shows_at = telling_step.edited.shows ∙ ap (in_layer id.space (telling ts)) giving_step.edited.shows
-
-  -- the space's level as it was before
-  pub told_before : (l : Level) → l ≡ slice_index_or levels place l → t.before ≡ l
-  told_before l e = t.read ∙ get_or_default levels place t.before l within ∙ sym e
+  pub told_settles_at : Settles id.space (in_layer id.space (telling ts) (in_layer id.space (giving given) (shown_all levels))) (shown_all news)
+  told_settles_at = subst (λ (ls : List Layer). Settles id.space (in_layer id.space (telling ts) ls) (shown_all news)) giving_step.edited.shows told_step.settles
 
   pub told_level : (l : Level) → l ≡ slice_index_or news place l → l ≡ t.told
-  told_level l e = read_set gave place t.told l (place_within gave id.space place giving_step.here.0 giving_step.here.1) (subst (λ (ls : List Level). l ≡ slice_index_or ls place l) t.left e)
+  told_level l e = told_there gave news id.space place ts t.told told_step l e
 
   pub sees_more : is_consistent (view (shown_all levels) id.space ++ ts) ≡ true
   sees_more =
       ap (λ (us : List Tell). is_consistent (us ++ ts)) (sym ((s.fits t.before (place_member levels id.space place h.0 h.1 t.before t.read)).seen ∙ ap (view (shown_all levels)) name))
       ∙ t.tells.consistent
 
--- Layers of which nothing is inconsistent are what is left of them
-pub settles_itself : (levels : List Level) (space : List ℕ) (layers : List Layer) → IsSound levels → shown_all levels ≡ layers → Settles space layers (shown_all levels)
-settles_itself levels space layers s e = subst (λ (ls : List Layer). Settles space ls (shown_all levels)) e (nothing_fails space (shown_all levels) (none_inconsistent levels s))
+-- What is left after a quiet change of the space itself
+settles_quietly : (change : Layer → Layer) (space : List ℕ) (before after made left : List Layer) → IsQuietChange change → Settles space before after → in_layer space change before ≡ made → left ≡ in_layer space change after
+    → Settles space made left
+settles_quietly change space before after made left quiet settles e f =
+    subst (λ (ls : List Layer). Settles space made ls) (sym f) (subst (λ (ls : List Layer). Settles space ls (in_layer space change after)) e (quiet_settles change space before after quiet settles))
 
 -- and then its statement is taken off
 module _ (levels : List Level) (value : List Layer) (viewed : shown_all levels ≡ value) (id : Ident) (place : ℕ) (s : IsSound levels) (h : PlaceIn levels id.space place)
-    (none : has_below (shown_all levels) id.space ≡ false) (ts : List Tell) (given : Given) (news : List Level) (t : ToldAt place ts given levels news)
+    (ts : List Tell) (given : Given) (news : List Level) (t : ToldAt place ts given levels news)
     (l m : Level) (e : l ≡ slice_index_or news place l) (q : IsQuiet (with_frames id.number (λ stack. drop 1 stack)) l m) where
   popping_step : Reached news (slice_set news place m) id.space place (with_frames id.number (λ stack. drop 1 stack))
   popping_step =
-      quiet_step news id.space place (told_sound_at levels id place s h none ts given news t) (told_here levels id place s h none ts given news t) l m e (with_frames id.number (λ stack. drop 1 stack)) (λ k. refl) q
+      quiet_step news id.space place (told_sound_at levels id place s h ts given news t) (told_here levels id place s h ts given news t) l m e (with_frames id.number (λ stack. drop 1 stack)) (λ k. refl) q
 
   pub advanced_sound : IsSound (slice_set news place m)
   advanced_sound = popping_step.edited.sound
 
   pub advanced : IsAdvanced id ts (given_out given) value (shown_all (slice_set news place m)) true
   advanced = (
-    ap (λ (ls : List Layer). is_consistent (view ls id.space ++ ts)) (sym viewed) ∙ sees_more levels id place s h none ts given news t,
-    settles_itself (slice_set news place m) id.space (done id ts (given_out given) (without_top id value)) advanced_sound
-        (popping_step.edited.shows ∙ ap (in_layer id.space (with_frames id.number (λ stack. drop 1 stack))) (told_shows_at levels id place s h none ts given news t)
-        ∙ ap (λ (ls : List Layer). told_by id ls ts given) viewed ∙ told_by_is id value ts given),
+    ap (λ (ls : List Layer). is_consistent (view ls id.space ++ ts)) (sym viewed) ∙ sees_more levels id place s h ts given news t,
+    settles_quietly (with_frames id.number (λ stack. drop 1 stack)) id.space (in_layer id.space (telling ts) (in_layer id.space (giving given) (shown_all levels))) (shown_all news)
+        (done id ts (given_out given) (without_top id value)) (shown_all (slice_set news place m)) (are_quiet.frames id.number (λ stack. drop 1 stack)) (told_settles_at levels id place s h ts given news t)
+        (ap (λ (ls : List Layer). told_by id ls ts given) viewed ∙ told_by_is id value ts given) popping_step.edited.shows,
   )
 
 -- An exception's term is told while the handler stands on the stack
 module _ (levels : List Level) (value : List Layer) (viewed : shown_all levels ≡ value) (id : Ident) (place : ℕ) (s : IsSound levels) (h : PlaceIn levels id.space place)
-    (none : has_below (shown_all levels) id.space ≡ false) (handler : List Frame) (height : ℕ) (high : height ≡ length handler)
+    (handler : List Frame) (height : ℕ) (high : height ≡ length handler)
     (l l1 : Level) (e : l ≡ slice_index_or levels place l) (q : IsQuiet (with_frames id.number (λ stack. handler ++ stack)) l l1) where
   abbrev pushed : List Level
   pushed = slice_set levels place l1
@@ -152,17 +149,17 @@ module _ (levels : List Level) (value : List Layer) (viewed : shown_all levels �
   pushing_step : Reached levels pushed id.space place (with_frames id.number (λ stack. handler ++ stack))
   pushing_step = quiet_step levels id.space place s h l l1 e (with_frames id.number (λ stack. handler ++ stack)) (λ k. refl) q
 
+  pub raised_inside : (ts : List Tell) (count : ℕ) (news : List Level) → ToldAt place ts (Variables count) pushed news → place < length news
+  raised_inside ts count news t = told_inside pushed id place pushing_step.edited.sound pushing_step.here ts (Variables count) news t
+
   -- it is told, and what stands below the handler is cut out
   module _ (ts : List Tell) (count : ℕ) (news : List Level) (t : ToldAt place ts (Variables count) pushed news) (below : ℕ)
       (l2 m : Level) (e2 : l2 ≡ slice_index_or news place l2) (q2 : IsQuiet (with_frames id.number (cut_out height below)) l2 m) where
-    nothing_below : has_below (shown_all pushed) id.space ≡ false
-    nothing_below = pushing_step.below ∙ none
-
     catching_step : Reached news (slice_set news place m) id.space place (with_frames id.number (cut_out height below))
     catching_step =
         quiet_step news id.space place
-        (told_sound_at pushed id place pushing_step.edited.sound pushing_step.here nothing_below ts (Variables count) news t)
-        (told_here pushed id place pushing_step.edited.sound pushing_step.here nothing_below ts (Variables count) news t)
+        (told_sound_at pushed id place pushing_step.edited.sound pushing_step.here ts (Variables count) news t)
+        (told_here pushed id place pushing_step.edited.sound pushing_step.here ts (Variables count) news t)
         l2 m e2 (with_frames id.number (cut_out height below)) (λ k. refl) q2
 
     pub raised_sound : IsSound (slice_set news place m)
@@ -172,13 +169,13 @@ module _ (levels : List Level) (value : List Layer) (viewed : shown_all levels �
     raised_shows x u = (
       handler ++ drop below (stack_of value id),
       u,
-      settles_itself (slice_set news place m) id.space (taken_on id (handler ++ drop below (stack_of value id)) (done id ts (GivesOut count ∷ []) value)) raised_sound
-          (catching_step.edited.shows
-          ∙ ap (in_layer id.space (with_frames id.number (cut_out height below)))
-          (told_shows_at pushed id place pushing_step.edited.sound pushing_step.here nothing_below ts (Variables count) news t
-          ∙ ap (λ (ls : List Layer). in_layer id.space (telling ts) (in_layer id.space (giving (Variables count)) ls))
-          (pushing_step.edited.shows ∙ ap (in_layer id.space (with_frames id.number (λ stack. handler ++ stack))) viewed))
-          ∙ raised_is id value handler ts count height below high),
+      settles_quietly (with_frames id.number (cut_out height below)) id.space (in_layer id.space (telling ts) (in_layer id.space (giving (Variables count)) (shown_all pushed))) (shown_all news)
+          (taken_on id (handler ++ drop below (stack_of value id)) (done id ts (GivesOut count ∷ []) value)) (shown_all (slice_set news place m)) (are_quiet.frames id.number (cut_out height below))
+          (told_settles_at pushed id place pushing_step.edited.sound pushing_step.here ts (Variables count) news t)
+          (ap (λ (ls : List Layer). in_layer id.space (with_frames id.number (cut_out height below)) (in_layer id.space (telling ts) (in_layer id.space (giving (Variables count)) ls)))
+          (pushing_step.edited.shows ∙ ap (in_layer id.space (with_frames id.number (λ stack. handler ++ stack))) viewed)
+          ∙ raised_is id value handler ts count height below high)
+          catching_step.edited.shows,
     )
 
   -- where the exception goes was looked for in the same stack
@@ -205,7 +202,7 @@ module _ (levels : List Level) (value : List Layer) (viewed : shown_all levels �
 
     pub room_below : (ts : List Tell) (count : ℕ) (news : List Level) → ToldAt place ts (Variables count) pushed news → (l2 : Level) → l2 ≡ slice_index_or news place l2 → height + below ≤ length (stack_in l2)
     room_below ts count news t l2 e2 =
-        let told : l2 ≡ t.told = told_level pushed id place pushing_step.edited.sound pushing_step.here (pushing_step.below ∙ none) ts (Variables count) news t l2 e2 in
+        let told : l2 ≡ t.told = told_level pushed id place pushing_step.edited.sound pushing_step.here ts (Variables count) news t l2 e2 in
         let before : t.before ≡ l1 = read_set levels place l1 t.before (place_within levels id.space place h.0 h.1) t.read in
         let threads : l2.threads.list ≡ l1.threads.list = ap (λ (k : Level). k.threads.list) told ∙ ap (λ (r : Running). r.list) t.tells.threads ∙ ap (λ (k : Level). k.threads.list) before in
         subst (λ (us : List Thread). height + below ≤ length (frames_in (thread_at us id.number))) (sym threads)
@@ -252,19 +249,21 @@ clash_shows levels value viewed s space place h ts news t = (
 -- A space that gave something out and then was told
 module _ (levels : List Level) (place : ℕ) (within : place < length levels) (given : Given) (l1 g : Level) (r1 : l1 ≡ slice_index_or levels place l1) (e : g ≡ after_giving given l1)
     (ts : List Tell) (seen : List Level) (at : seen ≡ slice_set levels place g) (k : Level) (rk : k ≡ slice_index_or (slice_set levels place g) place k)
-    (home : Bool) (homes : home ≡ list_all (λ t. list_all (is_home (shown_all seen) k.space) (named_by t)) ts)
-    (l2 t : Level) (r2 : l2 ≡ slice_index_or (slice_set levels place g) place l2) (told : IsToldMore home ts l2 t) where
-  pub told_at : ToldAt place ts given levels (slice_set (slice_set levels place g) place t)
+    (home : Bool) (homes : home ≡ list_all (λ t. list_all (is_home (shown_all seen) k.space) (named_by t)) ts) (news : List Level) (t : ToldThrough place home ts (slice_set levels place g) news) where
+  told_given : t.before ≡ after_giving given l1
+  told_given = read_set levels place g t.before within t.read ∙ e
+
+  pub told_at : ToldAt place ts given levels news
   told_at = record {
     before = l1;
-    told = t;
+    told = t.told;
     home = home;
     read = r1;
     homes = homes
         ∙ ap₂ (λ (ls : List Level) (s : List ℕ). list_all (λ u. list_all (is_home (shown_all ls) s) (named_by u)) ts) (at ∙ ap (slice_set levels place) e)
         (ap (λ (n : Level). n.space) (read_set levels place g k within rk ∙ e));
-    tells = subst (λ (n : Level). IsToldMore home ts n t) (read_set levels place g l2 within r2 ∙ e) told;
-    left = ap (λ (n : Level). slice_set (slice_set levels place n) place t) e;
+    tells = subst (λ (n : Level). IsToldMore home ts n t.told) told_given t.tells;
+    left = subst (λ (n : Level). IsLeft place n t.told (after_giving_at place given l1 levels) news) told_given (subst (λ (n : Level). IsLeft place t.before t.told (slice_set levels place n) news) e t.left);
   }
 
 -- What the cells and ports were, where what is given out changes them
@@ -276,26 +275,26 @@ set_back_is given objects None h = h
 set_back_is given objects (Some same) h = h
 
 -- A space that was told nothing after it gave something out, and whose numbers, cells and ports are set back
-module _ (levels : List Level) (place : ℕ) (within : place < length levels) (given : Given) (l0 l1 g l2 t l3 : Level) (r0 : l0 ≡ slice_index_or levels place l0) (r1 : l1 ≡ slice_index_or levels place l1)
-    (e : g ≡ after_giving given l1) (r2 : l2 ≡ slice_index_or (slice_set levels place g) place l2) (k : t ≡ l2) (r3 : l3 ≡ slice_index_or (slice_set (slice_set levels place g) place t) place l3) where
+module _ (levels : List Level) (place : ℕ) (within : place < length levels) (given : Given) (l0 l1 g : Level) (r0 : l0 ≡ slice_index_or levels place l0) (r1 : l1 ≡ slice_index_or levels place l1)
+    (e : g ≡ after_giving given l1) (news : List Level) (same : news ≡ slice_set levels place g) where
   same_level : l1 ≡ l0
   same_level = r1 ∙ get_or_default levels place l1 l0 within ∙ sym r0
 
-  pub given_level : l2 ≡ after_giving given l0
-  given_level = read_set levels place g l2 within r2 ∙ e ∙ ap (after_giving given) same_level
+  -- what is read there
+  pub given_level : (l2 : Level) → l2 ≡ slice_index_or (slice_set levels place g) place l2 → l2 ≡ after_giving given l0
+  given_level l2 r2 = read_set levels place g l2 within r2 ∙ e ∙ ap (after_giving given) same_level
 
-  module _ (before : Option Contents) (b : IsBefore given l1.objects before) (m : Level) (back : m ≡ record l3 { numbers = l0.numbers; objects = unwrap_or before l3.objects }) where
+  module _ (l3 : Level) (r3 : l3 ≡ slice_index_or news place l3) (before : Option Contents) (b : IsBefore given l1.objects before) (m : Level)
+      (back : m ≡ record l3 { numbers = l0.numbers; objects = unwrap_or before l3.objects }) where
     set_back_level : m ≡ l0
     set_back_level =
-        let inside : place < length (slice_set levels place g) = omega (arith, within, length-set levels place g) in
-        let same : l3 ≡ after_giving given l0 = read_set (slice_set levels place g) place t l3 inside r3 ∙ k ∙ given_level in
         back
-        ∙ ap (λ (n : Level). record n { numbers = l0.numbers; objects = unwrap_or before n.objects }) same
+        ∙ ap (λ (n : Level). record n { numbers = l0.numbers; objects = unwrap_or before n.objects }) (given_level l3 (subst (λ (ls : List Level). l3 ≡ slice_index_or ls place l3) same r3))
         ∙ ap (λ (o : Contents). record l0 { objects = o }) (set_back_is given l0.objects before (subst (λ (n : Level). IsBefore given n.objects before) same_level b))
 
-    pub restored : slice_set (slice_set (slice_set levels place g) place t) place m ≡ levels
+    pub restored : slice_set news place m ≡ levels
     restored =
-        set-set (slice_set levels place g) place t m
+        ap (λ (ls : List Level). slice_set ls place m) same
         ∙ set-set levels place g m
         ∙ ap (slice_set levels place) (set_back_level ∙ r0)
         ∙ set-get_or levels place l0

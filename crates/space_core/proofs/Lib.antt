@@ -17,6 +17,11 @@ pub mod SilentLaws
 pub mod TreeAnswers
 pub mod StackLaws
 pub mod LayerLaws
+pub mod FallLaws
+pub mod FateLaws
+pub mod RemakeLaws
+pub mod SettledLaws
 pub mod DeclareLaws
 pub mod AdvanceLaws
+pub mod ThroughLaws
 pub mod CatchLaws

@@ -1,4 +1,4 @@
--- What is kept of the spaces fits their layers after an edit of a space that has none below it.
+-- What is kept of the spaces fits their layers after an edit of a space.
 use Rattle.std.proofs.Common.{◌≡◌, ◌≢◌, ◌⊎◌, inl, inr, ℕ, ◌<◌, ◌≤◌, suc, zero, Bool, true, false, not, if◌then◌else◌, cond, List, [], ◌∷◌, ◌++◌, length, drop, get_or, slice_set, slice_index_or, refl, sym, ap, ap₂, subst, ◌∙◌, arith, Contains, Some, append_assoc, length-append}
 use Rattle.std.specs.List.{list_any, list_all, flat_map, find}
 use Rattle.std.proofs.lemmas.Bool.{false≢true}
@@ -70,22 +70,23 @@ pub view_is : (layers : List Layer) (space : List ℕ) (l : Layer) → IsTree la
 view_is layers [] l t e = top_view layers l (trees_lead layers t) e
 view_is layers (n ∷ s) l t e = view_splits layers (n ∷ s) l (trees_lead layers t) refl e
 
--- the layer of what is kept is found by its name
+-- a layer is found by its name
+pub found_by : (ls : List Layer) (k : Layer) → is_ascending (names_of ls) ≡ true → In k ls → layer_at ls k.space ≡ Some k
+found_by [] k o i = elim i [ ]
+found_by (j ∷ ls) k o (inl e) = rw (ap (λ (n : Layer). list_eq n.space k.space) e ∙ names_equal k.space) (ap (λ (n : Layer). Some n) e)
+found_by (j ∷ ls) k o (inr i) = elim (decide (list_eq j.space k.space)) [
+  | inl q ↦ absurd (one_of_name j ls k o i (sym (equal_names j.space k.space q)))
+  | inr q ↦ rw q (found_by ls k (and-right _ _ o) i)
+]
+
+-- and so is that of what is kept
 pub layer_found : (levels : List Level) → IsSound levels → (l : Level) → Contains levels l → layer_at (shown_all levels) l.space ≡ Some (shown l)
 layer_found levels s l c = found_by (shown_all levels) (shown l) s.tree.ordered (In-from_contains (shown_all levels) (shown l) (shown_member levels l c))
-  where
-    found_by : (ls : List Layer) (k : Layer) → is_ascending (names_of ls) ≡ true → In k ls → layer_at ls k.space ≡ Some k
-    found_by [] k o i = elim i [ ]
-    found_by (j ∷ ls) k o (inl e) = rw (ap (λ (n : Layer). list_eq n.space k.space) e ∙ names_equal k.space) (ap (λ (n : Layer). Some n) e)
-    found_by (j ∷ ls) k o (inr i) = elim (decide (list_eq j.space k.space)) [
-      | inl q ↦ absurd (one_of_name j ls k o i (sym (equal_names j.space k.space q)))
-      | inr q ↦ rw q (found_by ls k (and-right _ _ o) i)
-    ]
 
--- The edit of a space that has none below it
+-- The edit of a space
 
 module _ (levels : List Level) (space : List ℕ) (place : ℕ) (x : Layer) (h : IsFirst (is_of space) (shown_all levels) place x) (l m : Level) (e : l ≡ slice_index_or levels place l)
-    (change : Layer → Layer) (becomes : shown m ≡ change (shown l)) (names : m.space ≡ l.space) (numbers : m.numbers ≡ l.numbers) (s : IsSound levels) (none : has_below (shown_all levels) space ≡ false) where
+    (change : Layer → Layer) (becomes : shown m ≡ change (shown l)) (names : m.space ≡ l.space) (numbers : m.numbers ≡ l.numbers) (s : IsSound levels) where
   abbrev layers : List Layer
   layers = shown_all levels
 
@@ -146,33 +147,36 @@ module _ (levels : List Level) (space : List ℕ) (place : ℕ) (x : Layer) (h :
       ∙ ap (λ (n : Layer). Some n) (changed_is x h.found))
       ∙ ap (λ (ts : List Tell). ts ++ (shown m).tells) own_above
 
-  apart_other : (n : Level) → IsElsewhere levels place n → is_below space n.space ≡ false
-  apart_other n k = elim (decide (is_below space n.space)) [
+  pub apart_by : (n : Level) → IsElsewhere levels place n → is_properly_below space n.space ≡ false → is_below space n.space ≡ false
+  apart_by n k under = elim (decide (is_below space n.space)) [
     | inl b ↦ absurd (not_both _
         (properly_by space n.space b (λ q. other_name layers k.at place (shown n) x s.tree.ordered (omega (arith, k.within, length-map levels shown)) h.within
         (get_or-map shown levels k.at n (shown n) k.within ∙ ap shown k.item) h.item k.other (sym q ∙ sym (space_of layers space x h.found))))
-        (none_of (λ (j : Layer). is_properly_below space j.space) layers none (shown n) (shown_member levels n (elsewhere_in levels place n k))))
+        under)
     | inr b ↦ b
   ]
 
-  fits_other : (n : Level) → IsElsewhere levels place n → Fits after n
-  fits_other n k =
-      let apart = apart_other n k in
+  -- what is kept of a space that is not below it
+  pub fits_apart : (n : Level) → IsElsewhere levels place n → is_properly_below space n.space ≡ false → Fits after n
+  fits_apart n k under =
+      let apart = apart_by n k under in
       fits_after layers after n (unseen n.space apart) (above_kept n.space (inl apart)) (after_homes n.space) (s.fits n (elsewhere_in levels place n k))
 
-  pub own_edit : Fits after m → Edited levels (slice_set levels place m) space change
-  own_edit f =
-      let shows : shown_all (slice_set levels place m) ≡ after = set_shown levels space place x h l m e change becomes in
-      record {
-        shows = shows;
-        sound = record {
-          tree = subst IsTree (sym shows) after_tree;
-          fits = λ n c. subst (λ (ls : List Layer). Fits ls n) (sym shows) (elim (set_member levels place m n (place_within levels space place x h) c) [
-            | inl k ↦ subst (Fits after) (sym k) f
-            | inr k ↦ fits_other n k
-          ]);
-        };
-      }
+  pub own_shows : shown_all (slice_set levels place m) ≡ after
+  own_shows = set_shown levels space place x h l m e change becomes
+
+  -- where none is below it
+  pub own_edit : has_below (shown_all levels) space ≡ false → Fits after m → Edited levels (slice_set levels place m) space change
+  own_edit none f = record {
+    shows = own_shows;
+    sound = record {
+      tree = subst IsTree (sym own_shows) after_tree;
+      fits = λ n c. subst (λ (ls : List Layer). Fits ls n) (sym own_shows) (elim (set_member levels place m n (place_within levels space place x h) c) [
+        | inl k ↦ subst (Fits after) (sym k) f
+        | inr k ↦ fits_apart n k (none_of (λ (j : Layer). is_properly_below space j.space) layers none (shown n) (shown_member levels n (elsewhere_in levels place n k)))
+      ]);
+    };
+  }
 
 -- What is kept of one space, by the name of the space
 pub record FitsAt (layers : List Layer) (space : List ℕ) (l : Level) : Type 0 where
@@ -209,25 +213,27 @@ pub record FitsAbove (layers : List Layer) (space : List ℕ) (m : Level) : Type
   pub touches : m.traced ≡ true → is_top space ≡ false → Traces space (seen_above layers space) (shown m).tells m.touched
 
 module _ (levels : List Level) (space : List ℕ) (place : ℕ) (x : Layer) (h : IsFirst (is_of space) (shown_all levels) place x) (l m : Level) (e : l ≡ slice_index_or levels place l)
-    (change : Layer → Layer) (becomes : shown m ≡ change (shown l)) (names : m.space ≡ l.space) (numbers : m.numbers ≡ l.numbers) (s : IsSound levels) (none : has_below (shown_all levels) space ≡ false) where
-  pub edit_above : FitsAbove (shown_all levels) space m → Edited levels (slice_set levels place m) space change
-  edit_above f =
-      own_edit levels space place x h l m e change becomes names numbers s none
-      (fits_at (in_layer space change (shown_all levels)) space m (sym (names ∙ own_space levels space place x h l m e change becomes names numbers s none)) (record {
-        seen = f.store ∙ sym (own_view levels space place x h l m e change becomes names numbers s none);
-        from = f.from ∙ ap length (sym (own_above levels space place x h l m e change becomes names numbers s none));
+    (change : Layer → Layer) (becomes : shown m ≡ change (shown l)) (names : m.space ≡ l.space) (numbers : m.numbers ≡ l.numbers) (s : IsSound levels) where
+  pub fits_above : FitsAbove (shown_all levels) space m → Fits (in_layer space change (shown_all levels)) m
+  fits_above f =
+      fits_at (in_layer space change (shown_all levels)) space m (sym (names ∙ own_space levels space place x h l m e change becomes names numbers s)) (record {
+        seen = f.store ∙ sym (own_view levels space place x h l m e change becomes names numbers s);
+        from = f.from ∙ ap length (sym (own_above levels space place x h l m e change becomes names numbers s));
         consistent = f.consistent;
         home = λ t. all_home (shown_all levels) (in_layer space change (shown_all levels)) space (flat_map named_by (shown m).tells)
-            (after_homes levels space place x h l m e change becomes names numbers s none space) (f.home t);
-        touches = λ t n. subst (λ (ts : List Tell). Traces space ts (shown m).tells m.touched) (sym (own_above levels space place x h l m e change becomes names numbers s none)) (f.touches t n);
-      }))
+            (after_homes levels space place x h l m e change becomes names numbers s space) (f.home t);
+        touches = λ t n. subst (λ (ts : List Tell). Traces space ts (shown m).tells m.touched) (sym (own_above levels space place x h l m e change becomes names numbers s)) (f.touches t n);
+      })
+
+  pub edit_above : has_below (shown_all levels) space ≡ false → FitsAbove (shown_all levels) space m → Edited levels (slice_set levels place m) space change
+  edit_above none f = own_edit levels space place x h l m e change becomes names numbers s none (fits_above f)
 
 -- Telling
 
 module _ (levels : List Level) (space : List ℕ) (place : ℕ) (x : Layer) (h : IsFirst (is_of space) (shown_all levels) place x) (l m : Level) (e : l ≡ slice_index_or levels place l)
     (ts : List Tell) (home : Bool) (told : IsToldMore home ts l m) (homes : home ≡ true → list_all (λ t. list_all (is_home (shown_all levels) space) (named_by t)) ts ≡ true)
-    (s : IsSound levels) (none : has_below (shown_all levels) space ≡ false) where
-  own_name : l.space ≡ space
+    (s : IsSound levels) where
+  pub own_name : l.space ≡ space
   own_name = ap (λ (n : Layer). n.space) (read_shown levels space place x h l e) ∙ space_of (shown_all levels) space x h.found
 
   fitted : FitsAt (shown_all levels) space l
@@ -242,7 +248,7 @@ module _ (levels : List Level) (space : List ℕ) (place : ℕ) (x : Layer) (h :
   more_tells : (shown m).tells ≡ (shown l).tells ++ ts
   more_tells = ap₂ (λ (n : ℕ) (us : List Tell). drop n us) told.told_from told.store ∙ drop-append-le l.told_from l.store ts told_within
 
-  shows_more : shown m ≡ telling ts (shown l)
+  pub shows_more : shown m ≡ telling ts (shown l)
   shows_more = λ i. record { space = told.space i; status = told.status i; tells = more_tells i; threads = (told.threads i).list; triggers = told.triggers i; cells = (told.objects i).cells; ports = (told.objects i).ports; next = next_with (told.threads i).next (told.numbers i) }
 
   all_named_home : l.traced ≡ true → home ≡ true → list_all (is_home (shown_all levels) space) (flat_map named_by (shown m).tells) ≡ true
@@ -252,8 +258,8 @@ module _ (levels : List Level) (space : List ℕ) (place : ℕ) (x : Layer) (h :
       ∙ list_all-append (is_home (shown_all levels) space) (flat_map named_by (shown l).tells) (flat_map named_by ts)
       ∙ and_both _ _ (fitted.home t) (all_flat (is_home (shown_all levels) space) named_by ts ∙ homes k)
 
-  pub tell_edit : Edited levels (slice_set levels place m) space (telling ts)
-  tell_edit = edit_above levels space place x h l m e (telling ts) shows_more told.space told.numbers s none (record {
+  tell_above : FitsAbove (shown_all levels) space m
+  tell_above = record {
     store = told.store ∙ ap (λ (us : List Tell). us ++ ts) parts ∙ append_assoc (seen_above (shown_all levels) space) (shown l).tells ts ∙ ap (λ (us : List Tell). seen_above (shown_all levels) space ++ us) (sym more_tells);
     from = told.told_from ∙ fitted.from;
     consistent = ap is_consistent told.store ∙ told.consistent;
@@ -264,4 +270,10 @@ module _ (levels : List Level) (space : List ℕ) (place : ℕ) (x : Layer) (h :
         (subst (λ (xs : List Ident). Traces space (seen_above (shown_all levels) space) ((shown l).tells ++ ts) xs) (sym k.noted)
         (traces_twice space (seen_above (shown_all levels) space) (shown l).tells ts l.touched k.more (fitted.touches (told.traced t).0 n)
         (subst (λ (s : List ℕ). Traces s (seen_above (shown_all levels) space ++ (shown l).tells) ts k.more) own_name (subst (λ (us : List Tell). Traces l.space us ts k.more) parts k.traces))));
-  })
+  }
+
+  pub tell_fits : Fits (in_layer space (telling ts) (shown_all levels)) m
+  tell_fits = fits_above levels space place x h l m e (telling ts) shows_more told.space told.numbers s tell_above
+
+  pub tell_edit : has_below (shown_all levels) space ≡ false → Edited levels (slice_set levels place m) space (telling ts)
+  tell_edit none = edit_above levels space place x h l m e (telling ts) shows_more told.space told.numbers s none tell_above

@@ -1,7 +1,7 @@
 -- Tells and ends of the space that was looked up.
 use Rattle.std.proofs.Common.{◌≡◌, inl, inr, ℕ, zero, suc, ◌<◌, ◌+◌, length, slice_get, arith, Option, unwrap_or, Bool, true, false, not, ◌&&◌, List, [], ◌∷◌, ◌++◌, filter, slice_set, slice_index_or, refl, sym, ap, ap₂, subst, ◌∙◌, Result, Ok, Err, Some, None, Contains}
 use Rattle.std.specs.Prelude.{OnErr, IfOk, insert}
-use Rattle.std.specs.List.{list_all, find, fold}
+use Rattle.std.specs.List.{list_all, find}
 use Rattle.oz_base.specs.Lists.{list_eq}
 use Rattle.oz_base.specs.declared.names.Ident.{Ident}
 use Rattle.std.proofs.lemmas.List.{length-map}
@@ -9,13 +9,10 @@ use Rattle.oz_semantics.specs.Names.{is_properly_below, space_lt, parent_of}
 use Rattle.oz_semantics.specs.Edits.{created}
 use Rattle.oz_semantics.specs.Spaces.{alike_on}
 use Rattle.oz_semantics.specs.Store.{named_by, is_consistent}
-use Rattle.oz_semantics.specs.Configurations.{is_of, layer_at, in_layer, view, ancestor_variables, telling, ending, raised_by, failed, next_child, layer_of, new_layer, counting_child}
-use Rattle.oz_semantics.specs.Settling.{failing, inconsistent_spaces, without_inconsistent}
+use Rattle.oz_semantics.specs.Configurations.{is_of, in_layer, view, ancestor_variables, telling, ending, raised_by, failed, next_child, layer_of, new_layer, counting_child}
 use Rattle.oz_semantics.specs.declared.value.Tell.{Tell}
 use Rattle.oz_semantics.specs.declared.configuration.Layer.{Layer}
-use Rattle.view_laws.specs.Steps as steps
-use Rattle.settle_laws.proofs.TellLaws.{tell_below}
-use Rattle.settle_laws.proofs.SoundLaws.{nothing_sound}
+use Rattle.settle_laws.specs.Settles.{Settles}
 use Rattle.view_laws.proofs.Members.{has-cases}
 use Rattle.view_laws.proofs.NameLaws.{below_itself, names_equal}
 use Rattle.view_laws.proofs.SightLaws.{space_of}
@@ -24,68 +21,46 @@ use Rattle.space_core.specs.Ending.{IsFailure, IsChild, IsAdded}
 use Rattle.space_core.specs.Levels.{IsToldTo}
 use Rattle.space_core.specs.Places.{IsFirst, IsAbsent}
 use Rattle.space_core.specs.Shown.{shown, shown_all, seen_above, is_home, IsSound, IsQuiet}
-use Rattle.space_core.specs.Telling.{IsLevelTold, has_below}
+use Rattle.space_core.specs.Telling.{ToldThrough, IsToldThrough, has_below}
 use Rattle.space_core.specs.declared.level.Level.{Level}
-use Rattle.space_core.proofs.AnswerLaws.{PlaceIn, unchanged, quiet_sound, quiet_shows}
+use Rattle.space_core.proofs.AdvanceLaws.{clash_shows}
+use Rattle.space_core.proofs.AnswerLaws.{PlaceIn, quiet_sound, quiet_shows}
 use Rattle.space_core.proofs.CreateLaws.{find_put, not_own_child, create_sound, create_shows}
 use Rattle.space_core.proofs.EndLaws.{is_left, left_sound, left_shown, left_above, none_left, fail_edit}
 use Rattle.space_core.proofs.MemberLaws.{insert_member, map_insert}
-use Rattle.space_core.proofs.SoundLaws.{Edited, read_shown, place_member, none_inconsistent}
-use Rattle.space_core.proofs.TellLaws.{tell_edit}
+use Rattle.space_core.proofs.RemakeLaws.{Told, told_all}
+use Rattle.space_core.proofs.SoundLaws.{Edited, read_shown, place_member}
 
 -- Telling
 
-module _ (levels now : List Level) (value : List Layer) (seen : now ≡ levels) (viewed : shown_all levels ≡ value) (s : IsSound levels) (space : List ℕ) (place : ℕ) (h : PlaceIn now space place)
-    (l m : Level) (e : l ≡ slice_index_or levels place l) (ts : List Tell) (home : Bool) (homes : home ≡ list_all (λ t. list_all (is_home (shown_all levels) space) (named_by t)) ts)
-    (none : has_below (shown_all levels) space ≡ false) where
-  here : PlaceIn levels space place
-  here = subst (λ (ls : List Level). PlaceIn ls space place) seen h
+module _ (levels : List Level) (value : List Layer) (viewed : shown_all levels ≡ value) (s : IsSound levels) (space : List ℕ) (place : ℕ) (h : PlaceIn levels space place) (ts : List Tell) (home : Bool)
+    (homes : home ≡ list_all (λ t. list_all (is_home (shown_all levels) space) (named_by t)) ts) (news : List Level) where
+  told : (t : ToldThrough place home ts levels news) → Told levels news space place ts t.told
+  told t = told_all levels space place h.0 h.1 t.before t.told t.read ts home t.tells (λ q. sym homes ∙ q) s news t.left
 
-  edited : IsLevelTold home ts l m true → Edited levels (slice_set levels place m) space (telling ts)
-  edited q = tell_edit levels space place here.0 here.1 l m e ts home q (λ t. sym homes ∙ t) s none
+  pub told_sound : {E : Type 0} (r : Result Bool E) → IfOk r (IsToldThrough place home ts levels news) → OnErr r (news ≡ levels) → IsSound news
+  told_sound (Ok true) t f = (told t).sound
+  told_sound (Ok false) t f = subst IsSound (sym t.left) s
+  told_sound (Err b) t f = subst IsSound (sym f) s
 
-  own_view : view value space ≡ l.store
-  own_view =
-      let x = here.1 in
-      let name : l.space ≡ space = ap (λ (k : Layer). k.space) (read_shown levels space place here.0 x l e) ∙ found_space in
-      ap (λ (ls : List Layer). view ls space) (sym viewed) ∙ sym ((s.fits l (place_member levels space place here.0 x l e)).seen ∙ ap (view (shown_all levels)) name)
-    where
-      found_space : here.0.space ≡ space
-      found_space = space_of (shown_all levels) space here.0 here.1.found
+  sees_told : (t : ToldThrough place home ts levels news) → is_consistent (view value space ++ ts) ≡ true
+  sees_told t =
+      let name : t.before.space ≡ space = ap (λ (k : Layer). k.space) (read_shown levels space place h.0 h.1 t.before t.read) ∙ space_of (shown_all levels) space h.0 h.1.found in
+      let own : view value space ≡ t.before.store =
+      ap (λ (ls : List Layer). view ls space) (sym viewed) ∙ sym ((s.fits t.before (place_member levels space place h.0 h.1 t.before t.read)).seen ∙ ap (view (shown_all levels)) name) in
+      ap (λ (us : List Tell). is_consistent (us ++ ts)) own ∙ t.tells.consistent
 
-  pub told_sound : {E : Type 0} (r : Result Bool E) → IfOk r (IsLevelTold home ts l m) → OnErr r (m ≡ l) → IsSound (slice_set levels place m)
-  told_sound (Ok true) q f = (edited q).sound
-  told_sound (Ok false) q f = subst IsSound (sym (unchanged levels place l m e q.0)) s
-  told_sound (Err b) q f = subst IsSound (sym (unchanged levels place l m e f)) s
+  settled : (t : ToldThrough place home ts levels news) → Settles space (in_layer space (telling ts) value) (shown_all news)
+  settled t = subst (λ (ls : List Layer). Settles space (in_layer space (telling ts) ls) (shown_all news)) viewed (told t).settles
 
-  after_is : (q : IsLevelTold home ts l m true) → shown_all (slice_set levels place m) ≡ in_layer space (telling ts) value
-  after_is q = (edited q).shows ∙ ap (in_layer space (telling ts)) viewed
-
-  nothing_fails : (q : IsLevelTold home ts l m true) → shown_all (slice_set levels place m) ≡ without_inconsistent (in_layer space (telling ts) value)
-  nothing_fails q =
-      sym (ap (λ (ss : List (List ℕ)). fold failing (shown_all (slice_set levels place m)) ss) (none_inconsistent (slice_set levels place m) (edited q).sound))
-      ∙ ap without_inconsistent (after_is q)
-
-  sees_told : (q : IsLevelTold home ts l m true) → is_consistent (view value space ++ ts) ≡ true
-  sees_told q = ap (λ (us : List Tell). is_consistent (us ++ ts)) own_view ∙ q.consistent
-
-  nothing_before : steps.IsSound value
-  nothing_before = nothing_sound value (sym (ap inconsistent_spaces viewed) ∙ none_inconsistent levels s)
-
-  there : layer_at value space ≡ Some here.0
-  there = sym (ap (λ (ls : List Layer). layer_at ls space) viewed) ∙ here.1.found
-
-  pub told_shows : {E : Type 0} (r : Result Bool E) → IfOk r (IsLevelTold home ts l m) → IfOk r (IsToldTo space ts value (shown_all (slice_set levels place m)))
-  told_shows (Ok true) q = record { left = nothing_fails q; consistent = sees_told q; below = tell_below space ts value here.0 nothing_before there (sees_told q) }
-  told_shows (Ok false) q = (ap shown_all (unchanged levels place l m e q.0) ∙ viewed, ap (λ (us : List Tell). is_consistent (us ++ ts)) own_view ∙ q.1)
-  told_shows (Err b) q = q
+  pub told_shows : {E : Type 0} (r : Result Bool E) → IfOk r (IsToldThrough place home ts levels news) → IfOk r (IsToldTo space ts value (shown_all news))
+  told_shows (Ok true) t = record { left = (settled t).left; consistent = sees_told t; below = (settled t).below }
+  told_shows (Ok false) t = let k = clash_shows levels value viewed s space place h ts news t in (k.1, k.0)
+  told_shows (Err b) t = t
 
 pub homes_by : {now levels : List Level} → now ≡ levels → (space : List ℕ) (ts : List Tell) (home : Bool) → home ≡ list_all (λ t. list_all (is_home (shown_all now) space) (named_by t)) ts
     → home ≡ list_all (λ t. list_all (is_home (shown_all levels) space) (named_by t)) ts
 homes_by seen space ts home e = subst (λ (ls : List Level). home ≡ list_all (λ t. list_all (is_home (shown_all ls) space) (named_by t)) ts) seen e
-
-pub none_by : {now levels : List Level} → now ≡ levels → (space : List ℕ) → has_below (shown_all now) space ≡ false → has_below (shown_all levels) space ≡ false
-none_by seen space e = subst (λ (ls : List Level). has_below (shown_all ls) space ≡ false) seen e
 
 -- Ends
 

@@ -30,6 +30,20 @@ pub record IsFailure (tells : List Tell) (old new : Level) : Type 0 where
   pub objects : new.objects ≡ record { cells = []; ports = [] }
   pub numbers : new.numbers ≡ old.numbers
 
+-- what is kept of a space that has failed
+abbrev pub fallen : List Tell → Level → Level
+fallen tells l =
+    record l {
+      status = Failed;
+      store = tells;
+      told_from = length tells;
+      touched = [];
+      threads = record l.threads { list = [] };
+      triggers = [];
+      objects = record { cells = []; ports = [] };
+      traced = true;
+    }
+
 -- a child in which a thread applies the procedure to the root variable
 pub record IsChild (space : List ℕ) (procedure : Ident) (tells : List Tell) (l : Level) : Type 0 where
   pub bare : IsBare tells l

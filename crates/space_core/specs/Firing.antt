@@ -1,10 +1,9 @@
 -- By-need computations of a space that begin.
-use Rattle.std.specs.Prelude.{ℕ, zero, suc, Bool, true, false, if◌then◌else◌, List, [], ◌∷◌, drop}
+use Rattle.std.specs.Prelude.{ℕ, zero, suc, Bool, if◌then◌else◌, List, [], ◌∷◌, drop}
 use Rattle.std.specs.List.{fold}
 use Rattle.oz_base.specs.declared.names.Ident.{Ident}
 use Rattle.oz_semantics.specs.Configurations.{with_frames, adding_trigger}
 use Rattle.oz_semantics.specs.Triggers.{beginning}
-use Rattle.oz_semantics.specs.declared.configuration.Trigger.{Trigger}
 use Rattle.oz_semantics.specs.declared.configuration.Layer.{Layer}
 
 -- the items that are marked, and those that are not

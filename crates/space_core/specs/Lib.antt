@@ -9,5 +9,6 @@ pub mod Giving
 pub mod Telling
 pub mod Silence
 pub mod Ending
+pub mod Fates
 pub mod Advances
 pub mod Firing

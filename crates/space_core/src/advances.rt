@@ -6,13 +6,13 @@ use crate::edits::{self, give, set_back};
 use crate::given::Given;
 use crate::homes::all_home;
 use crate::level::Level;
-use crate::telling::tell;
+use crate::remaking::tell_through;
 use oz_base::Sequence;
 use oz_semantics::{Frame, Tell};
 use std::alloc::{AllocError, Global};
 
-/// Tells the space at a place, which gives out what comes with that. False exactly where it is inconsistent with what the space sees:
-/// then nothing changes.
+/// Tells the space at a place, which gives out what comes with that, and all spaces below it. False exactly where it is inconsistent
+/// with what the space sees: then nothing changes.
 ///
 /// The space gives it out first, so that what is told of new variables leaves it traced.
 pub fn tell_at(
@@ -29,7 +29,7 @@ pub fn tell_at(
     let before = levels[place].numbers;
     let objects = give(alloc, &mut levels[place], given)?;
     let home = all_home(levels.as_slice(), &levels[place].space, tells);
-    match tell(alloc, &mut levels[place], home, tells) {
+    match tell_through(alloc, levels, place, home, tells) {
         Ok(true) => Ok(true),
         Ok(false) => {
             set_back(&mut levels[place], before, objects);

@@ -23,9 +23,10 @@ use crate::given::Given;
 use crate::homes::{all_home, has_below};
 use crate::level::{Level, top_level};
 use crate::looking::{level_place, level_position};
+use crate::remaking::tell_through;
 use crate::stacks::Landing;
 use crate::tree::{self, add_level, child_count, child_of, drop_below, store_above};
-use crate::{edits, silence, telling};
+use crate::{edits, silence};
 use oz_base::{Copies, Ident, SpaceName, copies_of};
 use oz_language::Identifier;
 use oz_semantics::{Frame, Next, Status, Tell, Thread, Trigger};
@@ -252,8 +253,7 @@ impl Levels {
     }
 
     /// Tells a space that is there, and fails each space below it that then sees what is inconsistent. False exactly where it is
-    /// inconsistent with what the space sees: then nothing changes. It refuses for want of memory, and where other spaces are below
-    /// the space: what these see is not made anew yet.
+    /// inconsistent with what the space sees: then nothing changes. It refuses for want of memory: then nothing changes either.
     pub fn tell(
         &mut self,
         alloc: Global,
@@ -267,11 +267,8 @@ impl Levels {
         let Some(place) = level_place(self.levels.as_slice(), space) else {
             return Err(AllocError);
         };
-        if has_below(self.levels.as_slice(), space) {
-            return Err(AllocError);
-        }
         let home = all_home(self.levels.as_slice(), space, tells);
-        telling::tell(alloc, &mut self.levels[place], home, tells)
+        tell_through(alloc, &mut self.levels, place, home, tells)
     }
 
     /// A space is ended by the exception that is the variable's term, and all below it is gone.
@@ -424,8 +421,7 @@ impl Levels {
 
     /// The statement on top of a thread's stack is taken off, its space is told this and gives out what comes with it, its cells and
     /// ports change by that, and each space below fails that then sees what is inconsistent. False exactly where it is inconsistent with
-    /// what the space sees: then nothing changes. It refuses for want of memory, where the space gave out 2^64 - 1 of a kind, and where
-    /// other spaces are below the space: what these see is not made anew yet.
+    /// what the space sees: then nothing changes. It refuses for want of memory, and where the space gave out 2^64 - 1 of a kind.
     pub fn tell_by(
         &mut self,
         alloc: Global,
@@ -440,9 +436,6 @@ impl Levels {
         let Some(place) = level_place(self.levels.as_slice(), &id.space) else {
             return Err(AllocError);
         };
-        if has_below(self.levels.as_slice(), &id.space) {
-            return Err(AllocError);
-        }
         if !tell_at(alloc, &mut self.levels, place, tells, &given)? {
             return Ok(false);
         }
@@ -484,9 +477,6 @@ impl Levels {
         let Some(place) = level_place(self.levels.as_slice(), &id.space) else {
             return Err(AllocError);
         };
-        if has_below(self.levels.as_slice(), &id.space) {
-            return Err(AllocError);
-        }
         let threads = &self.levels[place].threads;
         let Some(landing) = threads.landing_of(alloc, id.number, exception)? else {
             return Ok(false);

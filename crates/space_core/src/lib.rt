@@ -5,12 +5,14 @@
 mod advances;
 mod declarations;
 mod edits;
+mod fates;
 mod firing;
 mod given;
 mod homes;
 mod level;
 mod levels;
 mod looking;
+mod remaking;
 mod silence;
 mod stacks;
 mod telling;

@@ -1,7 +1,7 @@
 //! Tells of one space.
 ghost use Rattle.std.specs.Prelude.{◌≡◌, filter, IfOk, OnErr};
 ghost use Rattle.space_core.specs.Shown.{is_other};
-ghost use Rattle.space_core.specs.Telling.{IsLevelTold};
+ghost use Rattle.space_core.specs.Telling.{IsMarked, IsLevelTold};
 
 use crate::level::Level;
 use oz_base::{Ident, SpaceName, same_space};
@@ -16,10 +16,22 @@ fn is_other(space: &SpaceName, variable: &Ident) -> bool
 }
 
 /// Drops the space's own variables.
-fn drop_own(space: &SpaceName, variables: &mut Vec<Ident>)
+pub fn drop_own(space: &SpaceName, variables: &mut Vec<Ident>)
     ensures { variables.new.items ≡ filter (is_other space.now) variables.old.items }
 {
     variables.retain(|variable| is_other(space, variable));
+}
+
+/// Notes these of the variables that are touched by what the space was told, of which it is known whether all variables are those of the
+/// space and of spaces above it.
+///
+/// Where there is no memory to note them, the space is not traced any more.
+pub fn note(level: &mut Level, home: bool, mut noted: Vec<Ident>)
+    ensures { IsMarked home noted.items level.old level.new }
+{
+    drop_own(&level.space, &mut noted);
+    let kept = level.space.is_top() || level.touched.append(noted).is_ok();
+    level.traced = level.traced && home && kept;
 }
 
 /// Tells a space more, of which it is known whether all variables are those of the space and of spaces above it. False exactly where
@@ -39,8 +51,6 @@ pub fn tell(
     if !level.store.tell(alloc, tells, &mut noted)? {
         return Ok(false);
     }
-    drop_own(&level.space, &mut noted);
-    let kept = level.space.is_top() || level.touched.append(noted).is_ok();
-    level.traced = level.traced && home && kept;
+    note(level, home, noted);
     Ok(true)
 }

@@ -2,7 +2,7 @@ use super::*;
 use environments::Environment;
 use oz_base::{Copies, Ident, SpaceName};
 use oz_language::Constant;
-use oz_semantics::{Code, Frame, Tell, Value};
+use oz_semantics::{Code, Frame, Status, Tell, Value};
 use std::alloc::{AllocError, Global};
 use std::test::Fail;
 
@@ -241,5 +241,66 @@ fn a_space_that_ended_has_no_triggers(rt: HostRuntime) -> Result<(), Fail> {
     let mut levels = with_triggers(rt.alloc())?;
     levels.end(&SpaceName::top(), of_top(1));
     assert!(rt; !levels.has_triggers());
+    Ok(())
+}
+
+/// A new child of a space. It refuses where the space is not there.
+fn new_child(
+    alloc: Global,
+    levels: &mut Levels,
+    parent: &SpaceName,
+) -> Result<SpaceName, AllocError> {
+    match levels.place(parent) {
+        None => Err(AllocError),
+        Some(_) => levels.create(alloc, parent, of_top(1)),
+    }
+}
+
+/// Tells a space. It refuses where the space is not there.
+fn tell_space(
+    alloc: Global,
+    levels: &mut Levels,
+    space: &SpaceName,
+    tells: &[Tell],
+) -> Result<bool, AllocError> {
+    match levels.place(space) {
+        None => Err(AllocError),
+        Some(_) => levels.tell(alloc, space, tells),
+    }
+}
+
+/// Whether a space is there, and has failed.
+fn has_failed(levels: &Levels, space: &SpaceName) -> bool {
+    match levels.place(space) {
+        Some(place) if place < levels.len() => { matches!(levels.status_at(place), Status::Failed) }
+        _ => false,
+    }
+}
+
+/// Whether a space sees a value of a variable of the top.
+fn sees(levels: &Levels, space: &SpaceName, variable: u32) -> bool {
+    match levels.place(space) {
+        Some(place) if place < levels.len() => {
+            levels.store_at(place).is_determined(&of_top(variable))
+        }
+        _ => false,
+    }
+}
+
+#[test]
+fn spaces_below_see_what_a_space_is_told(rt: HostRuntime) -> Result<(), Fail> {
+    let alloc = rt.alloc();
+    let top = SpaceName::top();
+    let mut levels = Levels::new(alloc)?;
+    let child = new_child(alloc, &mut levels, &top)?;
+    let grandchild = new_child(alloc, &mut levels, &child)?;
+    let _told = tell_space(alloc, &mut levels, &grandchild, &[is_integer(0, 1)])?;
+    assert!(rt; tell_space(alloc, &mut levels, &top, &[is_integer(0, 2)])?);
+    assert!(rt; sees(&levels, &child, 0) && !has_failed(&levels, &child));
+    assert!(rt; has_failed(&levels, &grandchild));
+    let _told = tell_space(alloc, &mut levels, &child, &[is_integer(3, 1)])?;
+    assert!(rt; tell_space(alloc, &mut levels, &top, &[is_integer(3, 2)])?);
+    assert!(rt; has_failed(&levels, &child));
+    assert_eq!(rt; levels.len(), 2);
     Ok(())
 }

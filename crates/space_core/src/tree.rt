@@ -5,7 +5,7 @@ ghost use Rattle.oz_base.specs.Lists.{list_eq};
 ghost use Rattle.oz_semantics.specs.Names.{is_properly_below, parent_of, space_lt, root_of};
 ghost use Rattle.oz_semantics.specs.Configurations.{raised_by, applying, next_child};
 ghost use Rattle.oz_semantics.specs.declared.configuration.Layer.{Layer};
-ghost use Rattle.space_core.specs.Ending.{IsAbove, IsFailure, IsChild, IsAdded};
+ghost use Rattle.space_core.specs.Ending.{IsAbove, IsFailure, IsChild, IsAdded, fallen};
 ghost use Rattle.space_core.specs.Places.{IsAbsent, IsFirst};
 ghost use Rattle.space_core.specs.Shown.{shown, shown_all, is_named, IsQuiet};
 ghost use Rattle.space_core.specs.declared.level.Level.{Level};
@@ -37,7 +37,8 @@ fn is_front(numbers: &[u64], space: &[u64]) -> bool
     equal_slices(numbers, &space[..space.len() - 1])
 }
 
-fn is_parent(level: &Level, space: &SpaceName) -> bool
+/// Whether the level is that of the parent of a space.
+pub fn is_parent(level: &Level, space: &SpaceName) -> bool
     ensures { result ≡ list_eq level.now.space (parent_of space.now) }
 {
     is_front(level.space.as_slice(), space.as_slice())
@@ -79,7 +80,8 @@ pub fn drop_below(levels: &mut Vec<Level>, space: &SpaceName)
 
 /// The space fails. The store is of what its parent sees.
 pub fn fail(alloc: Global, level: &mut Level, store: Store)
-    ensures { IsFailure store level.old level.new }
+    ensures failure { IsFailure store level.old level.new }
+    ensures fallen { level.new ≡ fallen store level.old }
 {
     level.told_from = store.len();
     level.store = store;

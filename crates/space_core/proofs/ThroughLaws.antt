@@ -1,0 +1,135 @@
+-- What comes of a tell that the spaces below see too, step by step.
+use Rattle.std.proofs.Common.{◌≡◌, ◌⊎◌, inl, inr, ℕ, zero, suc, ◌+◌, ◌<◌, ◌≤◌, Bool, true, false, List, [], ◌∷◌, ◌++◌, length, filter, slice_get, slice_set, slice_index_or, refl, sym, ap, ap₂, subst, ◌∙◌, arith, Some, Result, Ok, Err, length-append}
+use Rattle.std.specs.Prelude.{OnErr, IfOk}
+use Rattle.std.proofs.lemmas.List.{length-set, set-set, get_or_default}
+use Rattle.std.proofs.lemmas.Option.{get_or_from_slice_get}
+use Rattle.oz_base.specs.declared.names.Ident.{Ident}
+use Rattle.oz_semantics.specs.Names.{is_top}
+use Rattle.oz_semantics.specs.declared.value.Tell.{Tell}
+use Rattle.term_store.specs.Telling.{IsTold}
+use Rattle.space_core.specs.Fates.{IsChosen, IsFate, IsStale, EachFate, AreFates, settled}
+use Rattle.space_core.specs.Shown.{shown_all, is_other}
+use Rattle.space_core.specs.Telling.{has_below, IsMarked, IsToldMore, IsLevelTold, IsStoreAt, sees_at, ToldThrough, IsToldThrough}
+use Rattle.space_core.specs.declared.fates.Fate.{Fate}
+use Rattle.space_core.specs.declared.level.Level.{Level}
+use Rattle.space_core.proofs.AnswerLaws.{unchanged}
+use Rattle.space_core.proofs.AdvanceLaws.{read_set}
+use Rattle.space_core.proofs.FateLaws.{chosen_right}
+
+-- One fate more
+
+get_end : {A : Type 0} (xs : List A) (x : A) (n : ℕ) (y : A) → slice_get (xs ++ x ∷ []) n ≡ Some y → (slice_get xs n ≡ Some y) ⊎ ((n ≡ length xs) × (x ≡ y))
+get_end [] x zero y e = let same : x ≡ y = cc in inr (refl, same)
+get_end [] x (suc n) y e = cc
+get_end (z ∷ zs) x zero y e = inl e
+get_end (z ∷ zs) x (suc n) y e = elim (get_end zs x n y e) [
+  | inl k ↦ inl k
+  | inr k ↦ inr (ap (λ m. suc m) k.0, k.1)
+]
+
+-- those of the spaces so far are right
+pub record AreSoFar (space : List ℕ) (levels : List Level) (fates : List Fate) (n : ℕ) : Type 0 where
+  pub as_many : length fates ≡ n
+  pub right : IsStale space levels → EachFate space levels fates (shown_all levels)
+
+pub none_so_far : (space : List ℕ) (levels : List Level) (fates : List Fate) → fates ≡ [] → AreSoFar space levels fates 0
+none_so_far space levels fates e = subst (λ (fs : List Fate). AreSoFar space levels fs 0) (sym e) (record { as_many = refl; right = λ stale n l fate a b. absurd (cc) })
+
+pub one_more : (space : List ℕ) (levels : List Level) (fates news : List Fate) (n : ℕ) (l : Level) (fate : Fate) → n < length levels → l ≡ slice_index_or levels n l → AreSoFar space levels fates n
+    → IsChosen space levels fates l fate → news ≡ fates ++ fate ∷ [] → AreSoFar space levels news (n + 1)
+one_more space levels fates news n l fate within e so_far chosen more = subst (λ (fs : List Fate). AreSoFar space levels fs (n + 1)) (sym more) (record {
+  as_many = length-append fates (fate ∷ []) ∙ ap (λ m. m + 1) so_far.as_many;
+  right = λ stale m k g a b. elim (get_end fates fate m g b) [
+    | inl h ↦ so_far.right stale m k g a h
+    | inr h ↦ (let there : m ≡ n = h.0 ∙ so_far.as_many in
+        let same : l ≡ k = e ∙ get_or_from_slice_get levels n k l (subst (λ i. slice_get levels i ≡ Some k) there a) in
+        subst (λ (j : Level). IsFate space (shown_all levels) j g) same
+        (subst (IsFate space (shown_all levels) l) h.1 (chosen_right space levels stale l (n, within, sym e) fates (so_far.right stale) fate chosen)))
+  ];
+})
+
+pub all_so_far : (space : List ℕ) (levels : List Level) (fates : List Fate) (n : ℕ) → n ≡ length levels → AreSoFar space levels fates n → AreFates space levels fates
+all_so_far space levels fates n e so_far = record { as_many = so_far.as_many ∙ e; right = so_far.right }
+
+-- A store in the place of another
+
+module _ (levels : List Level) (place : ℕ) (within : place < length levels) (before m : Level) (read : before ≡ slice_index_or levels place before) (store : List Tell) (put : m ≡ record before { store = store }) where
+  pub store_at : (now : List Level) → now ≡ slice_set levels place m → (k : Level) → k ≡ slice_index_or (slice_set levels place m) place k → (fates : List Fate) → AreFates k.space now fates
+      → IsStoreAt place store levels (slice_set levels place m) fates
+  store_at now e k r fates are = record {
+    before = before;
+    read = read;
+    left = ap (slice_set levels place) put;
+    are = subst (λ (ls : List Level). AreFates before.space ls fates) e
+        (subst (λ (s : List ℕ). AreFates s now fates) (ap (λ (n : Level). n.space) (read_set levels place m k within r ∙ put)) are);
+  }
+
+  pub store_back : (k : Level) → k ≡ slice_index_or (slice_set levels place m) place k → (kept : List Tell) → kept ≡ before.store → (n : Level) → n ≡ record k { store = kept }
+      → slice_set (slice_set levels place m) place n ≡ levels
+  store_back k r kept e n back =
+      set-set levels place m n
+      ∙ unchanged levels place before n read
+      (back ∙ ap (λ (j : Level). record j { store = kept }) (read_set levels place m k within r ∙ put) ∙ ap (λ (us : List Tell). record before { store = us }) e)
+
+-- What was told, and then noted
+
+pub told_marked : (home : Bool) (ts : List Tell) (l k m : Level) (store : List Tell) (noted : List Ident) → k ≡ record l { store = store } → IsTold l.store ts store [] noted true → IsMarked home noted k m
+    → IsToldMore home ts l m
+told_marked home ts l k m store noted e t q =
+    let kept : k.space ≡ l.space = ap (λ (n : Level). n.space) e in
+    record {
+      store = q.store ∙ ap (λ (n : Level). n.store) e ∙ t.0;
+      consistent = t.1;
+      space = q.space ∙ kept;
+      status = q.status ∙ ap (λ (n : Level). n.status) e;
+      told_from = q.told_from ∙ ap (λ (n : Level). n.told_from) e;
+      threads = q.threads ∙ ap (λ (n : Level). n.threads) e;
+      triggers = q.triggers ∙ ap (λ (n : Level). n.triggers) e;
+      objects = q.objects ∙ ap (λ (n : Level). n.objects) e;
+      numbers = q.numbers ∙ ap (λ (n : Level). n.numbers) e;
+      traced = λ b. let r = q.traced b in (sym (ap (λ (n : Level). n.traced) e) ∙ r.0, r.1);
+      notes = λ b n. record {
+        more = filter (is_other l.space) t.2.more;
+        noted = q.notes b (ap is_top kept ∙ n)
+            ∙ ap₂ (λ (xs ys : List Ident). xs ++ ys) (ap (λ (n : Level). n.touched) e) (ap₂ (λ (s : List ℕ) (xs : List Ident). filter (is_other s) xs) kept t.2.noted);
+        traces = record { all = t.2.more; touches = t.2.touches; others = refl };
+      };
+    }
+
+module _ (levels : List Level) (place : ℕ) (within : place < length levels) (store : List Tell) (put : List Level) (fates : List Fate) (p : IsStoreAt place store levels put fates) where
+  pub fates_fit : (m : Level) → length fates ≤ length (slice_set put place m)
+  fates_fit m = omega (arith, p.are.as_many, length-set put place m)
+
+  pub put_within : place < length put
+  put_within = omega (arith, within, ap length p.left, length-set levels place (record p.before { store = store }))
+
+  pub told_below : (home : Bool) (ts : List Tell) (noted : List Ident) (l k m : Level) → l ≡ slice_index_or levels place l → IsTold l.store ts store [] noted true → k ≡ slice_index_or put place k → IsMarked home noted k m
+      → (news : List Level) → news ≡ settled fates (slice_set put place m) → ToldThrough place home ts levels news
+  told_below home ts noted l k m r t rk q news e =
+      let same : k ≡ record p.before { store = store } = read_set levels place (record p.before { store = store }) k within (subst (λ (ls : List Level). k ≡ slice_index_or ls place k) p.left rk) in
+      let first : l ≡ p.before = r ∙ get_or_default levels place l p.before within ∙ sym p.read in
+      let tells : IsToldMore home ts p.before m = told_marked home ts p.before k m store noted same (subst (λ (n : Level). IsTold n.store ts store [] noted true) first t) q in
+      let sees : m.store ≡ store = q.store ∙ ap (λ (n : Level). n.store) same in
+      record {
+        before = p.before;
+        told = m;
+        read = p.read;
+        tells = tells;
+        left = inr (record {
+          fates = fates;
+          are = subst (λ (us : List Tell). AreFates p.before.space (sees_at place p.before us levels) fates) (sym sees) (subst (λ (ls : List Level). AreFates p.before.space ls fates) p.left p.are);
+          left = e ∙ ap (λ (ls : List Level). settled fates (slice_set ls place m)) p.left ∙ ap (settled fates) (set-set levels place (record p.before { store = store }) m);
+        });
+      }
+
+-- A space that has none below it
+
+module _ (levels : List Level) (place : ℕ) (home : Bool) (ts : List Tell) (l m : Level) (r : l ≡ slice_index_or levels place l) where
+  pub alone_told : {E : Type 0} (answer : Result Bool E) → has_below (shown_all levels) l.space ≡ false → IfOk answer (IsLevelTold home ts l m) → IfOk answer (IsToldThrough place home ts levels (slice_set levels place m))
+  alone_told (Ok true) none t = record { before = l; told = m; read = r; tells = t; left = inl (record { none = none; left = refl }) }
+  alone_told (Ok false) none t = record { before = l; read = r; clash = t.1; left = unchanged levels place l m r t.0 }
+  alone_told (Err b) none t = t
+
+  pub alone_refused : {E : Type 0} (answer : Result Bool E) → OnErr answer (m ≡ l) → OnErr answer (slice_set levels place m ≡ levels)
+  alone_refused (Ok b) t = t
+  alone_refused (Err b) t = unchanged levels place l m r t

@@ -1,0 +1,142 @@
+-- What becomes of the spaces below one that was told more.
+use Rattle.std.specs.Prelude.{ℕ, zero, suc, ◌≡◌, ◌<◌, ◌⊎◌, Bool, true, false, List, [], ◌∷◌, ◌++◌, Option, Some, None, length, slice_get, slice_index_or, Contains}
+use Rattle.std.specs.List.{list_any, list_all, flat_map}
+use Rattle.oz_semantics.specs.Names.{is_below, is_properly_below, parent_of}
+use Rattle.oz_semantics.specs.Store.{is_consistent, named_by}
+use Rattle.oz_semantics.specs.Configurations.{view}
+use Rattle.oz_semantics.specs.Settling.{may_fail, inconsistent_spaces}
+use Rattle.oz_semantics.specs.declared.value.Tell.{Tell}
+use Rattle.oz_semantics.specs.declared.configuration.Layer.{Layer}
+use Rattle.view_laws.specs.Trees.{IsTree}
+use Rattle.space_core.specs.Ending.{fallen}
+use Rattle.space_core.specs.Shown.{shown, shown_all, is_home, Traces, Fits}
+use Rattle.space_core.specs.declared.fates.Fate.{Fate}
+use Rattle.space_core.specs.declared.fates.Fate.TheVariants.{Stays, Gone, Fails, Sees}
+use Rattle.space_core.specs.declared.fates.Seen.{Seen}
+use Rattle.space_core.specs.declared.level.Level.{Level}
+
+-- How it is found out
+
+-- what a space sees that was told the same under a parent that sees this
+pub record IsSeen (above : List Tell) (l : Level) (seen : Seen) : Type 0 where
+  pub store : seen.store ≡ above ++ (shown l).tells
+  pub consistent : is_consistent seen.store ≡ true
+  pub from : seen.told_from ≡ length above
+  pub traced : seen.traced ≡ l.traced
+  pub touches : Traces l.space above (shown l).tells seen.touched
+
+-- or that is inconsistent
+abbrev pub IsSeenUnder : List Tell → Level → Option Seen → Type 0
+IsSeenUnder above l (Some seen) = IsSeen above l seen
+IsSeenUnder above l None = is_consistent (above ++ (shown l).tells) ≡ false
+
+-- then a space that may fail does, over what its parent sees
+pub record IsFailing (above : List Tell) (l : Level) (kept : List Tell) : Type 0 where
+  pub store : kept ≡ above
+  pub may : may_fail l.status ≡ true
+  pub clash : is_consistent (above ++ (shown l).tells) ≡ false
+
+-- what becomes of a space under a parent that sees this
+abbrev pub IsUnder : List Tell → Level → Fate → Type 0
+IsUnder above l (Sees seen) = IsSeen above l seen
+IsUnder above l (Fails store) = IsFailing above l store
+IsUnder above l Gone = ⊥
+IsUnder above l Stays = ⊥
+
+-- and by what becomes of the parent
+abbrev pub IsAfter : Level → Fate → Level → Fate → Type 0
+IsAfter parent Stays l fate = IsUnder parent.store l fate
+IsAfter parent (Sees seen) l fate = IsUnder seen.store l fate
+IsAfter parent (Fails store) l fate = fate ≡ Gone
+IsAfter parent Gone l fate = fate ≡ Gone
+
+-- the space at a place is the parent of a space
+pub record IsParentAt (levels : List Level) (place : ℕ) (space : List ℕ) : Type 0 where
+  pub within : place < length levels
+  pub name : (l : Level) → l ≡ slice_index_or levels place l → l.space ≡ parent_of space
+
+-- it is found out by what becomes of the parent
+pub record IsDecided (levels : List Level) (fates : List Fate) (l : Level) (fate : Fate) : Type 0 where
+  pub place : ℕ
+  pub parent : Level
+  pub above : Fate
+  pub stands : slice_get levels place ≡ Some parent
+  pub has : slice_get fates place ≡ Some above
+  pub name : parent.space ≡ parent_of l.space
+  pub after : IsAfter parent above l fate
+
+-- of a space that is below the one that was told; all others stay as they are
+abbrev pub IsChosen : List ℕ → List Level → List Fate → Level → Fate → Type 0
+IsChosen space levels fates l fate =
+    ((is_properly_below space l.space ≡ false) × (fate ≡ Stays)) ⊎ ((is_properly_below space l.space ≡ true) × IsDecided levels fates l fate)
+
+-- What it comes to
+
+-- what is kept of a space, with what it sees now
+abbrev pub seeing : Seen → Level → Level
+seeing seen l = record l { store = seen.store; told_from = seen.told_from; touched = seen.touched; traced = seen.traced }
+
+-- a space or one above it sees what is inconsistent
+abbrev pub falls : List Layer → List ℕ → Bool
+falls layers space = list_any (λ t. is_below t space) (inconsistent_spaces layers)
+
+-- it is gone, since a space above it fails
+pub record IsGone (layers : List Layer) (l : Level) : Type 0 where
+  pub parent : falls layers (parent_of l.space) ≡ true
+
+-- it fails itself, and no space above it does
+pub record IsFallen (layers : List Layer) (l : Level) (kept : List Tell) : Type 0 where
+  pub parent : falls layers (parent_of l.space) ≡ false
+  pub itself : Contains (inconsistent_spaces layers) l.space
+  pub store : kept ≡ view layers (parent_of l.space)
+  pub consistent : is_consistent kept ≡ true
+
+-- it stands, and sees this
+pub record IsStanding (layers : List Layer) (l : Level) (seen : Seen) : Type 0 where
+  pub itself : falls layers l.space ≡ false
+  pub tells : (shown (seeing seen l)).tells ≡ (shown l).tells
+  pub fits : Fits layers (seeing seen l)
+
+-- What becomes of a space is right by the layers in which this one was told more
+abbrev pub IsFate : List ℕ → List Layer → Level → Fate → Type 0
+IsFate space layers l Stays = is_properly_below space l.space ≡ false
+IsFate space layers l Gone = (is_properly_below space l.space ≡ true) × IsGone layers l
+IsFate space layers l (Fails store) = (is_properly_below space l.space ≡ true) × IsFallen layers l store
+IsFate space layers l (Sees seen) = (is_properly_below space l.space ≡ true) × IsStanding layers l seen
+
+-- The space was told more, and what is kept of those below it is as it was before
+pub record IsStale (space : List ℕ) (levels : List Level) : Type 0 where
+  pub tree : IsTree (shown_all levels)
+  pub below : (t : List ℕ) → Contains (inconsistent_spaces (shown_all levels)) t → is_properly_below space t ≡ true
+  pub seen : (l : Level) → Contains levels l → is_properly_below space l.space ≡ false → l.store ≡ view (shown_all levels) l.space
+  pub consistent : (l : Level) → Contains levels l → is_properly_below space l.space ≡ false → is_consistent l.store ≡ true
+  pub home : (l : Level) → Contains levels l → l.traced ≡ true → is_properly_below space l.space ≡ true → list_all (is_home (shown_all levels) l.space) (flat_map named_by (shown l).tells) ≡ true
+
+-- what becomes of each of these spaces is right
+abbrev pub EachFate : List ℕ → List Level → List Fate → List Layer → Type 0
+EachFate space levels fates layers = (n : ℕ) (l : Level) (fate : Fate) → slice_get levels n ≡ Some l → slice_get fates n ≡ Some fate → IsFate space layers l fate
+
+pub record AreFates (space : List ℕ) (levels : List Level) (fates : List Fate) : Type 0 where
+  pub as_many : length fates ≡ length levels
+  pub right : IsStale space levels → EachFate space levels fates (shown_all levels)
+
+-- What is left
+
+-- of one space
+abbrev pub left_as : Fate → Level → List Level
+left_as Stays l = l ∷ []
+left_as Gone l = []
+left_as (Fails store) l = fallen store l ∷ []
+left_as (Sees seen) l = seeing seen l ∷ []
+
+-- where the space at a place has its fate
+abbrev pub turned : ℕ → Fate → List Level → List Level
+turned n fate [] = []
+turned zero fate (l ∷ ls) = left_as fate l ++ ls
+turned (suc n) fate (l ∷ ls) = l ∷ turned n fate ls
+
+-- and where each has
+abbrev pub settled : List Fate → List Level → List Level
+settled [] ls = ls
+settled (fate ∷ fates) [] = []
+settled (fate ∷ fates) (l ∷ ls) = left_as fate l ++ settled fates ls

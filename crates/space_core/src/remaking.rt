@@ -1,0 +1,125 @@
+//! Tells that the spaces below see too.
+ghost use Rattle.std.specs.Prelude.{◌≡◌, ◌<◌, ◌≤◌, length, slice_index_or, IfOk, OnErr};
+ghost use Rattle.space_core.specs.Fates.{seeing, turned, settled};
+ghost use Rattle.space_core.specs.Telling.{IsToldThrough, IsStoreAt};
+ghost use Rattle.space_core.specs.declared.level.Level.{Level};
+
+use crate::fates::{Fate, Seen, fates_below};
+use crate::homes::has_below;
+use crate::level::Level;
+use crate::telling::{self, note};
+use crate::tree::fail;
+use oz_base::Copies;
+use oz_semantics::Tell;
+use std::alloc::{AllocError, Global};
+use std::mem;
+use term_store::Store;
+
+/// The space sees this from now on.
+fn see(level: &mut Level, seen: Seen)
+    ensures { level.new ≡ seeing seen level.old }
+{
+    level.store = seen.store;
+    level.told_from = seen.told_from;
+    level.touched = seen.touched;
+    level.traced = seen.traced;
+}
+
+/// The space at a place has its fate.
+fn turn(alloc: Global, levels: &mut Vec<Level>, place: usize, fate: Fate)
+    requires { place < length levels.old.items }
+    ensures { levels.new.items ≡ turned place fate levels.old.items }
+{
+    match fate {
+        Fate::Stays => {}
+        Fate::Gone => {
+            let _gone = levels.remove(place);
+        }
+        Fate::Fails(above) => fail(alloc, &mut levels[place], above),
+        Fate::Sees(seen) => see(&mut levels[place], seen),
+    }
+}
+
+/// Each space has its fate, the last one first. It takes no memory.
+fn settle(alloc: Global, levels: &mut Vec<Level>, mut fates: Vec<Fate>)
+    requires { length fates.items ≤ length levels.old.items }
+    ensures { levels.new.items ≡ settled fates.items levels.old.items }
+{
+    while let Some(fate) = fates.pop() {
+        let place = fates.len();
+        turn(alloc, levels, place, fate);
+    }
+}
+
+/// The space sees what is in the store. What it saw before.
+fn swap_store(level: &mut Level, store: Store) -> Store
+    ensures before { result ≡ level.old.store }
+    ensures level { level.new ≡ record level.old { store = store } }
+{
+    mem::replace(&mut level.store, store)
+}
+
+/// The space at a place sees what is in the store, and what becomes of the spaces by that. Where that is refused, it sees what it saw.
+fn put_store(
+    alloc: Global,
+    levels: &mut Vec<Level>,
+    place: usize,
+    store: Store,
+) -> Result<Vec<Fate>, AllocError>
+    requires { place < length levels.old.items }
+    ensures put { IfOk result (λ fates. IsStoreAt place store levels.old.items levels.new.items fates.items) }
+    ensures err { OnErr result (levels.new.items ≡ levels.old.items) }
+{
+    let before = swap_store(&mut levels[place], store);
+    match fates_below(alloc, levels.as_slice(), place, &levels[place].space) {
+        Ok(fates) => Ok(fates),
+        Err(refused) => {
+            let _refused = swap_store(&mut levels[place], before);
+            Err(refused)
+        }
+    }
+}
+
+/// Tells the space at a place, of which it is known whether all variables are those of the space and of spaces above it, and all spaces
+/// below it.
+fn tell_all(
+    alloc: Global,
+    levels: &mut Vec<Level>,
+    place: usize,
+    home: bool,
+    tells: &[Tell],
+) -> Result<bool, AllocError>
+    requires { place < length levels.old.items }
+    ensures told { IfOk result (IsToldThrough place home tells.now levels.old.items levels.new.items) }
+    ensures err { OnErr result (levels.new.items ≡ levels.old.items) }
+{
+    let mut store = levels[place].store.copied(alloc)?;
+    let mut noted = Vec::new(alloc);
+    if !store.tell(alloc, tells, &mut noted)? {
+        return Ok(false);
+    }
+    let fates = put_store(alloc, levels, place, store)?;
+    note(&mut levels[place], home, noted);
+    settle(alloc, levels, fates);
+    Ok(true)
+}
+
+/// Tells the space at a place, of which it is known whether all variables are those of the space and of spaces above it. The spaces
+/// below it see that too, and those that then see what is inconsistent fail. False exactly where it is inconsistent with what the space
+/// itself sees: then nothing changes.
+pub fn tell_through(
+    alloc: Global,
+    levels: &mut Vec<Level>,
+    place: usize,
+    home: bool,
+    tells: &[Tell],
+) -> Result<bool, AllocError>
+    requires { place < length levels.old.items }
+    ensures told { IfOk result (IsToldThrough place home tells.now levels.old.items levels.new.items) }
+    ensures err { OnErr result (levels.new.items ≡ levels.old.items) }
+{
+    if has_below(levels.as_slice(), &levels[place].space) {
+        return tell_all(alloc, levels, place, home, tells);
+    }
+    telling::tell(alloc, &mut levels[place], home, tells)
+}
