@@ -32,7 +32,7 @@ use Rattle.oz_semantics.specs.declared.outcome.State.TheVariants.{Running, Suspe
 use Rattle.oz_semantics.specs.declared.outcome.Stepped.TheVariants.{Moved, Quiescent, TopEnded}
 use Rattle.view_laws.specs.Trees.{is_ascending, names_of}
 use Rattle.view_laws.proofs.BehindLaws.{behind_goes_on}
-use Rattle.machine_search.specs.Rests.{IsSettled, SettledLaw, RootLaw, ChosenLaw, RestLaw, NodesLaw}
+use Rattle.machine_search.specs.Rests.{IsSettled, SettledLaw, RootLaw, ChosenLaw, RestLaw, StateLaw, NodesLaw}
 use Rattle.machine_search.proofs.QueueLaws.{all_queued, nothing_goes_on}
 use Rattle.machine_search.proofs.TopLaws.{still_consistent, begun_consistent, committed_top, created_top}
 use Rattle.machine_search.proofs.TurnLaws.{IsStep, turn_step}
@@ -131,10 +131,8 @@ no_state statements layers space ordered not_going front (l ∷ ls) parts e =
     by true own rest k = not_running statements layers (states_behind statements layers ls) l l.status (behind ((list_eq-decides l.space space).0 own)) (same_Some _ _ k)
     by false own rest k = rest k
 
--- where the layers stand in the order of names
-pub ordered_state : (k : Kernel) (space : List ℕ) (c : Configuration) (fuel : ℕ) (d : Configuration) (left : ℕ) → IsSettled k.statements c → run k space c fuel ≡ Ended d left
-    → is_ascending (names_of d.layers) ≡ true → state k.statements d.layers space ≡ Some Running → ⊥
-ordered_state k space c fuel d left queued e ordered running =
+pub state_law : StateLaw
+state_law k space c fuel d left queued e ordered running =
     no_state k.statements d.layers space ordered (rest_law k space c fuel d left queued e).0 [] d.layers refl running
 
 -- ---- nor in any node
