@@ -108,7 +108,7 @@ module _ (parent child : List ℕ) (layers : List Layer) (has : HasChild layers 
   new_parent : parent_of new ≡ parent
   new_parent = parent_child (layer_of layers parent).space (layer_of layers parent).next.child ∙ p_named
 
-  parent_apart : is_below new parent ≡ false
+  pub parent_apart : is_below new parent ≡ false
   parent_apart = elim (decide (is_below new parent)) [
     | inl k ↦ absurd (longer parent number (drop (length new) parent)
         (goes_on_from new parent k ∙ ap (λ u. child_name u number ++ drop (length new) parent) p_named ∙ append_assoc parent (number ∷ []) (drop (length new) parent)))

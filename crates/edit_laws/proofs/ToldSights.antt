@@ -1,12 +1,11 @@
--- What is seen after a merge: the parent is told what the child was told, and then the child becomes a part of it.
+-- What is seen where the parent is told something, and then a child of it is copied or becomes a part of it.
 use Rattle.std.proofs.Common.{◌≡◌, inl, inr, ℕ, Bool, true, false, cond, List, [], ◌∷◌, ◌++◌, filter, map, refl, sym, ap, ap₂, subst, ◌∙◌, arith, Option, Some, is_some, unwrap_or}
 use Rattle.std.proofs.lemmas.List.{map-append}
 use Rattle.oz_base.specs.Lists.{edit_first}
-use Rattle.oz_base.specs.declared.names.Ident.{Ident}
 use Rattle.oz_semantics.specs.Names.{is_below, is_properly_below, root_of}
-use Rattle.oz_semantics.specs.Configurations.{is_of, layer_at, layer_of, view, in_layer, new_layer, telling, counting_child}
+use Rattle.oz_semantics.specs.Configurations.{is_of, layer_at, layer_of, view, in_layer, new_layer, next_child, telling, counting_child}
 use Rattle.oz_semantics.specs.Renamings.{Renaming, renamed_tell}
-use Rattle.oz_semantics.specs.Edits.{is_under, space_into, merging}
+use Rattle.oz_semantics.specs.Edits.{is_in, is_under, moved, moving, copied, space_into, merging, taken_in}
 use Rattle.oz_semantics.specs.declared.value.Tell.{Tell}
 use Rattle.oz_semantics.specs.declared.value.Tell.TheVariants.{Equal}
 use Rattle.oz_semantics.specs.declared.configuration.Layer.{Layer}
@@ -19,11 +18,12 @@ use Rattle.view_laws.proofs.ListLaws.{edit_in, edited_in, found_in}
 use Rattle.view_laws.proofs.SightLaws.{of_space, space_of, change_unseen}
 use Rattle.view_laws.proofs.TreeLaws.{tree_changed}
 use Rattle.edit_laws.specs.Edits.{HasChild}
-use Rattle.edit_laws.specs.Layers.{merging_in, into_parent}
-use Rattle.edit_laws.specs.Sights.{view_from, view_under, tells_merged, merged, MergeUnseen, MergeBeside, MergeSeen, MergeBelow, MergeRenamed}
+use Rattle.edit_laws.specs.Layers.{copy_name, merging_in, into_parent}
+use Rattle.edit_laws.specs.Sights.{view_from, view_under, tells_merged, merged, CloneUnseen, CloneBeside, CloneSeen, CloneBelow, MergeUnseen, MergeBeside, MergeSeen, MergeBelow, MergeRenamed}
 use Rattle.edit_laws.proofs.NameLaws.{below_front, child_of}
 use Rattle.edit_laws.proofs.GraftLaws.{there_of, has_of_in, found_itself}
 use Rattle.edit_laws.proofs.ViewLaws.{child_above, view_parts, from_parts, tell_last}
+use Rattle.edit_laws.proofs.CopySights.{copy_unseen, copy_seen, parent_apart}
 use Rattle.edit_laws.proofs.MergeSights.{taken_unseen, taken_seen}
 
 -- a change of what is left out is not there
@@ -38,15 +38,12 @@ edited_out keep test change h (l ∷ ls) = by (test l) refl (edited_out keep tes
         ap (λ (b : Bool). cond b (change l ∷ filter keep ls) (filter keep ls)) k.1 ∙ sym (ap (λ (b : Bool). cond b (l ∷ filter keep ls) (filter keep ls)) k.0)
     by false e rest = ap (λ (ms : List Layer). cond (keep l) (l ∷ ms) ms) rest
 
-module _ (parent child : List ℕ) (x : Ident) (layers : List Layer) (has : HasChild layers parent child) (t : IsTree layers) where
+module _ (parent child : List ℕ) (ts : List Tell) (layers : List Layer) (has : HasChild layers parent child) (t : IsTree layers) where
   abbrev p : Layer
   p = layer_of layers parent
 
   abbrev s : Layer
   s = layer_of layers child
-
-  abbrev ts : List Tell
-  ts = tells_merged layers parent child x
 
   abbrev told : List Layer
   told = in_layer parent (telling ts) layers
@@ -116,13 +113,22 @@ module _ (parent child : List ℕ) (x : Ident) (layers : List Layer) (has : HasC
         | inr k ↦ k
       ]
 
+  same_copy : copy_name told parent ≡ copy_name layers parent
+  same_copy = ap next_child p_told
+
+  same_from : filter (is_in child) told ≡ filter (is_in child) layers
+  same_from = edited_out (is_in child) (is_of parent) (telling ts) (λ l e. (out l e, out l e)) layers
+    where
+      out : (l : Layer) → is_of parent l ≡ true → is_in child l ≡ false
+      out l e = ap (is_below child) (of_space parent l e) ∙ child_above parent child has.below
+
   pub parent_tells : view told parent ≡ view layers parent ++ ts
   parent_tells = tell_last layers parent ts t has.parent_there
 
-  pub beside : (other : List ℕ) → is_some (layer_at layers other) ≡ true → is_below child other ≡ false → view (merged parent child x layers) other ≡ view told other
+  pub beside : (other : List ℕ) → is_some (layer_at layers other) ≡ true → is_below child other ≡ false → view (taken_in parent child told) other ≡ view told other
   beside other there apart = taken_unseen parent child other told told_has told_tree (told_there other there) apart
 
-  pub unseen : (other : List ℕ) → is_some (layer_at layers other) ≡ true → is_below parent other ≡ false → view (merged parent child x layers) other ≡ view layers other
+  pub unseen : (other : List ℕ) → is_some (layer_at layers other) ≡ true → is_below parent other ≡ false → view (taken_in parent child told) other ≡ view layers other
   unseen other there apart = beside other there below ∙ change_unseen (telling ts) layers parent other (λ l e. refl) apart
     where
       below : is_below child other ≡ false
@@ -133,25 +139,63 @@ module _ (parent child : List ℕ) (x : Ident) (layers : List Layer) (has : HasC
       ]
 
   pub below_seen : (space : List ℕ) → is_some (layer_at layers space) ≡ true → is_properly_below child space ≡ true
-      → view (merged parent child x layers) (into_parent layers parent child space)
+      → view (taken_in parent child told) (into_parent layers parent child space)
       ≡ view layers parent ++ ts ++ map (renamed_tell (merging_in layers parent child)) (view_under layers child space)
   below_seen space there inside =
-      ap (view (merged parent child x layers)) (sym (same_name space))
+      ap (view (taken_in parent child told)) (sym (same_name space))
       ∙ taken_seen parent child space told told_has told_tree (told_there space there) inside
       ∙ ap₂ (λ (us : List Tell) (r : Renaming). us ++ map (renamed_tell r) (view_under told child space)) parent_tells same_renaming
       ∙ ap (λ (ls : List Layer). view layers parent ++ ts ++ map (renamed_tell (merging_in layers parent child)) (view ls space)) same_under
 
+  -- Copies
+
+  pub copy_beside : (other : List ℕ) → is_below (copy_name layers parent) other ≡ false → view (copied parent child told) other ≡ view told other
+  copy_beside other apart = copy_unseen parent child other told (ap (λ u. is_below u other) same_copy ∙ apart)
+
+  pub copy_outside : (other : List ℕ) → is_below parent other ≡ false → view (copied parent child told) other ≡ view layers other
+  copy_outside other apart = copy_beside other below ∙ change_unseen (telling ts) layers parent other (λ l e. refl) apart
+    where
+      below : is_below (copy_name layers parent) other ≡ false
+      below = elim (decide (is_below (copy_name layers parent) other)) [
+        | inl k ↦ absurd (not_both _
+            (below_trans parent (copy_name layers parent) other (subst (λ u. is_below u (copy_name layers parent) ≡ true) (space_of layers parent p p_at) (below_front p.space (p.next.child ∷ []))) k) apart)
+        | inr k ↦ k
+      ]
+
+  pub copy_below : (space : List ℕ) → is_below child space ≡ true
+      → view (copied parent child told) (moved child (copy_name layers parent) space)
+      ≡ view layers parent ++ ts ++ map (renamed_tell (moving child (copy_name layers parent))) (view_from layers child space)
+  copy_below space inside =
+      ap (λ u. view (copied parent child told) (moved child u space)) (sym same_copy)
+      ∙ copy_seen parent child space told told_has told_tree inside
+      ∙ ap₂ (λ (us : List Tell) (n : List ℕ). us ++ map (renamed_tell (moving child n)) (view_from told child space)) parent_tells same_copy
+      ∙ ap (λ (ls : List Layer). view layers parent ++ ts ++ map (renamed_tell (moving child (copy_name layers parent))) (view ls space)) same_from
+
+pub clone_unseen : CloneUnseen
+clone_unseen parent child other ts layers has t apart = copy_outside parent child ts layers has t other apart
+
+pub clone_beside : CloneBeside
+clone_beside parent child other ts layers has t apart = copy_beside parent child ts layers has t other apart
+
+pub clone_seen : CloneSeen
+clone_seen parent child ts layers has t = copy_beside parent child ts layers has t parent (parent_apart parent child layers has t) ∙ parent_tells parent child ts layers has t
+
+pub clone_below : CloneBelow
+clone_below parent child space ts layers has t inside = copy_below parent child ts layers has t space inside
+
 pub merge_unseen : MergeUnseen
-merge_unseen parent child other x layers has t there apart = unseen parent child x layers has t other there apart
+merge_unseen parent child other x layers has t there apart = unseen parent child (tells_merged layers parent child x) layers has t other there apart
 
 pub merge_beside : MergeBeside
-merge_beside parent child other x layers has t there apart = beside parent child x layers has t other there apart
+merge_beside parent child other x layers has t there apart = beside parent child (tells_merged layers parent child x) layers has t other there apart
 
 pub merge_seen : MergeSeen
-merge_seen parent child x layers has t = beside parent child x layers has t parent has.parent_there (child_above parent child has.below) ∙ parent_tells parent child x layers has t
+merge_seen parent child x layers has t =
+    beside parent child (tells_merged layers parent child x) layers has t parent has.parent_there (child_above parent child has.below)
+    ∙ parent_tells parent child (tells_merged layers parent child x) layers has t
 
 pub merge_below : MergeBelow
-merge_below parent child space x layers has t there inside = below_seen parent child x layers has t space there inside
+merge_below parent child space x layers has t there inside = below_seen parent child (tells_merged layers parent child x) layers has t space there inside
 
 -- All that was seen, and one tell besides
 

@@ -67,6 +67,35 @@ CopyRenamed =
     → map (renamed_tell r) (view_from layers child space) ≡ map (renamed_tell (moving child (copy_name layers parent))) (view_from layers child space)
     → view (copied parent child layers) (moved child (copy_name layers parent) space) ≡ map (renamed_tell r) (view layers space)
 
+-- the parent is told something, as that a variable is the copy, and then the child is copied
+abbrev pub cloned : List ℕ → List ℕ → View → List Layer → List Layer
+cloned parent child ts layers = copied parent child (in_layer parent (telling ts) layers)
+
+-- A space that is not below the parent sees what it saw
+abbrev pub CloneUnseen : Type 0
+CloneUnseen =
+    (parent child other : List ℕ) (ts : View) (layers : List Layer) → HasChild layers parent child → IsTree layers → is_below parent other ≡ false
+    → view (cloned parent child ts layers) other ≡ view layers other
+
+-- one below it that is not below the copy sees what it does where the parent is told alone
+abbrev pub CloneBeside : Type 0
+CloneBeside =
+    (parent child other : List ℕ) (ts : View) (layers : List Layer) → HasChild layers parent child → IsTree layers → is_below (copy_name layers parent) other ≡ false
+    → view (cloned parent child ts layers) other ≡ view (in_layer parent (telling ts) layers) other
+
+-- the parent sees it behind all else
+abbrev pub CloneSeen : Type 0
+CloneSeen =
+    (parent child : List ℕ) (ts : View) (layers : List Layer) → HasChild layers parent child → IsTree layers
+    → view (cloned parent child ts layers) parent ≡ view layers parent ++ ts
+
+-- and the copy and those below it see what the parent sees, and then, under other names, what was told from the child on
+abbrev pub CloneBelow : Type 0
+CloneBelow =
+    (parent child space : List ℕ) (ts : View) (layers : List Layer) → HasChild layers parent child → IsTree layers → is_below child space ≡ true
+    → view (cloned parent child ts layers) (moved child (copy_name layers parent) space)
+    ≡ view layers parent ++ ts ++ map (renamed_tell (moving child (copy_name layers parent))) (view_from layers child space)
+
 -- Merging
 
 -- A space that is there and not below the child sees what it saw

@@ -5,7 +5,7 @@
 
 ghost use Rattle.edit_laws.specs.Edits.{InjectedTree, InjectedNumbered, InjectedTop, CopiedTree, CopiedNumbered, CopiedTop, TakenTree, TakenNumbered, TakenTop};
 ghost use Rattle.edit_laws.specs.Layers.{CopiedLayer, CopiedOther, TakenLayer, TakenGone, TakenChild, TakenParent, TakenOther};
-ghost use Rattle.edit_laws.specs.Sights.{ViewParts, FromParts, TellLast, InjectionUnseen, CopyUnseen, CopySeen, CopyRenamed, TakenUnseen, TakenAway, TakenSeen, MergeUnseen, MergeBeside, MergeSeen, MergeBelow, MergeRenamed};
+ghost use Rattle.edit_laws.specs.Sights.{ViewParts, FromParts, TellLast, InjectionUnseen, CopyUnseen, CopySeen, CopyRenamed, CloneUnseen, CloneBeside, CloneSeen, CloneBelow, TakenUnseen, TakenAway, TakenSeen, MergeUnseen, MergeBeside, MergeSeen, MergeBelow, MergeRenamed};
 ghost use Rattle.edit_laws.specs.Outside.{CopyNamed, MergeNamed};
 
 /// What is left where a procedure is applied in a space. Nothing: it holds laws.
@@ -50,6 +50,10 @@ pub fn edit_sight_law()
     ensures copy_seen { CopySeen }
     ensures copy_renamed { CopyRenamed }
     ensures copy_named { CopyNamed }
+    ensures clone_unseen { CloneUnseen }
+    ensures clone_beside { CloneBeside }
+    ensures clone_seen { CloneSeen }
+    ensures clone_below { CloneBelow }
     ensures taken_unseen { TakenUnseen }
     ensures taken_away { TakenAway }
     ensures taken_seen { TakenSeen }

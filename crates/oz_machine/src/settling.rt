@@ -247,8 +247,8 @@ fn begin_needed(
     }
 }
 
-/// By-need computations that are needed begin, and those who are due are asked. The answer of the head is left in `answered`, where it was made, and else nothing is. What contracts see of
-/// the course stays the same, also where it refuses.
+/// By-need computations that are needed begin, and those who are due are asked. The answer of the head is left in `answered`, where it was
+/// made, and else nothing is. What contracts see of the course stays the same, also where it refuses.
 pub fn settle(
     alloc: Global,
     statements: &[Statement],

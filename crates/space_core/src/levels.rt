@@ -411,7 +411,7 @@ impl Levels {
     }
 
     /// The marked by-need computations of the space at a place begin, each with a new thread of its own. It refuses for want of memory, or
-    /// where the space gave out 2^64 - 1 threads.
+    /// where the space gave out 2^64 - 1 threads: some of them may have begun then.
     pub fn fire_at(&mut self, alloc: Global, place: usize, marks: &[bool]) -> Result<(), AllocError>
         requires { place < length self.old }
         ensures ok { OnOk result (self.new ≡ at_place place (firing marks.now) self.old) }

@@ -145,7 +145,7 @@ ascending_put new (l ∷ ls) e fresh = by (space_lt new.space l.space) refl (asc
 
 -- Trees lead
 
-ascending_leads : (ls : List Layer) → is_ascending (names_of ls) ≡ true → is_led ls ≡ true
+pub ascending_leads : (ls : List Layer) → is_ascending (names_of ls) ≡ true → is_led ls ≡ true
 ascending_leads [] e = refl
 ascending_leads (l ∷ ls) e = and_both _ _ (by_each (λ (m : Layer). not (is_below m.space l.space)) ls (λ m c. apart m (In-from_contains ls m c))) (ascending_leads ls (and-right _ _ e))
   where
