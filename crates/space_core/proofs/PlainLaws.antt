@@ -8,7 +8,7 @@ use Rattle.need_laws.specs.Needs.{has_triggers}
 use Rattle.view_laws.specs.Spaceless.{knows_space, has_spaces}
 use Rattle.view_laws.proofs.ListLaws.{in_map}
 use Rattle.view_laws.proofs.Members.{decide, not_both, some_of}
-use Rattle.view_laws.proofs.SpacelessLaws.{or_false, left_false, right_false}
+use Rattle.view_laws.proofs.SpacelessLaws.{or_false}
 use Rattle.space_core.specs.Plain.{is_plain}
 use Rattle.space_core.specs.Shown.{shown, shown_all, IsSound}
 use Rattle.space_core.specs.declared.level.Level.{Level}

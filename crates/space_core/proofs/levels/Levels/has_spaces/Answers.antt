@@ -1,4 +1,4 @@
-use Rattle.std.proofs.Common.{List, sym, ap, subst, ◌∙◌}
+use Rattle.std.proofs.Common.{sym, ap, subst, ◌∙◌}
 use Rattle.view_laws.specs.Spaceless.{has_spaces}
 use Rattle.space_core.specs.Shown.{shown_all, IsSound}
 use Rattle.space_core.proofs.levels.Levels.has_spaces.Goals as goal

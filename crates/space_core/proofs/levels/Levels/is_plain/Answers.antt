@@ -1,4 +1,4 @@
-use Rattle.std.proofs.Common.{List, sym, ap, subst, ◌∙◌}
+use Rattle.std.proofs.Common.{sym, ap, subst, ◌∙◌}
 use Rattle.need_laws.specs.Needs.{has_triggers}
 use Rattle.view_laws.specs.Spaceless.{has_spaces}
 use Rattle.space_core.specs.Shown.{shown_all, IsSound}
