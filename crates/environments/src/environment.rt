@@ -150,11 +150,15 @@ impl<'a> Change<Ident> for Variables<'a> {
     fn changed(&self, alloc: Global, variable: &Ident) -> Result<Ident, AllocError> {
         self.by.ident(alloc, Kind::Variable, variable)
     }
+
+    fn keeps(&self, variable: &Ident) -> bool {
+        self.by.keeps(variable)
+    }
 }
 
 impl Environment {
     /// An environment in which each identifier stands for the variable of the new name. It takes a time that grows with the number of
-    /// bindings, and refuses a number above 2^64 - 1.
+    /// bindings, and shares of the older ones what keeps its names. It refuses a number above 2^64 - 1.
     pub fn renamed(&self, alloc: Global, by: &Renaming) -> Result<Self, AllocError>
         ensures { IfOk result (λ after. after ≡ renamed (ident_by Variable by.now) self.now) }
     {

@@ -12,7 +12,7 @@ pub trait Renamed: Drop {
     /// The same under the new names.
     ghost renamed: { meant.Renaming → Self → Self };
 
-    /// The same under the new names, in memory of its own. It refuses a number above 2^64 - 1.
+    /// The same under the new names. It shares records and the older parts of environments that keep their names, and refuses a number above 2^64 - 1.
     fn renamed(&self, alloc: Global, by: &Renaming) -> Result<Self, AllocError>
         ensures { IfOk result (λ after. after ≡ renamed (renaming_of by.now) self.now) };
 }

@@ -1,15 +1,42 @@
 //! Values and tells under other names.
-ghost use Rattle.std.specs.Prelude.{◌≡◌, IfOk, map};
+ghost use Rattle.std.specs.Prelude.{◌≡◌, true, IfOk, map};
 ghost use Rattle.environments.specs.Environments.{renamed};
 ghost use Rattle.renamings.specs.Renames.{ident_by};
 ghost use Rattle.renamings.specs.declared.given.Kind.TheVariants as kind;
 ghost use Rattle.oz_semantics.specs.Renamings.{renamed_value, renamed_tell};
 
 use crate::Renamed;
-use oz_base::{Copies, Shared};
+use oz_base::{Copies, Ident, Shared};
 use oz_semantics::{Procedure, Record, Tell, Value};
 use renamings::{Kind, Renaming};
 use std::alloc::{AllocError, Global};
+
+/// Whether all of these keep their names.
+fn are_kept(by: &Renaming, variables: &[Ident]) -> bool
+    ensures { result ≡ true → map (ident_by kind.Variable by.now) variables.now ≡ variables.now }
+{
+    for variable in variables {
+        if !by.keeps(variable) {
+            return false;
+        }
+    }
+    true
+}
+
+/// It shares one whose fields keep their names.
+fn record_under(
+    alloc: Global,
+    by: &Renaming,
+    source: &Shared<Record>,
+) -> Result<Shared<Record>, AllocError>
+    ensures { IfOk result (λ after. after ≡ record source.now { fields = map (ident_by kind.Variable by.now) source.now.fields }) }
+{
+    let within = source.get();
+    if are_kept(by, within.fields.as_slice()) {
+        return source.copied(alloc);
+    }
+    renamed_record(alloc, by, within)
+}
 
 fn renamed_record(
     alloc: Global,
@@ -56,7 +83,7 @@ impl Renamed for Value {
         match self {
             Value::Constant(constant) => Ok(Value::Constant(*constant)),
             Value::Name(name) => Ok(Value::Name(by.ident(alloc, Kind::Name, name)?)),
-            Value::Record(record) => Ok(Value::Record(renamed_record(alloc, by, record.get())?)),
+            Value::Record(record) => Ok(Value::Record(record_under(alloc, by, record)?)),
             Value::Procedure(procedure) => {
                 let after = renamed_procedure(alloc, by, procedure.get())?;
                 Ok(Value::Procedure(after))

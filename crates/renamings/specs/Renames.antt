@@ -23,3 +23,8 @@ merged_ident child parent given by x =
 abbrev pub ident_by : Kind → Renaming → Ident → Ident
 ident_by kind (Move from to) x = record x { space = moved from to x.space }
 ident_by kind (Merge child parent given) x = merged_ident child parent given (given_of kind given) x
+
+-- the space whose names go elsewhere
+abbrev pub subject : Renaming → List ℕ
+subject (Move from to) = from
+subject (Merge child parent given) = child

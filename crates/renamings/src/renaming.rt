@@ -1,7 +1,9 @@
 //! A change of the names of spaces, and of what is named in them.
-ghost use Rattle.std.specs.Prelude.{◌≡◌, ◌+◌, ◌++◌, drop, length, IfOk};
+ghost use Rattle.std.specs.Prelude.{◌≡◌, ◌+◌, ◌++◌, true, not, nat_eq, drop, length, IfOk};
+ghost use Rattle.std.specs.List.{starts_with};
 ghost use Rattle.renamings.specs.Spaces.{moved, merged, raised_child};
-ghost use Rattle.renamings.specs.Renames.{space_by, ident_by};
+ghost use Rattle.renamings.specs.Renames.{space_by, ident_by, subject};
+ghost use Rattle.renamings.specs.declared.given.Kind.{Kind};
 
 use crate::{GivenOut, Kind};
 use oz_base::{Copies, Ident, SpaceName, same_space};
@@ -65,6 +67,31 @@ impl Renaming {
                 })
             }
         }
+    }
+}
+
+impl Renaming {
+    /// The space that is copied, or that becomes a part of its parent.
+    fn subject(&self) -> &SpaceName
+        ensures { result.now ≡ subject self.now }
+    {
+        match self {
+            Renaming::Move { from, to: _ } => from,
+            Renaming::Merge {
+                child,
+                parent: _,
+                given: _,
+            } => child,
+        }
+    }
+
+    /// Whether what is named so is in another space than the one that is renamed and those below it. Then it keeps its name.
+    #[tactic(auto, using(crate::proofs::Outside::kept_outside))]
+    pub fn keeps(&self, ident: &Ident) -> bool
+        ensures outside { result ≡ not (starts_with nat_eq ident.now.space (subject self.now)) }
+        ensures kept { result ≡ true → (kind : Kind) → ident_by kind self.now ident.now ≡ ident.now }
+    {
+        !self.subject().is_above(&ident.space)
     }
 }
 

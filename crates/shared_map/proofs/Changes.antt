@@ -91,3 +91,11 @@ whole_after f g g' m e is = ap whole e ∙ whole_changed f g ∙ ap (changed_val
 
 pub count_after : {V : Type 0} (f : V → V) (g g' : ℕ → Option V) (n : ℕ) → g' ≡ changed_at f g → n ≡ maps.len (whole g) → n ≡ maps.len (whole g')
 count_after f g g' n e count = count ∙ sym (ap maps.len (ap whole e ∙ whole_changed f g) ∙ len_changed f (whole g))
+
+-- four functions side by side that a change leaves
+pub kept_join : {V : Type 0} (f : V → V) (p : ℕ) (a b c d : ℕ → Option V) → changed_at f a ≡ a → changed_at f b ≡ b → changed_at f c ≡ c → changed_at f d ≡ d → changed_at f (join p a b c d) ≡ join p a b c d
+kept_join f p a b c d ea eb ec ed = sym (changed_join f p a b c d a b c d (sym ea) (sym eb) (sym ec) (sym ed))
+
+pub kept_above : {V : Type 0} (f : V → V) (b : Bool) (g : ℕ → Option V) → changed_at f g ≡ g → changed_at f (cond b nothing g) ≡ cond b nothing g
+kept_above f true g e = refl
+kept_above f false g e = e

@@ -1,5 +1,5 @@
 //! A change of the values of a map.
-ghost use Rattle.std.specs.Prelude.{◌≡◌, IfOk};
+ghost use Rattle.std.specs.Prelude.{◌≡◌, true, IfOk};
 
 use std::alloc::{AllocError, Global};
 
@@ -11,4 +11,8 @@ pub trait Change<V> {
     /// The value that takes the place of this one.
     fn changed(&self, alloc: Global, value: &V) -> Result<V, AllocError>
         ensures { IfOk result (λ after. after ≡ changed self.now value.now) };
+
+    /// Whether it leaves this value. It may say no of one that it leaves.
+    fn keeps(&self, value: &V) -> bool
+        ensures { result ≡ true → changed self.now value.now ≡ value.now };
 }

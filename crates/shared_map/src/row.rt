@@ -1,5 +1,5 @@
 //! The values of a leaf.
-ghost use Rattle.std.specs.Prelude.{◌≡◌, ◌<◌, ◌/◌, ◌%◌, cond, IfOk, OnOk, option_copied, option_map};
+ghost use Rattle.std.specs.Prelude.{◌≡◌, ◌<◌, ◌/◌, ◌%◌, true, cond, IfOk, OnOk, option_copied, option_map};
 ghost use Rattle.shared_map.specs.Lookup.{choice, four_at, row_at, nothing, placed};
 ghost use Rattle.shared_map.specs.Changes.{changed_at};
 
@@ -183,6 +183,50 @@ fn changed_value<V, C: Change<V>>(
     match value {
         None => Ok(None),
         Some(value) => Ok(Some(change.changed(alloc, value)?)),
+    }
+}
+
+fn keeps_value<V, C: Change<V>>(change: &C, value: &Option<V>) -> bool
+    ensures { result ≡ true → option_map (C.changed change.now) value.now ≡ value.now }
+{
+    match value {
+        None => true,
+        Some(value) => change.keeps(value),
+    }
+}
+
+impl<V> Four<V> {
+    fn is_kept<C: Change<V>>(&self, change: &C) -> bool
+        ensures { result ≡ true → changed_at (C.changed change.now) (four_at self.now) ≡ four_at self.now }
+    {
+        if !keeps_value(change, &self.a) {
+            return false;
+        }
+        if !keeps_value(change, &self.b) {
+            return false;
+        }
+        if !keeps_value(change, &self.c) {
+            return false;
+        }
+        keeps_value(change, &self.d)
+    }
+}
+
+impl<V> Row<V> {
+    /// Whether no value gives way to another.
+    pub fn is_kept<C: Change<V>>(&self, change: &C) -> bool
+        ensures { result ≡ true → changed_at (C.changed change.now) (row_at self.now) ≡ row_at self.now }
+    {
+        if !self.a.is_kept(change) {
+            return false;
+        }
+        if !self.b.is_kept(change) {
+            return false;
+        }
+        if !self.c.is_kept(change) {
+            return false;
+        }
+        self.d.is_kept(change)
     }
 }
 
