@@ -170,13 +170,14 @@ fn gives_the_number_that_was_chosen(rt: HostRuntime) -> Result<(), Fail> {
         environment: Environment::new(),
     };
     let store = Store::new(alloc);
-    let given = match answer(alloc, &[], &SpaceName::top(), &store, &frame)? {
+    let answer = answer(alloc, &[], &SpaceName::top(), &store, &frame)?;
+    let given = match &answer {
         Answer::Acts(
             Act::GivesValue {
                 variable,
                 value: Value::Constant(Constant::Int(number)),
             },
-        ) => Some((variable.number, number)),
+        ) => Some((variable.number, *number)),
         _ => None,
     };
     assert_eq!(rt; given, Some((7, 2)));
