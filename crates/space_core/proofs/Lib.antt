@@ -8,6 +8,7 @@ pub mod AnswerLaws
 pub mod TellLaws
 pub mod AnyLaws
 pub mod OuterLaws
+pub mod PlainLaws
 pub mod ToldLaws
 pub mod BeginLaws
 pub mod ParentLaws

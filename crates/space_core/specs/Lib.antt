@@ -1,5 +1,6 @@
 pub mod Levels
 pub mod Places
+pub mod Plain
 pub mod Threads
 pub mod Shown
 pub mod Stacks

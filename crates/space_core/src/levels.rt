@@ -1,5 +1,5 @@
 //! The layers.
-ghost use Rattle.std.specs.Prelude.{◌≡◌, ◌<◌, ◌∷◌, [], Some, true, length, drop, slice_get, position, is_some, IfOk, OnOk, OnErr, option_copied};
+ghost use Rattle.std.specs.Prelude.{◌≡◌, ◌<◌, ◌∷◌, [], Some, true, false, length, drop, slice_get, position, is_some, IfOk, OnOk, OnErr, option_copied};
 ghost use Rattle.oz_base.specs.Lists.{first};
 ghost use Rattle.oz_semantics.specs.Names.{parent_of};
 ghost use Rattle.oz_semantics.specs.Configurations.{is_of, layer_at, layer_of, view, ancestor_variables, stack_of, new_layer, next_child, in_layer, with_frames, without_terminated, giving_out, spawning, failed, raised_by, ending};
@@ -13,6 +13,8 @@ ghost use Rattle.oz_semantics.specs.declared.configuration.Frame.{Frame};
 ghost use Rattle.space_core.specs.Levels.{OfLayer, IsToldTo, replacing};
 ghost use Rattle.space_core.specs.Telling.{has_below};
 ghost use Rattle.need_laws.specs.Needs.{has_triggers};
+ghost use Rattle.view_laws.specs.Spaceless.{has_spaces};
+ghost use Rattle.view_laws.specs.Trees.{IsTree};
 ghost use Rattle.space_core.specs.Advances.{given_out, IsAdvanced, IsCaught, IsRaised};
 ghost use Rattle.space_core.specs.Firing.{firing, at_place};
 ghost use Rattle.space_core.specs.Shown.{seen_above};
@@ -23,6 +25,7 @@ use crate::given::Given;
 use crate::homes::{all_home, has_below};
 use crate::level::{Level, top_level};
 use crate::looking::{level_place, level_position};
+use crate::plain::{are_plain, has_spaces};
 use crate::remaking::tell_through;
 use crate::stacks::Landing;
 use crate::tree::{self, add_level, child_count, child_of, drop_below, store_above};
@@ -390,6 +393,21 @@ impl Levels {
         has_triggers(self.levels.as_slice())
     }
 
+    /// Whether it is noted of a space that it was told of a space as a value. Where it is not, no space is a value.
+    pub fn has_spaces(&self) -> bool
+        ensures { result ≡ false → has_spaces self.now ≡ false }
+    {
+        has_spaces(self.levels.as_slice())
+    }
+
+    /// Whether no space has by-need computations that have not begun, and it is noted of none that it was told of a space as a value.
+    pub fn is_plain(&self) -> bool
+        ensures triggers { result ≡ true → has_triggers self.now ≡ false }
+        ensures spaces { result ≡ true → has_spaces self.now ≡ false }
+    {
+        are_plain(self.levels.as_slice())
+    }
+
     /// The by-need computations of the space at a place that have not begun, in the order in which they came.
     pub fn triggers_at(&self, place: usize) -> &[Trigger]
         requires { place < length self.now }
@@ -516,6 +534,13 @@ impl Levels {
             return;
         };
         tree::fail(alloc, &mut self.levels[place], above);
+    }
+
+    /// The layers are those of a tree of spaces. Nothing: it holds a law.
+    pub fn is_tree(&self)
+        ensures { IsTree self.now }
+    {
+        let _ = &self.levels;
     }
 
     /// What each space that may fail sees is consistent. Nothing: it holds a law.

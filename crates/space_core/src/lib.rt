@@ -12,6 +12,7 @@ mod homes;
 mod level;
 mod levels;
 mod looking;
+mod plain;
 mod remaking;
 mod silence;
 mod stacks;

@@ -99,7 +99,7 @@ fn tell_all(
         return Ok(false);
     }
     let fates = put_store(alloc, levels, place, store)?;
-    note(&mut levels[place], home, noted);
+    note(&mut levels[place], home, tells, noted);
     settle(alloc, levels, fates);
     Ok(true)
 }

@@ -42,7 +42,7 @@ fn many(alloc: Global) -> Result<Levels, AllocError> {
 fn statement(levels: &Levels, number: u32) -> Option<u32> {
     match &levels.top_frame(&of_top(number))?.code {
         Code::Statement(statement) => Some(*statement),
-        Code::Call { .. } | Code::Mark { .. } => None,
+        Code::Call { .. } | Code::Bind { .. } | Code::Mark { .. } => None,
     }
 }
 
@@ -205,7 +205,7 @@ fn applied(levels: &Levels, number: u32) -> Option<(u64, u64)> {
             procedure,
             argument,
         } => Some((procedure.number, argument.number)),
-        Code::Statement(_) | Code::Mark { .. } => None,
+        Code::Statement(_) | Code::Bind { .. } | Code::Mark { .. } => None,
     }
 }
 
@@ -302,5 +302,40 @@ fn spaces_below_see_what_a_space_is_told(rt: HostRuntime) -> Result<(), Fail> {
     assert!(rt; tell_space(alloc, &mut levels, &top, &[is_integer(3, 2)])?);
     assert!(rt; has_failed(&levels, &child));
     assert_eq!(rt; levels.len(), 2);
+    Ok(())
+}
+
+/// A variable of the top is a space.
+fn is_space(variable: u32, space: SpaceName) -> Tell {
+    Tell::Is {
+        variable: of_top(variable),
+        value: Value::Space(space),
+    }
+}
+
+#[test]
+fn a_space_that_is_told_is_known_until_that_fails(rt: HostRuntime) -> Result<(), Fail> {
+    let alloc = rt.alloc();
+    let top = SpaceName::top();
+    let mut levels = Levels::new(alloc)?;
+    let child = new_child(alloc, &mut levels, &top)?;
+    assert!(rt; tell_space(alloc, &mut levels, &top, &[is_integer(1, 1)])?);
+    assert!(rt; !levels.has_spaces() && levels.is_plain());
+    let told = &[is_integer(3, 1), is_space(2, child.copied(alloc)?)];
+    assert!(rt; tell_space(alloc, &mut levels, &child, told)?);
+    assert!(rt; levels.has_spaces() && !levels.is_plain());
+    assert!(rt; levels.copied(alloc)?.has_spaces());
+    assert!(rt; tell_space(alloc, &mut levels, &top, &[is_integer(4, 1)])?);
+    assert!(rt; levels.has_spaces());
+    assert!(rt; tell_space(alloc, &mut levels, &top, &[is_integer(2, 1)])?);
+    assert!(rt; has_failed(&levels, &child));
+    assert!(rt; !levels.has_spaces() && levels.is_plain());
+    Ok(())
+}
+
+#[test]
+fn what_waits_to_be_needed_is_not_plain(rt: HostRuntime) -> Result<(), Fail> {
+    let levels = with_triggers(rt.alloc())?;
+    assert!(rt; !levels.has_spaces() && !levels.is_plain());
     Ok(())
 }

@@ -91,6 +91,7 @@ pub fn fail(alloc: Global, level: &mut Level, store: Store)
     level.triggers = Sequence::new(alloc);
     level.objects = Objects::new();
     level.traced = true;
+    level.knows_space = false;
 }
 
 /// The space is ended by the exception that is the variable's term.
@@ -158,6 +159,7 @@ fn child_level(
             child: 1,
         },
         traced: true,
+        knows_space: false,
     })
 }
 

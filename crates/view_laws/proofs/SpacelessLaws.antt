@@ -1,5 +1,5 @@
 -- That a thread goes by what it sees alone where no space is a value.
-use Rattle.std.proofs.Common.{◌≡◌, ℕ, Bool, true, false, ◌||◌, if◌then◌else◌, List, [], ◌∷◌, ◌++◌, refl, sym, ap, ◌∙◌, Contains, Some, cond}
+use Rattle.std.proofs.Common.{◌≡◌, ℕ, Bool, true, false, ◌||◌, if◌then◌else◌, List, [], ◌∷◌, ◌++◌, refl, sym, ap, ◌∙◌, Contains, Some, is_some, cond}
 use Rattle.std.specs.List.{list_any, find}
 use Rattle.std.proofs.lemmas.Bool.{false≢true}
 use Rattle.oz_base.specs.Lists.{edit_first}
@@ -18,7 +18,7 @@ use Rattle.oz_semantics.specs.declared.value.SpaceOperation.{SpaceOperation}
 use Rattle.oz_semantics.specs.declared.value.Value.TheVariants as value
 use Rattle.oz_semantics.specs.declared.value.Tell.{Tell}
 use Rattle.oz_semantics.specs.declared.value.Tell.TheVariants.{Is}
-use Rattle.view_laws.specs.Spaceless.{gives_space, knows_space, has_spaces, SpacelessAnswer, SpacelessReady, QuietSpaceless, TellSpaceless}
+use Rattle.view_laws.specs.Spaceless.{gives_space, knows_space, has_spaces, SpacelessAnswer, SpacelessReady, QuietSpaceless, TellSpaceless, UntoldSpaceless}
 use Rattle.view_laws.proofs.Members.{not_both, by_some}
 use Rattle.view_laws.proofs.AnswerLaws.{stack_holds}
 
@@ -92,3 +92,27 @@ tell_edit test change ts (l ∷ ls) h f e = by (test l) (tell_edit test change t
 
 pub tell_spaceless : TellSpaceless
 tell_spaceless change layers space ts told none before = tell_edit (is_of space) change ts layers told none before
+
+any_parts : {A : Type 0} (p : A → Bool) (xs ys : List A) → list_any p (xs ++ ys) ≡ false → (list_any p xs ≡ false) × (list_any p ys ≡ false)
+any_parts p [] ys e = (refl, e)
+any_parts p (x ∷ xs) ys e = let r = any_parts p xs ys (right_false (p x) _ e) in (or_false _ _ (left_false _ _ e) r.0, r.1)
+
+untold_edit : (test : Layer → Bool) (change : Layer → Layer) (ts : List Tell) (ls : List Layer) → ((l : Layer) → find test ls ≡ Some l → (change l).tells ≡ l.tells ++ ts)
+    → is_some (find test ls) ≡ true → has_spaces (edit_first test change ls) ≡ false → (has_spaces ls ≡ false) × (list_any gives_space ts ≡ false)
+untold_edit test change ts [] h there e = absurd (false≢true there)
+untold_edit test change ts (l ∷ ls) h there e = by (test l) h there e (untold_edit test change ts ls)
+  where
+    by : (b : Bool) → ((m : Layer) → cond b (Some l) (find test ls) ≡ Some m → (change m).tells ≡ m.tells ++ ts) → is_some (cond b (Some l) (find test ls)) ≡ true
+        → has_spaces (cond b (change l ∷ ls) (l ∷ edit_first test change ls)) ≡ false
+        → (((m : Layer) → find test ls ≡ Some m → (change m).tells ≡ m.tells ++ ts) → is_some (find test ls) ≡ true → has_spaces (edit_first test change ls) ≡ false
+        → (has_spaces ls ≡ false) × (list_any gives_space ts ≡ false))
+        → (has_spaces (l ∷ ls) ≡ false) × (list_any gives_space ts ≡ false)
+    by true g s e rest =
+        let r = any_parts gives_space l.tells ts (sym (ap (list_any gives_space) (g l refl)) ∙ left_false (knows_space (change l)) _ e) in
+        (or_false _ _ r.0 (right_false (knows_space (change l)) _ e), r.1)
+    by false g s e rest =
+        let r = rest g s (right_false (knows_space l) _ e) in
+        (or_false _ _ (left_false (knows_space l) _ e) r.0, r.1)
+
+pub untold_spaceless : UntoldSpaceless
+untold_spaceless change layers space ts told there after = untold_edit (is_of space) change ts layers told there after

@@ -1,9 +1,9 @@
 -- Layers in which no space is a value. There a thread goes by what it sees alone, whatever the states of the spaces below.
-use Rattle.std.specs.Prelude.{ℕ, ◌≡◌, Bool, false, List, ◌++◌, is_some}
+use Rattle.std.specs.Prelude.{ℕ, ◌≡◌, Bool, true, false, List, ◌++◌, Some, is_some}
 use Rattle.std.specs.List.{list_any}
 use Rattle.oz_language.specs.declared.kernel.Statement.{Statement}
 use Rattle.oz_semantics.specs.Values.{space_in}
-use Rattle.oz_semantics.specs.Configurations.{in_layer}
+use Rattle.oz_semantics.specs.Configurations.{layer_at, in_layer}
 use Rattle.oz_semantics.specs.Sights.{Sight, States, Readiness}
 use Rattle.oz_semantics.specs.Statements.{stack_answer}
 use Rattle.oz_semantics.specs.Readiness.{answer_ready}
@@ -53,3 +53,9 @@ abbrev pub TellSpaceless : Type 0
 TellSpaceless =
     (change : Layer → Layer) (layers : List Layer) (space : List ℕ) (ts : List Tell) → ((l : Layer) → (change l).tells ≡ l.tells ++ ts)
     → list_any gives_space ts ≡ false → has_spaces layers ≡ false → has_spaces (in_layer space change layers) ≡ false
+
+-- Where no space is a value after a tell, none was before, and nothing that was told gives one
+abbrev pub UntoldSpaceless : Type 0
+UntoldSpaceless =
+    (change : Layer → Layer) (layers : List Layer) (space : List ℕ) (ts : List Tell) → ((l : Layer) → layer_at layers space ≡ Some l → (change l).tells ≡ l.tells ++ ts)
+    → is_some (layer_at layers space) ≡ true → has_spaces (in_layer space change layers) ≡ false → (has_spaces layers ≡ false) × (list_any gives_space ts ≡ false)

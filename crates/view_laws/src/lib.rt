@@ -6,7 +6,7 @@
 ghost use Rattle.view_laws.specs.Touched.{TouchedDecide, FirstsDecide, TouchedHold, UntouchedAlike, TouchesNothing, TouchesTwice};
 ghost use Rattle.view_laws.specs.Sights.{ChangeUnseen, QuietUnseen, TellSeen, EndUnseen, FailureUnseen, RaiseUnseen, CreationUnseen, CommitmentUnseen, ViewSplits};
 ghost use Rattle.view_laws.specs.Trees.{TreesLead, ChangeTree, EndTree, FailureTree, RaiseTree, CreationTree};
-ghost use Rattle.view_laws.specs.Spaceless.{SpacelessAnswer, SpacelessReady, QuietSpaceless, TellSpaceless};
+ghost use Rattle.view_laws.specs.Spaceless.{SpacelessAnswer, SpacelessReady, QuietSpaceless, TellSpaceless, UntoldSpaceless};
 ghost use Rattle.view_laws.specs.Readies.{ReadinessStays, UntouchedUnmoved, ChangeReady, QuietReady};
 ghost use Rattle.view_laws.specs.Queues.{QueueExact, QueueOnce, QueueTells, QuietQueue};
 ghost use Rattle.view_laws.specs.Needs.{NothingFires};
@@ -51,6 +51,7 @@ pub fn spaceless_law()
     ensures ready { SpacelessReady }
     ensures quiet { QuietSpaceless }
     ensures tell { TellSpaceless }
+    ensures untold { UntoldSpaceless }
 {}
 
 /// What a thread can do where more is told than before, and where a layer changes. Nothing: it holds laws.
