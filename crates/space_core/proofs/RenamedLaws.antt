@@ -1,7 +1,9 @@
 -- Spaces that are put among others under other names.
-use Rattle.std.proofs.Common.{◌≡◌, inl, inr, ◌⊎◌, ℕ, suc, zero, ◌+◌, ◌<◌, ◌≤◌, Bool, true, false, not, if◌then◌else◌, cond, List, [], ◌∷◌, ◌++◌, refl, sym, ap, subst, ◌∙◌, arith, Contains, Option, Some, None, filter, map, fold, take, length, slice_get, slice_index_or}
+use Rattle.std.proofs.Common.{◌≡◌, inl, inr, ◌⊎◌, ℕ, suc, zero, ◌+◌, ◌<◌, ◌≤◌, Bool, true, false, not, ◌&&◌, if◌then◌else◌, cond, List, [], ◌∷◌, ◌++◌, refl, sym, ap, subst, ◌∙◌, arith, Contains, Option, Some, None, filter, map, fold, take, length, slice_get, slice_index_or}
 use Rattle.std.specs.List.{list_all}
+use Rattle.std.proofs.lemmas.Bool.{false≢true}
 use Rattle.std.specs.Option.{option_map}
+use Rattle.std.proofs.lemmas.Option.{slice_get-get_or}
 use Rattle.oz_semantics.specs.Configurations.{placed}
 use Rattle.oz_semantics.specs.Renamings.{Renaming, renamed_thread, renamed_layer}
 use Rattle.oz_semantics.specs.Edits.{all_placed}
@@ -32,13 +34,13 @@ goes_renamed r t = by t.frames
     by [] = refl
     by (f ∷ fs) = refl
 
+going_first : (r : Renaming) (ts us : List Thread) (a b : Bool) → a ≡ b → (list_all goes_on us ≡ true → list_all goes_on ts ≡ true) → (b && list_all goes_on us) ≡ true → (a && list_all goes_on ts) ≡ true
+going_first r ts us a true e rest k = ap (λ (c : Bool). c && list_all goes_on ts) e ∙ rest k
+going_first r ts us a false e rest k = absurd (false≢true k)
+
 all_going : (r : Renaming) (ts : List Thread) → list_all goes_on ts ≡ true → list_all goes_on (map (renamed_thread r) ts) ≡ true
 all_going r [] e = e
-all_going r (t ∷ ts) e = by (goes_on t) (goes_renamed r t) e
-  where
-    by : (b : Bool) → goes_on (renamed_thread r t) ≡ b → cond b (list_all goes_on ts) false ≡ true → list_all goes_on (map (renamed_thread r) (t ∷ ts)) ≡ true
-    by true f k = ap (λ (c : Bool). cond c (list_all goes_on (map (renamed_thread r) ts)) false) f ∙ all_going r ts k
-    by false f k = absurd (cc)
+all_going r (t ∷ ts) e = going_first r (map (renamed_thread r) ts) ts (goes_on (renamed_thread r t)) (goes_on t) (goes_renamed r t) (all_going r ts) e
 
 pub kept_renamed : (r : Renaming) (ts : List Thread) (next : ℕ) (ended : Bool) → IsKept ts next ended → IsKept (map (renamed_thread r) ts) next ended
 kept_renamed r ts next ended k = record { ascends = ascends_renamed r 1 next ts k.ascends; going = λ e. all_going r ts (k.going e) }
@@ -104,9 +106,9 @@ pub record PlacedUpTo (by : Names) (source : List Level) (n : ℕ) (old new : Li
 pub placed_nothing : (by : Names) (source old : List Level) → PlacedUpTo by source 0 old old
 placed_nothing by source old = record { shows = refl; member = λ k c. inl c }
 
-pub placed_more : (by : Names) (source old mid news : List Level) (n : ℕ) (l : Level) → slice_get source n ≡ Some l → PlacedUpTo by source n old mid → IsPlacedBy by l mid news
+placed_next : (by : Names) (source old mid news : List Level) (n : ℕ) (l : Level) → slice_get source n ≡ Some l → PlacedUpTo by source n old mid → IsPlacedBy by l mid news
     → PlacedUpTo by source (suc n) old news
-placed_more by source old mid news n l e m p = record {
+placed_next by source old mid news n l e m p = record {
   shows =
       p.shows
       ∙ ap (all_placed (if gives_name by l.space then renamed_layer (renaming_of by) (shown l) ∷ [] else [])) m.shows
@@ -132,3 +134,16 @@ placed_all by source old new n h p = record {
 
 pub map_all : {A B : Type 0} (f : A → B) (xs : List A) (n : ℕ) → length xs ≤ n → map f (take n xs) ≡ map f xs
 map_all f xs n h = ap (map f) (take_all xs n h)
+
+pub placed_more : (by : Names) (source old mid news : List Level) (n : ℕ) (l : Level) → n < length source → l ≡ slice_index_or source n l → PlacedUpTo by source n old mid → IsPlacedBy by l mid news
+    → PlacedUpTo by source (n + 1) old news
+placed_more by source old mid news n l within e m p =
+    let next : suc n ≡ n + 1 = omega arith in
+    subst (λ (k : ℕ). PlacedUpTo by source k old news) next
+    (placed_next by source old mid news n l (slice_get-get_or source n l within ∙ ap (λ (k : Level). Some k) (sym e)) m p)
+
+-- one more cell or port
+pub map_next : {A B : Type 0} (f : A → B) (xs : List A) (n : ℕ) (y : B) → option_map f (slice_get xs n) ≡ Some y → map f (take n xs) ++ y ∷ [] ≡ map f (take (n + 1) xs)
+map_next f xs n y e =
+    let next : suc n ≡ n + 1 = omega arith in
+    map_more f xs n y e ∙ ap (λ (k : ℕ). map f (take k xs)) next

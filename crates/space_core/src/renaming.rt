@@ -1,5 +1,5 @@
 //! What is kept of spaces under other names.
-ghost use Rattle.std.specs.Prelude.{◌≡◌, [], map, slice_get, Some, IfOk, OnOk};
+ghost use Rattle.std.specs.Prelude.{◌≡◌, [], map, slice_get, Some, IfOk, OnOk, option_copied};
 ghost use Rattle.std.specs.Option.{option_map};
 ghost use Rattle.oz_semantics.specs.Renamings.{renamed_tell};
 ghost use Rattle.renamed_terms.specs.Meanings.{renaming_of};
@@ -38,7 +38,7 @@ fn renamed_variable(
     by: &Renaming,
     variable: Option<&Ident>,
 ) -> Result<Ident, AllocError>
-    ensures { IfOk result (λ after. option_map (renaming_of by.now).variable variable.entry ≡ Some after) }
+    ensures { IfOk result (λ after. option_map (renaming_of by.now).variable (option_copied variable.entry) ≡ Some after) }
 {
     match variable {
         None => Err(AllocError),
@@ -127,7 +127,8 @@ fn add_renamed(
         return Ok(());
     }
     let renamed = renamed_level(alloc, by, level)?;
-    add_level(levels, renamed)
+    add_level(levels, renamed)?;
+    Ok(())
 }
 
 /// Puts the spaces that have other names among others under these. Where it is refused, some of them may be there.
