@@ -30,3 +30,5 @@ pub mod AdvanceLaws
 pub mod ThroughLaws
 pub mod CatchLaws
 pub mod AnewLaws
+pub mod GraftLoose
+pub mod CopyTold

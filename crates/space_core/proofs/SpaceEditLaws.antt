@@ -143,8 +143,7 @@ module _ (id : Ident) (old : List Layer) (there : is_some (layer_at old id.space
         → spawned ≡ in_layer child (spawning frames) old → new ≡ in_layer id.space pop spawned → inconsistent_spaces new ≡ [] → IsEdited id (Injects child procedure) old new true
     inject_done place p store sees consistent spawned new e f none =
         let s = stands_at old id.space place p in
-        let is_new : injected child procedure (in_layer id.space (telling []) (without_top id old)) ≡ new = ap (injected child procedure) told_nothing ∙ started ∙ sym (f ∙ ap (in_layer id.space pop) e) in
-        (
+        let is_new : injected child procedure (in_layer id.space (telling []) (without_top id old)) ≡ new = ap (injected child procedure) told_nothing ∙ started ∙ sym (f ∙ ap (in_layer id.space pop) e) in (
           ap is_consistent (append-nil (view (without_top id old) id.space) ∙ pop_view id old id.space ∙ sym (ap (view old) (space_of old id.space s.layer s.found)) ∙ sym (sees s.layer s.at)) ∙ consistent,
           λ statements. subst (λ (ls : List Layer). Settles id.space ls new) (sym is_new) (nothing_fails id.space new none),
         )

@@ -3,6 +3,7 @@
 #![tactic(auto)]
 
 mod advances;
+mod copying;
 mod declarations;
 mod edits;
 mod fates;

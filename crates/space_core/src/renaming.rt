@@ -69,11 +69,7 @@ fn renamed_objects(alloc: Global, by: &Renaming, objects: &Objects) -> Result<Ob
 }
 
 /// What the space was told itself, under other names.
-fn renamed_tells(
-    alloc: Global,
-    by: &Renaming,
-    level: &Level,
-) -> Result<Sequence<Tell>, AllocError>
+fn renamed_tells(alloc: Global, by: &Renaming, level: &Level) -> Result<Sequence<Tell>, AllocError>
     ensures { IfOk result (λ tells. tells ≡ map (renamed_tell (renaming_of by.now)) (shown level.now).tells) }
 {
     let tells = told_from(alloc, &level.store, level.told_from)?;

@@ -16,11 +16,7 @@ use oz_semantics::{Frame, Tell, Value};
 use std::alloc::{AllocError, Global};
 
 /// The name of the child that a space gives out next. It refuses for want of memory, or where the space is not there.
-fn next_child(
-    alloc: Global,
-    levels: &Levels,
-    parent: &SpaceName,
-) -> Result<SpaceName, AllocError>
+fn next_child(alloc: Global, levels: &Levels, parent: &SpaceName) -> Result<SpaceName, AllocError>
     ensures { IfOk result (λ name. name ≡ next_child (layer_of levels.now parent.now)) }
 {
     let Some(place) = levels.place(parent) else {
@@ -32,7 +28,7 @@ fn next_child(
 }
 
 /// That the variable is the space.
-fn space_tell(alloc: Global, variable: Ident, space: SpaceName) -> Result<Vec<Tell>, AllocError>
+pub fn space_tell(alloc: Global, variable: Ident, space: SpaceName) -> Result<Vec<Tell>, AllocError>
     ensures { IfOk result (λ tells. tells.items ≡ tell.Is variable (value.Space space) ∷ []) }
 {
     let mut tells = Vec::new(alloc);
