@@ -1,5 +1,5 @@
 -- A copy of a child, where the parent is told of it.
-use Rattle.std.proofs.Common.{◌≡◌, ◌⊎◌, inl, inr, ℕ, ◌+◌, ◌≤◌, Bool, true, false, not, if◌then◌else◌, List, [], ◌∷◌, ◌++◌, cond, map, filter, drop, length, refl, sym, ap, ap₂, subst, ◌∙◌, arith, Contains, Option, Some, None, is_some, unwrap_or}
+use Rattle.std.proofs.Common.{◌≡◌, ◌⊎◌, inl, inr, ℕ, ◌+◌, ◌≤◌, Bool, true, false, not, if◌then◌else◌, List, [], ◌∷◌, ◌++◌, cond, map, filter, drop, length, refl, sym, ap, ap₂, subst, ◌∙◌, arith, Contains, Option, Some, None, is_some, unwrap_or, slice_index_or}
 use Rattle.std.specs.List.{find}
 use Rattle.oz_base.specs.Lists.{list_eq, edit_first}
 use Rattle.oz_base.specs.declared.names.Ident.{Ident}
@@ -31,7 +31,7 @@ use Rattle.view_laws.specs.Trees.{IsTree}
 use Rattle.view_laws.proofs.Members.{decide, not_both}
 use Rattle.view_laws.proofs.NameLaws.{properly, properly_trans, equal_names}
 use Rattle.view_laws.proofs.SightLaws.{space_of, parent_above}
-use Rattle.space_core.specs.Anew.{IsLoose, IsAnew, ToldAlone, ClashesAlone, counting_by}
+use Rattle.space_core.specs.Anew.{IsLoose, IsAnew, ToldAlone, ClashesAlone, IsToldAlone, counting_by}
 use Rattle.space_core.specs.Renamed.{IsRenamed, renamed_of, IsOneOf, ArePlacedBy}
 use Rattle.space_core.specs.Shown.{shown, shown_all, seen_above, Fits, IsSound}
 use Rattle.space_core.specs.SpaceEdits.{IsEdited}
@@ -62,28 +62,28 @@ some_edit p q f keeps (x ∷ xs) = by (q x) (some_edit p q f keeps xs)
 pub kept_there : (space other : List ℕ) (change : Layer → Layer) (layers : List Layer) → ((l : Layer) → (change l).space ≡ l.space) → is_some (layer_at layers other) ≡ true → is_some (layer_at (in_layer space change layers) other) ≡ true
 kept_there space other change layers keeps e = some_edit (is_of other) (is_of space) change (λ l. ap (λ (p : List ℕ). list_eq p other) (keeps l)) layers ∙ e
 
-module _ (levels : List Level) (value : List Layer) (viewed : shown_all levels ≡ value) (s : IsSound levels) (id : Ident) (place : ℕ) (h : PlaceIn levels id.space place) (child : List ℕ) (has : HasChild value id.space child)
-    (variable : Ident) (copy : List ℕ) (is_copy : copy ≡ next_child (layer_of value id.space)) (ts : List Tell) (is_tells : ts ≡ Is variable (value.Space copy) ∷ []) where
+module _ (levels : List Level) (layers : List Layer) (viewed : shown_all levels ≡ layers) (s : IsSound levels) (id : Ident) (place : ℕ) (h : PlaceIn levels id.space place) (child : List ℕ) (has : HasChild layers id.space child)
+    (variable : Ident) (copy : List ℕ) (is_copy : copy ≡ next_child (layer_of layers id.space)) (ts : List Tell) (is_tells : ts ≡ Is variable (value.Space copy) ∷ []) where
   abbrev popped : List Layer
-  popped = without_top id value
+  popped = without_top id layers
 
   abbrev before : List Layer
   before = in_layer id.space (telling ts) popped
 
   tells_are : ts ≡ Is variable (value.Space (next_child (layer_of popped id.space))) ∷ []
-  tells_are = is_tells ∙ ap (λ (p : List ℕ). Is variable (value.Space p) ∷ []) (is_copy ∙ sym (popped_next id value has.parent_there))
+  tells_are = is_tells ∙ ap (λ (p : List ℕ). Is variable (value.Space p) ∷ []) (is_copy ∙ sym (popped_next id layers has.parent_there))
 
   sees_are : is_consistent (view popped id.space ++ Is variable (value.Space (next_child (layer_of popped id.space))) ∷ []) ≡ is_consistent (view (shown_all levels) id.space ++ ts)
-  sees_are = ap₂ (λ (us vs : List Tell). is_consistent (us ++ vs)) (pop_view id value id.space ∙ ap (λ (ls : List Layer). view ls id.space) (sym viewed)) (sym tells_are)
+  sees_are = ap₂ (λ (us vs : List Tell). is_consistent (us ++ vs)) (pop_view id layers id.space ∙ ap (λ (ls : List Layer). view ls id.space) (sym viewed)) (sym tells_are)
 
-  own_name : (layer_of value id.space).space ≡ id.space
-  own_name = space_of value id.space (layer_of value id.space) (there_of (layer_at value id.space) id.space has.parent_there)
+  own_name : (layer_of layers id.space).space ≡ id.space
+  own_name = space_of layers id.space (layer_of layers id.space) (there_of (layer_at layers id.space) id.space has.parent_there)
 
   under_copy : is_properly_below id.space copy ≡ true
   under_copy =
       subst (λ (p : List ℕ). is_properly_below id.space p ≡ true)
-      (ap (λ (p : List ℕ). child_name p (layer_of value id.space).next.child) (sym own_name) ∙ sym is_copy)
-      (properly_front id.space (layer_of value id.space).next.child [])
+      (ap (λ (p : List ℕ). child_name p (layer_of layers id.space).next.child) (sym own_name) ∙ sym is_copy)
+      (properly_front id.space (layer_of layers id.space).next.child [])
 
   apart : (p : List ℕ) → is_properly_below id.space p ≡ false → is_below copy p ≡ false
   apart p a = elim (decide (is_below copy p)) [ inl e ↦ absurd (not_both _ (properly_trans id.space copy p under_copy e) a) | inr e ↦ e ]
@@ -92,20 +92,20 @@ module _ (levels : List Level) (value : List Layer) (viewed : shown_all levels �
   apart_parent p inner a = elim (decide (is_below copy (parent_of p))) [ inl e ↦ absurd (not_both _ (parent_above p inner copy e) (apart p a)) | inr e ↦ e ]
 
   copy_is : next_child (layer_of before id.space) ≡ copy
-  copy_is = ap (λ (o : Option Layer). next_child (unwrap_or o (new_layer id.space))) (told_at id value has.parent_there ts) ∙ sym is_copy
+  copy_is = ap (λ (o : Option Layer). next_child (unwrap_or o (new_layer id.space))) (told_at id layers has.parent_there ts) ∙ sym is_copy
 
   has_before : HasChild before id.space child
   has_before = record {
     below = has.below;
-    parent_there = ap is_some (told_at id value has.parent_there ts);
-    child_there = kept_there id.space child (telling ts) popped (λ l. refl) (kept_there id.space child (with_frames id.number (λ frames. drop 1 frames)) value (λ l. refl) has.child_there);
+    parent_there = ap is_some (told_at id layers has.parent_there ts);
+    child_there = kept_there id.space child (telling ts) popped (λ l. refl) (kept_there id.space child (with_frames id.number (λ frames. drop 1 frames)) layers (λ l. refl) has.child_there);
   }
 
   abbrev after : List Layer
   after = copied id.space child before
 
   after_tree : IsTree after
-  after_tree = copied_tree id.space child before has_before (told_tree id value has.parent_there ts (subst IsTree viewed s.tree))
+  after_tree = copied_tree id.space child before has_before (told_tree id layers has.parent_there ts (subst IsTree viewed s.tree))
 
   parent_out : (l : Layer) → is_of id.space l ≡ true → is_in child l ≡ false
   parent_out l e = ap (is_below child) (equal_names l.space id.space e) ∙ child_above id.space child has.below
@@ -113,10 +113,10 @@ module _ (levels : List Level) (value : List Layer) (viewed : shown_all levels �
   same_copied : filter (is_in child) before ≡ filter (is_in child) (shown_all levels)
   same_copied =
       filter_dropped (is_in child) (is_of id.space) (telling ts) (λ l. refl) parent_out popped
-      ∙ filter_dropped (is_in child) (is_of id.space) (with_frames id.number (λ frames. drop 1 frames)) (λ l. refl) parent_out value
+      ∙ filter_dropped (is_in child) (is_of id.space) (with_frames id.number (λ frames. drop 1 frames)) (λ l. refl) parent_out layers
       ∙ ap (filter (is_in child)) (sym viewed)
 
-  pub copy_clash : ClashesAlone (counting_by id.number) place ts levels → (new : List Layer) → new ≡ value → IsEdited id (Copies child variable) value new false
+  pub copy_clash : ClashesAlone (counting_by id.number) place ts levels → (new : List Layer) → new ≡ layers → IsEdited id (Copies child variable) layers new false
   copy_clash c new e = (sees_are ∙ clash_alone levels id.space place s h (counting_by id.number) ts c, e)
 
   module _ (told : List Level) (t : ToldAlone (counting_by id.number) place ts levels told) (news : List Level) (put : ArePlacedBy (Move child copy) levels told news) where
@@ -124,9 +124,9 @@ module _ (levels : List Level) (value : List Layer) (viewed : shown_all levels �
     told_is =
         alone_shows levels id.space place s h (counting_by id.number) (λ k. refl) ts told t
         ∙ ap (λ (ls : List Layer). in_layer id.space (telling ts) (in_layer id.space (counting_by id.number) ls)) viewed
-        ∙ edits_join id.space (telling ts) (counting_by id.number) value (λ l. refl)
-        ∙ sym (edits_join id.space counting_child (λ l. telling ts (with_frames id.number (λ frames. drop 1 frames) l)) value (λ l. refl))
-        ∙ sym (ap (in_layer id.space counting_child) (edits_join id.space (telling ts) (with_frames id.number (λ frames. drop 1 frames)) value (λ l. refl)))
+        ∙ edits_join id.space (telling ts) (counting_by id.number) layers (λ l. refl)
+        ∙ sym (edits_join id.space counting_child (λ l. telling ts (with_frames id.number (λ frames. drop 1 frames) l)) layers (λ l. refl))
+        ∙ sym (ap (in_layer id.space counting_child) (edits_join id.space (telling ts) (with_frames id.number (λ frames. drop 1 frames)) layers (λ l. refl)))
 
     shows : shown_all news ≡ after
     shows =
@@ -173,10 +173,28 @@ module _ (levels : List Level) (value : List Layer) (viewed : shown_all levels �
       pub copy_sound : IsSound final
       copy_sound = anew_sound id.space news loose_news final anew
 
-      pub copy_edited : IsEdited id (Copies child variable) value (shown_all final) true
+      pub copy_edited : IsEdited id (Copies child variable) layers (shown_all final) true
       copy_edited = (
         sees_are ∙ alone_consistent levels id.space place s h (counting_by id.number) (λ k. refl) ts told t,
         λ statements.
             subst (λ (us : List Tell). Settles id.space (copied id.space child (in_layer id.space (telling us) popped)) (shown_all final)) tells_are
             (subst (λ (ls : List Layer). Settles id.space ls (shown_all final)) shows (anew_settles id.space news loose_news final anew)),
       )
+
+-- What the calls came to, by what they were called with
+pub copy_named : (levels : List Level) (layers : List Layer) → shown_all levels ≡ layers → (space : List ℕ) (place : ℕ) → PlaceIn levels space place → (l : Level) → l ≡ slice_index_or levels place l → (copy : List ℕ) → copy ≡ next_child (shown l)
+    → copy ≡ next_child (layer_of layers space)
+copy_named levels layers viewed space place h l e copy named =
+    named
+    ∙ ap next_child (read_shown levels space place h.0 h.1 l e)
+    ∙ sym (ap (λ (o : Option Layer). next_child (unwrap_or o (new_layer space))) h.1.found)
+    ∙ ap (λ (ls : List Layer). next_child (layer_of ls space)) viewed
+
+pub alone_by : (change : Layer → Layer) (place : ℕ) {old levels : List Level} {given ts : List Tell} (new : List Level) {b d : Bool} → old ≡ levels → given ≡ ts → b ≡ d → IsToldAlone change place given old new b → IsToldAlone change place ts levels new d
+alone_by change place {old} {levels} {given} {ts} new {b} {d} e f g a =
+    subst (IsToldAlone change place ts levels new) g
+    (subst (λ (ls : List Level). IsToldAlone change place ts ls new b) e (subst (λ (us : List Tell). IsToldAlone change place us old new b) f a))
+
+pub put_by : {from child : List ℕ} (copy : List ℕ) {source levels : List Level} (told news : List Level) → from ≡ child → source ≡ levels → ArePlacedBy (Move from copy) source told news → ArePlacedBy (Move child copy) levels told news
+put_by {from} {child} copy {source} {levels} told news e f a =
+    subst (λ (ls : List Level). ArePlacedBy (Move child copy) ls told news) f (subst (λ (p : List ℕ). ArePlacedBy (Move p copy) source told news) e a)
