@@ -14,6 +14,9 @@ pub mod BeginLaws
 pub mod ParentLaws
 pub mod EndLaws
 pub mod CreateLaws
+pub mod CreateSettles
+pub mod SpaceEditLaws
+pub mod RenamedLaws
 pub mod SilentLaws
 pub mod TreeAnswers
 pub mod StackLaws
@@ -26,3 +29,6 @@ pub mod DeclareLaws
 pub mod AdvanceLaws
 pub mod ThroughLaws
 pub mod CatchLaws
+pub mod AnewLaws
+pub mod GraftLoose
+pub mod CopyTold

@@ -13,3 +13,6 @@ pub mod Ending
 pub mod Fates
 pub mod Advances
 pub mod Firing
+pub mod SpaceEdits
+pub mod Anew
+pub mod Renamed

@@ -36,7 +36,7 @@ pub enum Fate {
 }
 
 /// What a store was told from a place on.
-fn told_from(alloc: Global, store: &Store, from: u64) -> Result<Vec<Tell>, AllocError>
+pub fn told_from(alloc: Global, store: &Store, from: u64) -> Result<Vec<Tell>, AllocError>
     ensures { IfOk result (λ tells. tells.items ≡ drop from store.now) }
 {
     let mut tells = Vec::new(alloc);

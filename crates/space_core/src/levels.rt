@@ -12,6 +12,9 @@ ghost use Rattle.oz_semantics.specs.Steps.{without_top};
 ghost use Rattle.oz_semantics.specs.declared.configuration.Frame.{Frame};
 ghost use Rattle.space_core.specs.Levels.{OfLayer, IsToldTo, replacing};
 ghost use Rattle.space_core.specs.Telling.{has_below};
+ghost use Rattle.oz_semantics.specs.Answers.{Copies};
+ghost use Rattle.edit_laws.specs.Edits.{HasChild};
+ghost use Rattle.space_core.specs.SpaceEdits.{IsEdited};
 ghost use Rattle.need_laws.specs.Needs.{has_triggers};
 ghost use Rattle.view_laws.specs.Spaceless.{has_spaces};
 ghost use Rattle.view_laws.specs.Trees.{IsTree};
@@ -20,19 +23,23 @@ ghost use Rattle.space_core.specs.Firing.{firing, at_place};
 ghost use Rattle.space_core.specs.Shown.{seen_above};
 
 use crate::advances::{tell_at, tell_under};
+use crate::copying::{count_told, next_name};
 use crate::firing::{fire, has_triggers};
 use crate::given::Given;
 use crate::homes::{all_home, has_below};
 use crate::level::{Level, top_level};
 use crate::looking::{level_place, level_position};
 use crate::plain::{are_plain, has_spaces};
-use crate::remaking::tell_through;
+use crate::remaking::{remake, tell_through};
+use crate::renaming::add_all_renamed;
+use crate::spaces::space_tell;
 use crate::stacks::Landing;
 use crate::tree::{self, add_level, child_count, child_of, drop_below, store_above};
 use crate::{edits, silence};
 use oz_base::{Copies, Ident, SpaceName, copies_of};
 use oz_language::Identifier;
 use oz_semantics::{Frame, Next, Status, Tell, Thread, Trigger};
+use renamings::Renaming;
 use std::alloc::{AllocError, Global};
 use std::marker::Model;
 use term_store::Store;
@@ -512,6 +519,41 @@ impl Levels {
             &given,
         )?;
         edits::cut(&mut self.levels[place], id.number, handler, count);
+        Ok(true)
+    }
+
+    /// The statement on top of a thread's stack is taken off, its space is told that the variable is a new child of it, which is a copy of
+    /// another child, and each space below fails that then sees what is inconsistent. False exactly where that is inconsistent with what
+    /// the space sees: then nothing changes. Where it is refused, nothing changes either.
+    ///
+    /// It takes the time and memory of the threads of all spaces, and of what the spaces below the thread's were told themselves.
+    pub fn copy_told(
+        &mut self,
+        alloc: Global,
+        id: &Ident,
+        child: &SpaceName,
+        variable: Ident,
+    ) -> Result<bool, AllocError>
+        requires { HasChild self.old id.now.space child.now }
+        ensures told { IfOk result (IsEdited id.now (Copies child.now variable) self.old self.new) }
+        ensures err { OnErr result (self.new ≡ self.old) }
+    {
+        let Some(place) = level_place(self.levels.as_slice(), &id.space) else {
+            return Err(AllocError);
+        };
+        let mut levels = copies_of(alloc, self.levels.as_slice())?;
+        let copy = next_name(alloc, &self.levels[place])?;
+        let tells = space_tell(alloc, variable, copy.copied(alloc)?)?;
+        if !count_told(alloc, &mut levels, place, id.number, tells.as_slice())? {
+            return Ok(false);
+        }
+        let by = Renaming::Move {
+            from: child.copied(alloc)?,
+            to: copy,
+        };
+        add_all_renamed(alloc, &by, &mut levels, self.levels.as_slice())?;
+        remake(alloc, &mut levels, place, &id.space)?;
+        self.levels = levels;
         Ok(true)
     }
 

@@ -3,6 +3,7 @@
 #![tactic(auto)]
 
 mod advances;
+mod copying;
 mod declarations;
 mod edits;
 mod fates;
@@ -14,7 +15,9 @@ mod levels;
 mod looking;
 mod plain;
 mod remaking;
+mod renaming;
 mod silence;
+mod spaces;
 mod stacks;
 mod telling;
 mod threads;

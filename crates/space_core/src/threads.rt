@@ -5,6 +5,8 @@ ghost use Rattle.std.specs.List.{range_with_len};
 ghost use Rattle.oz_semantics.specs.Names.{named};
 ghost use Rattle.oz_semantics.specs.Configurations.{is_numbered, thread_at, frames_in};
 ghost use Rattle.oz_semantics.specs.declared.configuration.Thread.{Thread};
+ghost use Rattle.oz_semantics.specs.Renamings.{renamed_thread};
+ghost use Rattle.renamed_terms.specs.Meanings.{renaming_of};
 ghost use Rattle.space_core.specs.Levels.{replacing};
 ghost use Rattle.space_core.specs.Places.{IsAbsent, IsFirst};
 ghost use Rattle.space_core.specs.Stacks.{IsLanding, cut_out, declared_on};
@@ -15,6 +17,8 @@ use crate::stacks::{Landing, nearest_mark};
 use oz_base::{Copies, Ident, Sequence, SpaceName, Stack};
 use oz_language::Identifier;
 use oz_semantics::{Frame, Thread};
+use renamed_terms::Renamed;
+use renamings::Renaming;
 use std::alloc::{AllocError, Global};
 use std::marker::Model;
 use std::mem;
@@ -241,6 +245,19 @@ impl Threads {
             return Ok(None);
         };
         nearest_mark(alloc, &self.threads.get(place).frames, exception)
+    }
+}
+
+impl Threads {
+    /// The same under other names. They keep their numbers.
+    pub fn renamed(&self, alloc: Global, by: &Renaming) -> Result<Threads, AllocError>
+        ensures { IfOk result (λ after. after ≡ record self.now { list = map (renamed_thread (renaming_of by.now)) self.now.list }) }
+    {
+        Ok(Threads {
+            threads: self.threads.renamed(alloc, by)?,
+            next: self.next,
+            ended: self.ended,
+        })
     }
 }
 

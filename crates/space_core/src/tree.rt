@@ -104,7 +104,11 @@ pub fn raise(alloc: Global, level: &mut Level, exception: Ident)
 }
 
 /// `{P X}` of the procedure and the space's root variable.
-fn starting_frame(alloc: Global, space: &SpaceName, procedure: Ident) -> Result<Frame, AllocError>
+pub fn starting_frame(
+    alloc: Global,
+    space: &SpaceName,
+    procedure: Ident,
+) -> Result<Frame, AllocError>
     ensures { IfOk result (λ frame. frame ≡ applying procedure (root_of space.now)) }
 {
     Ok(Frame {
