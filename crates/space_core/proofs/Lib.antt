@@ -32,3 +32,4 @@ pub mod CatchLaws
 pub mod AnewLaws
 pub mod GraftLoose
 pub mod CopyTold
+pub mod MergeLists
