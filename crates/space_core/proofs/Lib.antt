@@ -33,3 +33,4 @@ pub mod AnewLaws
 pub mod GraftLoose
 pub mod CopyTold
 pub mod MergeLists
+pub mod MergeTold

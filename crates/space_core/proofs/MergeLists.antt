@@ -1,12 +1,20 @@
 -- Threads, cells and ports of one space that come to those of another.
-use Rattle.std.proofs.Common.{◌≡◌, ℕ, zero, suc, ◌+◌, ◌-◌, ◌<◌, ◌≤◌, Bool, true, false, not, ◌&&◌, List, [], ◌∷◌, ◌++◌, refl, sym, ap, subst, ◌∙◌, arith, Option, Some, None, map, take, length, slice_get, slice_index_or}
+use Rattle.std.proofs.Common.{◌≡◌, ℕ, zero, suc, ◌+◌, ◌-◌, ◌<◌, ◌≤◌, Bool, true, false, not, ◌&&◌, List, [], ◌∷◌, ◌++◌, refl, sym, ap, subst, ◌∙◌, arith, Option, Some, None, map, take, drop, length, slice_get, slice_index_or}
 use Rattle.std.specs.Prelude.{◌||◌}
 use Rattle.std.specs.List.{list_all}
 use Rattle.std.proofs.lemmas.Bool.{false≢true}
 use Rattle.std.proofs.lemmas.Option.{slice_get-get_or}
-use Rattle.oz_semantics.specs.Renamings.{Renaming, renamed_thread}
+use Rattle.oz_semantics.specs.Configurations.{with_frames}
+use Rattle.oz_semantics.specs.Renamings.{Renaming, renamed_thread, renamed_trigger, renamed_layer}
+use Rattle.oz_semantics.specs.Edits.{joined}
+use Rattle.oz_semantics.specs.declared.configuration.Trigger.{Trigger}
+use Rattle.oz_semantics.specs.declared.configuration.Layer.{Layer}
+use Rattle.cells_ports.specs.Objects.{Contents}
 use Rattle.oz_semantics.specs.declared.configuration.Thread.{Thread}
-use Rattle.space_core.specs.Merging.{raised_by, with_joined}
+use Rattle.space_core.specs.Merging.{raised_by, with_joined, joining_by}
+use Rattle.space_core.specs.Shown.{next_with, shown, IsQuiet}
+use Rattle.space_core.specs.declared.level.Level.{Level}
+use Rattle.space_core.specs.declared.level.Numbers.{Numbers}
 use Rattle.space_core.specs.Threads.{Running, Ascends, goes_on, IsKept}
 use Rattle.space_core.proofs.RenamedLaws.{kept_renamed}
 
@@ -89,3 +97,56 @@ kept_joined r ts us next other ended more h k =
       going = λ e. going_both ts (map (raised_by (next - 1)) (map (renamed_thread r) us)) (h.going (or_left_false ended more e))
           (going_raised (next - 1) (map (renamed_thread r) us) ∙ g.going (or_right_false ended more e));
     }
+
+-- none is left
+pub kept_none : (ts : List Thread) (next : ℕ) (ended : Bool) → IsKept ts next ended → IsKept [] next ended
+kept_none ts next ended h = record { ascends = ascends_low 1 next ts h.ascends; going = λ e. refl }
+
+-- What is kept of a space that all of a child came to
+module _ (r : Renaming) (child l m : Level) (number : ℕ) (q : IsQuiet (with_frames number (λ stack. drop 1 stack)) l m)
+    (threads : Running) (are_threads : threads ≡ with_joined r child.threads m.threads)
+    (triggers : List Trigger) (are_triggers : triggers ≡ m.triggers ++ map (renamed_trigger r) child.triggers)
+    (objects : Contents) (are_objects : objects ≡ record { cells = m.objects.cells ++ map r.variable child.objects.cells; ports = m.objects.ports ++ map r.variable child.objects.ports })
+    (numbers : Numbers) (are_numbers : numbers ≡ record {
+      variable = m.numbers.variable + child.numbers.variable;
+      procedure = m.numbers.procedure + (child.numbers.procedure - 1);
+      name = m.numbers.name + (child.numbers.name - 1);
+      child = m.numbers.child + (child.numbers.child - 1);
+    }) where
+  abbrev new : Level
+  new = record m { threads = threads; triggers = triggers; objects = objects; numbers = numbers }
+
+  shows_joined : shown new ≡ joined (renamed_layer r (shown child)) (shown m)
+  shows_joined = λ i. record {
+    space = m.space;
+    status = m.status;
+    tells = drop m.told_from m.store;
+    threads = (are_threads i).list;
+    triggers = are_triggers i;
+    cells = (are_objects i).cells;
+    ports = (are_objects i).ports;
+    next = next_with (are_threads i).next (are_numbers i);
+  }
+
+  pub joins_quietly : IsQuiet (joining_by r (shown child) number) l new
+  joins_quietly =
+      let a : numbers.variable ≡ m.numbers.variable + child.numbers.variable = ap (λ (n : Numbers). n.variable) are_numbers in
+      let b : numbers.child ≡ m.numbers.child + (child.numbers.child - 1) = ap (λ (n : Numbers). n.child) are_numbers in
+      record {
+        becomes = shows_joined ∙ ap (joined (renamed_layer r (shown child))) q.becomes;
+        space = q.space;
+        store = q.store;
+        told_from = q.told_from;
+        touched = q.touched;
+        traced = q.traced;
+        knows = q.knows;
+        variables = omega (arith, a, q.variables);
+        children = omega (arith, b, q.children);
+      }
+
+-- by what they came to
+pub kept_by : (r : Renaming) (ts us : List Thread) (next other : ℕ) (ended more : Bool) → IsKept ts next ended → IsKept us other more → (new : List Thread) → new ≡ ts ++ map (raised_by (next - 1)) (map (renamed_thread r) us)
+    → (n : ℕ) → n ≡ next + (other - 1) → IsKept new n (ended || more)
+kept_by r ts us next other ended more h k new e n f =
+    subst (λ (vs : List Thread). IsKept vs n (ended || more)) (sym e)
+    (subst (λ (m : ℕ). IsKept (ts ++ map (raised_by (next - 1)) (map (renamed_thread r) us)) m (ended || more)) (sym f) (kept_joined r ts us next other ended more h k))

@@ -262,14 +262,16 @@ impl Threads {
     }
 
     /// The threads of another space come to these, under other names and with numbers behind those that were given out. It refuses for
-    /// want of memory, and numbers above 2^64 - 1.
+    /// want of memory, and numbers above 2^64 - 1: then no thread may be left.
     pub fn join(&mut self, alloc: Global, by: &Renaming, other: &Threads) -> Result<(), AllocError>
         ensures { OnOk result (self.new ≡ with_joined (renaming_of by.now) other.now self.old) }
     {
         let raise = one_before(self.next)?;
         let next = sum(self.next, one_before(other.next)?)?;
-        let threads = raised_all(alloc, by, other.as_slice(), raise)?;
-        self.threads.append(threads)?;
+        let more = raised_all(alloc, by, other.as_slice(), raise)?;
+        let mut threads = mem::replace(&mut self.threads, Sequence::new(alloc));
+        threads.append(more)?;
+        self.threads = threads;
         self.next = next;
         self.ended |= other.ended;
         Ok(())
