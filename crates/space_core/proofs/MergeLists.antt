@@ -145,8 +145,8 @@ module _ (r : Renaming) (child l m : Level) (number : ℕ) (q : IsQuiet (with_fr
       }
 
 -- by what they came to
-pub kept_by : (r : Renaming) (ts us : List Thread) (next other : ℕ) (ended more : Bool) → IsKept ts next ended → IsKept us other more → (new : List Thread) → new ≡ ts ++ map (raised_by (next - 1)) (map (renamed_thread r) us)
-    → (n : ℕ) → n ≡ next + (other - 1) → IsKept new n (ended || more)
-kept_by r ts us next other ended more h k new e n f =
+pub kept_by : (r : Renaming) (ts us : List Thread) (next other : ℕ) (ended more : Bool) → IsKept ts next ended → IsKept us other more → (after : List Thread) → after ≡ ts ++ map (raised_by (next - 1)) (map (renamed_thread r) us)
+    → (n : ℕ) → n ≡ next + (other - 1) → IsKept after n (ended || more)
+kept_by r ts us next other ended more h k after e n f =
     subst (λ (vs : List Thread). IsKept vs n (ended || more)) (sym e)
     (subst (λ (m : ℕ). IsKept (ts ++ map (raised_by (next - 1)) (map (renamed_thread r) us)) m (ended || more)) (sym f) (kept_joined r ts us next other ended more h k))
