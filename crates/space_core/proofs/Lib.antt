@@ -32,3 +32,5 @@ pub mod CatchLaws
 pub mod AnewLaws
 pub mod GraftLoose
 pub mod CopyTold
+pub mod MergeLists
+pub mod MergeTold

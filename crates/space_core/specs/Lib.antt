@@ -16,3 +16,4 @@ pub mod Firing
 pub mod SpaceEdits
 pub mod Anew
 pub mod Renamed
+pub mod Merging

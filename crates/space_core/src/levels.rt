@@ -12,7 +12,7 @@ ghost use Rattle.oz_semantics.specs.Steps.{without_top};
 ghost use Rattle.oz_semantics.specs.declared.configuration.Frame.{Frame};
 ghost use Rattle.space_core.specs.Levels.{OfLayer, IsToldTo, replacing};
 ghost use Rattle.space_core.specs.Telling.{has_below};
-ghost use Rattle.oz_semantics.specs.Answers.{Copies};
+ghost use Rattle.oz_semantics.specs.Answers.{Copies, TakesIn};
 ghost use Rattle.edit_laws.specs.Edits.{HasChild};
 ghost use Rattle.space_core.specs.SpaceEdits.{IsEdited};
 ghost use Rattle.need_laws.specs.Needs.{has_triggers};
@@ -29,6 +29,7 @@ use crate::given::Given;
 use crate::homes::{all_home, has_below};
 use crate::level::{Level, top_level};
 use crate::looking::{level_place, level_position};
+use crate::merging::{join_told, merge_away, merge_tells, merging};
 use crate::plain::{are_plain, has_spaces};
 use crate::remaking::{remake, tell_through};
 use crate::renaming::add_all_renamed;
@@ -551,6 +552,53 @@ impl Levels {
             from: child.copied(alloc)?,
             to: copy,
         };
+        add_all_renamed(alloc, &by, &mut levels, self.levels.as_slice())?;
+        remake(alloc, &mut levels, place, &id.space)?;
+        self.levels = levels;
+        Ok(true)
+    }
+
+    /// The statement on top of a thread's stack is taken off, a child of its space becomes a part of the space, which is told what the
+    /// child was told and that the variable is the former root variable of the child, and each space below fails that then sees what
+    /// is inconsistent. False exactly where what is told is inconsistent with what the space sees: then nothing changes. Where it is
+    /// refused, nothing changes either.
+    pub fn take_in(
+        &mut self,
+        alloc: Global,
+        id: &Ident,
+        child: &SpaceName,
+        variable: Ident,
+    ) -> Result<bool, AllocError>
+        requires { HasChild self.old id.now.space child.now }
+        ensures told { IfOk result (IsEdited id.now (TakesIn child.now variable) self.old self.new) }
+        ensures err { OnErr result (self.new ≡ self.old) }
+    {
+        let Some(place) = level_place(self.levels.as_slice(), &id.space) else {
+            return Err(AllocError);
+        };
+        let Some(inner) = level_place(self.levels.as_slice(), child) else {
+            return Err(AllocError);
+        };
+        let level = &self.levels[inner];
+        let by = merging(alloc, level, &self.levels[place])?;
+        let tells = merge_tells(alloc, &by, level, variable)?;
+        let mut levels = copies_of(alloc, self.levels.as_slice())?;
+        if !join_told(
+            alloc,
+            &by,
+            &mut levels,
+            place,
+            id.number,
+            level,
+            tells.as_slice(),
+        )? {
+            return Ok(false);
+        }
+        drop_below(&mut levels, child);
+        let Some(left) = level_place(levels.as_slice(), child) else {
+            return Err(AllocError);
+        };
+        merge_away(alloc, &mut levels[left]);
         add_all_renamed(alloc, &by, &mut levels, self.levels.as_slice())?;
         remake(alloc, &mut levels, place, &id.space)?;
         self.levels = levels;

@@ -13,6 +13,7 @@ mod homes;
 mod level;
 mod levels;
 mod looking;
+mod merging;
 mod plain;
 mod remaking;
 mod renaming;

@@ -58,7 +58,11 @@ fn renamed_cells(alloc: Global, by: &Renaming, objects: &Objects) -> Result<Obje
 }
 
 /// The cells and ports under other names.
-fn renamed_objects(alloc: Global, by: &Renaming, objects: &Objects) -> Result<Objects, AllocError>
+pub fn renamed_objects(
+    alloc: Global,
+    by: &Renaming,
+    objects: &Objects,
+) -> Result<Objects, AllocError>
     ensures { IfOk result (λ after. after ≡ record { cells = map (renaming_of by.now).variable objects.now.cells; ports = map (renaming_of by.now).variable objects.now.ports }) }
 {
     let mut after = renamed_cells(alloc, by, objects)?;
@@ -69,7 +73,11 @@ fn renamed_objects(alloc: Global, by: &Renaming, objects: &Objects) -> Result<Ob
 }
 
 /// What the space was told itself, under other names.
-fn renamed_tells(alloc: Global, by: &Renaming, level: &Level) -> Result<Sequence<Tell>, AllocError>
+pub fn renamed_tells(
+    alloc: Global,
+    by: &Renaming,
+    level: &Level,
+) -> Result<Sequence<Tell>, AllocError>
     ensures { IfOk result (λ tells. tells ≡ map (renamed_tell (renaming_of by.now)) (shown level.now).tells) }
 {
     let tells = told_from(alloc, &level.store, level.told_from)?;
