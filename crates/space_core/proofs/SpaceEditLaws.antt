@@ -1,12 +1,10 @@
 -- Edits of the tree of spaces, by calls that stand.
-use Rattle.std.proofs.Common.{◌≡◌, inl, inr, ℕ, ◌+◌, ◌<◌, Bool, true, false, List, [], ◌∷◌, ◌++◌, drop, refl, sym, ap, ap₂, subst, ◌∙◌, arith, Option, Some, None, is_some, unwrap_or, slice_get, slice_index_or}
+use Rattle.std.proofs.Common.{◌≡◌, inl, inr, ℕ, Bool, true, false, List, [], ◌∷◌, ◌++◌, drop, refl, sym, ap, ap₂, subst, ◌∙◌, arith, Option, Some, is_some, unwrap_or, slice_get}
 use Rattle.std.specs.Prelude.{position}
-use Rattle.std.specs.List.{find}
 use Rattle.std.proofs.lemmas.List.{append-nil}
 use Rattle.std.proofs.lemmas.Option.{slice_get-get_or}
 use Rattle.oz_base.specs.Lists.{list_eq}
 use Rattle.oz_base.specs.declared.names.Ident.{Ident}
-use Rattle.oz_language.specs.declared.kernel.Statement.{Statement}
 use Rattle.oz_semantics.specs.Names.{is_below, root_of, child_name}
 use Rattle.oz_semantics.specs.Store.{is_consistent}
 use Rattle.oz_semantics.specs.Configurations.{is_of, layer_at, layer_of, new_layer, next_child, view, in_layer, with_frames, telling, spawning, applying}
@@ -30,14 +28,14 @@ use Rattle.edit_laws.proofs.ViewLaws.{tell_last, child_above}
 use Rattle.view_laws.specs.Trees.{IsTree}
 use Rattle.view_laws.proofs.Members.{decide, not_both}
 use Rattle.view_laws.proofs.NameLaws.{below_itself, equal_names, names_equal}
-use Rattle.view_laws.proofs.SightLaws.{space_of, of_space}
+use Rattle.view_laws.proofs.SightLaws.{space_of}
 use Rattle.view_laws.proofs.TreeLaws.{change_tree}
 use Rattle.space_core.specs.Advances.{IsAdvanced}
 use Rattle.space_core.specs.Levels.{OfLayer}
 use Rattle.space_core.specs.Places.{IsFirst}
-use Rattle.space_core.specs.SpaceEdits.{Edits, IsEdited}
+use Rattle.space_core.specs.SpaceEdits.{IsEdited}
 use Rattle.space_core.proofs.CreateSettles.{create_settles}
-use Rattle.space_core.proofs.Firsts.{Found, found_at, found_edited, edit_same}
+use Rattle.space_core.proofs.Firsts.{found_at, found_edited, edit_same}
 
 -- What stands where a space was looked up
 pub record StandsAt (layers : List Layer) (space : List ℕ) (place : ℕ) : Type 0 where
