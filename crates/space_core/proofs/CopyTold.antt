@@ -1,15 +1,14 @@
 -- A copy of a child, where the parent is told of it.
-use Rattle.std.proofs.Common.{◌≡◌, ◌⊎◌, inl, inr, ℕ, ◌+◌, ◌≤◌, Bool, true, false, not, if◌then◌else◌, List, [], ◌∷◌, ◌++◌, cond, map, filter, drop, length, refl, sym, ap, ap₂, subst, ◌∙◌, arith, Contains, Option, Some, None, is_some, unwrap_or, slice_index_or}
+use Rattle.std.proofs.Common.{◌≡◌, ◌⊎◌, inl, inr, ℕ, Bool, true, false, if◌then◌else◌, List, [], ◌∷◌, ◌++◌, cond, map, filter, drop, length, refl, sym, ap, ap₂, subst, ◌∙◌, arith, Contains, Option, Some, is_some, unwrap_or, slice_index_or}
 use Rattle.std.specs.List.{find}
 use Rattle.oz_base.specs.Lists.{list_eq, edit_first}
 use Rattle.oz_base.specs.declared.names.Ident.{Ident}
-use Rattle.oz_language.specs.declared.kernel.Statement.{Statement}
 use Rattle.oz_semantics.specs.Names.{is_below, is_properly_below, is_top, parent_of, child_name}
 use Rattle.oz_semantics.specs.Store.{is_consistent}
 use Rattle.oz_semantics.specs.Configurations.{is_of, layer_at, layer_of, view, in_layer, with_frames, telling, new_layer, next_child, counting_child}
 use Rattle.oz_semantics.specs.Answers.{Copies}
-use Rattle.oz_semantics.specs.Renamings.{Renaming, renamed_layer}
-use Rattle.oz_semantics.specs.Edits.{is_in, moved, moving, all_placed, copied}
+use Rattle.oz_semantics.specs.Renamings.{renamed_layer}
+use Rattle.oz_semantics.specs.Edits.{is_in, moving, all_placed, copied}
 use Rattle.oz_semantics.specs.Steps.{without_top}
 use Rattle.oz_semantics.specs.declared.value.Tell.{Tell}
 use Rattle.oz_semantics.specs.declared.value.Tell.TheVariants.{Is}
@@ -29,18 +28,18 @@ use Rattle.edit_laws.proofs.NameLaws.{below_front, properly_front}
 use Rattle.edit_laws.proofs.ViewLaws.{child_above}
 use Rattle.view_laws.specs.Trees.{IsTree}
 use Rattle.view_laws.proofs.Members.{decide, not_both}
-use Rattle.view_laws.proofs.NameLaws.{properly, properly_trans, equal_names}
+use Rattle.view_laws.proofs.NameLaws.{properly_trans, equal_names}
 use Rattle.view_laws.proofs.SightLaws.{space_of, parent_above}
 use Rattle.space_core.specs.Anew.{IsLoose, IsAnew, ToldAlone, ClashesAlone, IsToldAlone, counting_by}
-use Rattle.space_core.specs.Renamed.{IsRenamed, renamed_of, IsOneOf, ArePlacedBy}
-use Rattle.space_core.specs.Shown.{shown, shown_all, seen_above, Fits, IsSound}
+use Rattle.space_core.specs.Renamed.{IsOneOf, ArePlacedBy}
+use Rattle.space_core.specs.Shown.{shown, shown_all, IsSound}
 use Rattle.space_core.specs.SpaceEdits.{IsEdited}
 use Rattle.space_core.specs.declared.level.Level.{Level}
 use Rattle.space_core.proofs.AnewLaws.{anew_settles, anew_sound}
 use Rattle.space_core.proofs.AnswerLaws.{PlaceIn}
 use Rattle.space_core.proofs.GraftLoose.{alone_consistent, alone_loose, alone_shows, clash_alone, Stays, IsNewBelow, graft_loose, renamed_known}
 use Rattle.space_core.proofs.SoundLaws.{homes_kept, above_same, read_shown}
-use Rattle.space_core.proofs.SpaceEditLaws.{popped_at, popped_next, told_at, told_tree}
+use Rattle.space_core.proofs.SpaceEditLaws.{popped_next, told_at, told_tree}
 
 -- An edit leaves it whether an item is there
 pub some_edit : {A : Type 0} (p q : A → Bool) (f : A → A) → ((x : A) → p (f x) ≡ p x) → (xs : List A) → is_some (find p (edit_first q f xs)) ≡ is_some (find p xs)

@@ -4,17 +4,17 @@ use Rattle.oz_base.specs.Lists.{list_eq, put_before}
 use Rattle.oz_base.specs.declared.names.Ident.{Ident}
 use Rattle.oz_semantics.specs.Names.{is_below, is_properly_below, parent_of, space_lt}
 use Rattle.oz_semantics.specs.Store.{View, is_consistent}
-use Rattle.oz_semantics.specs.Configurations.{is_of, layer_at, layer_of, view, in_layer, placed, new_layer, next_child, counting_child, failed}
+use Rattle.oz_semantics.specs.Configurations.{is_of, layer_at, view, in_layer, placed, new_layer, next_child, counting_child, failed}
 use Rattle.oz_semantics.specs.Edits.{starting, created}
-use Rattle.oz_semantics.specs.Settling.{may_fail, is_inconsistent, inconsistent_spaces, failing, without_inconsistent}
+use Rattle.oz_semantics.specs.Settling.{may_fail, is_inconsistent, inconsistent_spaces, failing}
 use Rattle.oz_semantics.specs.declared.configuration.Layer.{Layer}
-use Rattle.oz_laws.proofs.SameLaws.{In, In-from_contains, contains-from_In, and-left, and-right}
+use Rattle.oz_laws.proofs.SameLaws.{In, contains-from_In, and-left, and-right}
 use Rattle.settle_laws.specs.Settles.{Settles}
 use Rattle.settle_laws.proofs.EditLaws.{are_quiet}
 use Rattle.settle_laws.proofs.ListEdits.{names_edit}
 use Rattle.settle_laws.proofs.SettleLaws.{failing_quiet, not_above, keeps_own}
 use Rattle.view_laws.specs.Trees.{IsTree, is_ascending, names_of}
-use Rattle.view_laws.proofs.Members.{decide, not_both, each}
+use Rattle.view_laws.proofs.Members.{decide, each}
 use Rattle.view_laws.proofs.ListLaws.{filter_in, in_map, map_in}
 use Rattle.view_laws.proofs.NameLaws.{above_parent, equal_names}
 use Rattle.view_laws.proofs.SightLaws.{creation_unseen, space_of}

@@ -1,16 +1,14 @@
 -- A space is told more while those below it still see what they saw, and then the tree below it is edited.
-use Rattle.std.proofs.Common.{◌≡◌, ◌⊎◌, inl, inr, ℕ, ◌<◌, ◌≤◌, Bool, true, false, List, [], ◌∷◌, ◌++◌, flat_map, map, length, slice_set, slice_index_or, refl, sym, ap, subst, ◌∙◌, Contains}
+use Rattle.std.proofs.Common.{◌≡◌, ◌⊎◌, inl, inr, ℕ, ◌<◌, true, false, List, [], ◌∷◌, ◌++◌, flat_map, map, length, slice_set, slice_index_or, refl, sym, ap, subst, ◌∙◌, Contains}
 use Rattle.std.specs.List.{list_any, list_all}
 use Rattle.std.proofs.lemmas.Bool.{false≢true}
 use Rattle.std.proofs.lemmas.List.{get_or-set_same}
-use Rattle.oz_base.specs.declared.names.Ident.{Ident}
-use Rattle.oz_semantics.specs.Names.{is_below, is_properly_below}
+use Rattle.oz_semantics.specs.Names.{is_properly_below}
 use Rattle.oz_semantics.specs.Store.{named_by, is_consistent}
-use Rattle.oz_semantics.specs.Configurations.{is_of, layer_at, view, in_layer, telling}
-use Rattle.oz_semantics.specs.Renamings.{Renaming, renamed_tell, renamed_layer}
+use Rattle.oz_semantics.specs.Configurations.{is_of, view, in_layer, telling}
+use Rattle.oz_semantics.specs.Renamings.{Renaming, renamed_tell}
 use Rattle.oz_semantics.specs.declared.value.Tell.{Tell}
 use Rattle.oz_semantics.specs.declared.value.Tell.TheVariants.{Equal, Is}
-use Rattle.oz_semantics.specs.declared.value.Value.{Value}
 use Rattle.oz_semantics.specs.declared.value.Value.TheVariants as value
 use Rattle.oz_semantics.specs.declared.configuration.Layer.{Layer}
 use Rattle.view_laws.specs.Trees.{IsTree}
@@ -21,12 +19,11 @@ use Rattle.space_core.specs.Anew.{IsLoose, ToldAlone, ClashesAlone}
 use Rattle.space_core.specs.Places.{IsFirst}
 use Rattle.space_core.specs.Renamed.{IsRenamed}
 use Rattle.space_core.specs.Shown.{shown, shown_all, seen_above, is_home, Fits, IsSound, IsQuiet}
-use Rattle.space_core.specs.Telling.{IsToldMore}
 use Rattle.space_core.specs.declared.level.Level.{Level}
 use Rattle.space_core.proofs.AdvanceLaws.{KeepsName, Reached, quiet_step}
 use Rattle.space_core.proofs.AnswerLaws.{PlaceIn}
 use Rattle.space_core.proofs.FateLaws.{not_under_itself}
-use Rattle.space_core.proofs.MemberLaws.{IsElsewhere, elsewhere_in, set_member}
+use Rattle.space_core.proofs.MemberLaws.{elsewhere_in, set_member}
 use Rattle.space_core.proofs.SoundLaws.{KeepsHomes, all_home, fits_after, read_shown, place_within, place_member}
 use Rattle.space_core.proofs.TellLaws.{after_tree, after_homes, fits_apart, own_shows, shows_more, tell_fits}
 

@@ -1,5 +1,5 @@
 -- Threads, cells and ports of one space that come to those of another.
-use Rattle.std.proofs.Common.{◌≡◌, ℕ, zero, suc, ◌+◌, ◌-◌, ◌<◌, ◌≤◌, Bool, true, false, not, ◌&&◌, List, [], ◌∷◌, ◌++◌, refl, sym, ap, subst, ◌∙◌, arith, Option, Some, None, map, take, drop, length, slice_get, slice_index_or}
+use Rattle.std.proofs.Common.{◌≡◌, ℕ, zero, suc, ◌+◌, ◌-◌, ◌<◌, ◌≤◌, Bool, true, false, ◌&&◌, List, [], ◌∷◌, ◌++◌, refl, sym, ap, subst, ◌∙◌, arith, Some, map, take, drop, length, slice_get, slice_index_or}
 use Rattle.std.specs.Prelude.{◌||◌}
 use Rattle.std.specs.List.{list_all}
 use Rattle.std.proofs.lemmas.Bool.{false≢true}
@@ -8,7 +8,6 @@ use Rattle.oz_semantics.specs.Configurations.{with_frames}
 use Rattle.oz_semantics.specs.Renamings.{Renaming, renamed_thread, renamed_trigger, renamed_layer}
 use Rattle.oz_semantics.specs.Edits.{joined}
 use Rattle.oz_semantics.specs.declared.configuration.Trigger.{Trigger}
-use Rattle.oz_semantics.specs.declared.configuration.Layer.{Layer}
 use Rattle.cells_ports.specs.Objects.{Contents}
 use Rattle.oz_semantics.specs.declared.configuration.Thread.{Thread}
 use Rattle.space_core.specs.Merging.{raised_by, with_joined, joining_by}

@@ -1,10 +1,9 @@
 -- A child becomes a part of its parent, where the parent is told of it.
-use Rattle.std.proofs.Common.{◌≡◌, ◌⊎◌, inl, inr, ℕ, ◌+◌, ◌-◌, ◌≤◌, Bool, true, false, not, ◌&&◌, if◌then◌else◌, List, [], ◌∷◌, ◌++◌, cond, map, filter, drop, length, slice_set, slice_index_or, refl, sym, ap, ap₂, subst, ◌∙◌, arith, Contains, Option, Some, None, is_some, unwrap_or}
+use Rattle.std.proofs.Common.{◌≡◌, ◌⊎◌, inl, inr, ℕ, ◌+◌, ◌-◌, Bool, true, false, not, ◌&&◌, List, [], ◌∷◌, ◌++◌, map, filter, drop, slice_set, slice_index_or, refl, sym, ap, ap₂, subst, ◌∙◌, arith, Contains, Option, is_some, unwrap_or}
 use Rattle.std.specs.List.{list_any}
 use Rattle.std.proofs.lemmas.List.{get_or-map, length-map}
 use Rattle.oz_base.specs.Lists.{list_eq}
 use Rattle.oz_base.specs.declared.names.Ident.{Ident}
-use Rattle.oz_language.specs.declared.kernel.Statement.{Statement}
 use Rattle.oz_semantics.specs.Names.{is_below, is_properly_below, is_top, parent_of, root_of}
 use Rattle.oz_semantics.specs.Store.{is_consistent}
 use Rattle.oz_semantics.specs.Configurations.{is_of, layer_at, layer_of, view, in_layer, with_frames, telling, new_layer}
@@ -37,8 +36,8 @@ use Rattle.view_laws.proofs.TreeLaws.{ascending_filter}
 use Rattle.view_laws.proofs.ListLaws.{in_filter, edit_in}
 use Rattle.space_core.specs.Anew.{IsLoose, IsAnew, ToldAlone, ClashesAlone, IsToldAlone}
 use Rattle.space_core.specs.Merging.{joining_by, IsMergedAway}
-use Rattle.space_core.specs.Renamed.{gives_name, IsRenamed, renamed_of, IsOneOf, ArePlacedBy}
-use Rattle.space_core.specs.Shown.{shown, shown_all, seen_above, Fits, IsSound}
+use Rattle.space_core.specs.Renamed.{gives_name, renamed_of, IsOneOf, ArePlacedBy}
+use Rattle.space_core.specs.Shown.{shown, shown_all, IsSound}
 use Rattle.space_core.specs.SpaceEdits.{IsEdited}
 use Rattle.space_core.specs.declared.level.Level.{Level}
 use Rattle.space_core.proofs.AnewLaws.{anew_settles, anew_sound}
@@ -258,10 +257,15 @@ module _ (levels : List Level) (layers : List Layer) (viewed : shown_all levels 
         contains-from_In after k (subst (In k) (sym taken_is) (old_all_put (map (renamed_layer names) (filter (is_under child) before)) beside k mid))
 
     grown : (n : Level) → is_below child n.space ≡ false → (k : Layer) → Contains (shown_all told) k → is_below k.space n.space ≡ true → Grown after k
-    grown n apart k c b = (k, still_there k c (elim (decide (is_below child k.space)) [
-      | inl e ↦ absurd (not_both _ (below_trans child k.space n.space e b) apart)
-      | inr e ↦ e
-    ]), refl, omega arith)
+    grown n apart k c b = (
+      k,
+      still_there k c (elim (decide (is_below child k.space)) [
+        | inl e ↦ absurd (not_both _ (below_trans child k.space n.space e b) apart)
+        | inr e ↦ e
+      ]),
+      refl,
+      omega arith,
+    )
 
     stays : (n : Level) → Contains told n → is_below child n.space ≡ false → Stays id.space told after n
     stays n c apart = record {

@@ -1,13 +1,12 @@
 -- Edits of the tree of spaces, by calls that stand.
-use Rattle.std.proofs.Common.{◌≡◌, inl, inr, ℕ, ◌+◌, ◌<◌, Bool, true, false, List, [], ◌∷◌, ◌++◌, drop, refl, sym, ap, ap₂, subst, ◌∙◌, arith, Option, Some, None, is_some, unwrap_or, slice_get, slice_index_or}
+use Rattle.std.proofs.Common.{◌≡◌, inl, inr, ℕ, Bool, true, false, not, List, [], ◌∷◌, ◌++◌, drop, refl, sym, ap, ap₂, subst, ◌∙◌, arith, Option, Some, None, is_some, unwrap_or, slice_get}
 use Rattle.std.specs.Prelude.{position}
-use Rattle.std.specs.List.{find}
+use Rattle.std.proofs.lemmas.Bool.{false≢true}
 use Rattle.std.proofs.lemmas.List.{append-nil}
 use Rattle.std.proofs.lemmas.Option.{slice_get-get_or}
 use Rattle.oz_base.specs.Lists.{list_eq}
 use Rattle.oz_base.specs.declared.names.Ident.{Ident}
-use Rattle.oz_language.specs.declared.kernel.Statement.{Statement}
-use Rattle.oz_semantics.specs.Names.{is_below, root_of, child_name}
+use Rattle.oz_semantics.specs.Names.{is_below, is_top, is_child_of, parent_of, root_of, child_name}
 use Rattle.oz_semantics.specs.Store.{is_consistent}
 use Rattle.oz_semantics.specs.Configurations.{is_of, layer_at, layer_of, new_layer, next_child, view, in_layer, with_frames, telling, spawning, applying}
 use Rattle.oz_semantics.specs.Answers.{Creates, Injects}
@@ -28,16 +27,16 @@ use Rattle.edit_laws.specs.Edits.{HasChild}
 use Rattle.edit_laws.proofs.GraftLaws.{there_of}
 use Rattle.edit_laws.proofs.ViewLaws.{tell_last, child_above}
 use Rattle.view_laws.specs.Trees.{IsTree}
-use Rattle.view_laws.proofs.Members.{decide, not_both}
+use Rattle.view_laws.proofs.Members.{decide, not_both, and_both}
 use Rattle.view_laws.proofs.NameLaws.{below_itself, equal_names, names_equal}
-use Rattle.view_laws.proofs.SightLaws.{space_of, of_space}
+use Rattle.view_laws.proofs.SightLaws.{space_of}
 use Rattle.view_laws.proofs.TreeLaws.{change_tree}
 use Rattle.space_core.specs.Advances.{IsAdvanced}
 use Rattle.space_core.specs.Levels.{OfLayer}
 use Rattle.space_core.specs.Places.{IsFirst}
-use Rattle.space_core.specs.SpaceEdits.{Edits, IsEdited}
+use Rattle.space_core.specs.SpaceEdits.{IsEdited}
 use Rattle.space_core.proofs.CreateSettles.{create_settles}
-use Rattle.space_core.proofs.Firsts.{Found, found_at, found_edited, edit_same}
+use Rattle.space_core.proofs.Firsts.{found_at, found_edited, edit_same}
 
 -- What stands where a space was looked up
 pub record StandsAt (layers : List Layer) (space : List ℕ) (place : ℕ) : Type 0 where
@@ -152,3 +151,19 @@ module _ (id : Ident) (old : List Layer) (there : is_some (layer_at old id.space
 pub advanced_by : (id : Ident) {before old : List Layer} {given ts : List Tell} (mid : List Layer) {b d : Bool} → before ≡ old → given ≡ ts → b ≡ d → IsAdvanced id given [] before mid b → IsAdvanced id ts [] old mid d
 advanced_by id {before} {old} {given} {ts} mid {b} {d} e f g a =
     subst (IsAdvanced id ts [] old mid) g (subst (λ (ls : List Layer). IsAdvanced id ts [] ls mid b) e (subst (λ (us : List Tell). IsAdvanced id us [] before mid b) f a))
+
+-- Whether a space is a child of one that is there
+pub named_child : (parent child : List ℕ) → is_top child ≡ false → list_eq parent (parent_of child) ≡ true → is_child_of parent child ≡ true
+named_child parent child inner e =
+    let same : parent_of child ≡ parent = sym (equal_names parent (parent_of child) e) in
+    and_both _ _ (ap not inner) (subst (λ (p : List ℕ). list_eq (parent_of child) p ≡ true) same (names_equal (parent_of child)))
+
+pub position_there : (layers : List Layer) (space : List ℕ) → is_some (position (is_of space) layers) ≡ true → is_some (layer_at layers space) ≡ true
+position_there layers space e = by (position (is_of space) layers) refl e
+  where
+    by : (o : Option ℕ) → o ≡ position (is_of space) layers → is_some o ≡ true → is_some (layer_at layers space) ≡ true
+    by None p k = absurd (false≢true k)
+    by (Some place) p k = ap is_some (stands_at layers space place p).found
+
+pub has_child_by : (layers : List Layer) (parent child : List ℕ) → is_child_of parent child ≡ true → is_some (position (is_of parent) layers) ≡ true → is_some (position (is_of child) layers) ≡ true → HasChild layers parent child
+has_child_by layers parent child c p q = record { below = c; parent_there = position_there layers parent p; child_there = position_there layers child q }

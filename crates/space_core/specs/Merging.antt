@@ -1,5 +1,5 @@
 -- A space that becomes a part of its parent.
-use Rattle.std.specs.Prelude.{ℕ, ◌≡◌, ◌+◌, ◌-◌, false, List, [], ◌++◌, map, drop, length}
+use Rattle.std.specs.Prelude.{ℕ, ◌≡◌, ◌+◌, ◌-◌, false, ◌++◌, map, drop}
 use Rattle.oz_semantics.specs.Configurations.{with_frames}
 use Rattle.oz_semantics.specs.Renamings as meant
 use Rattle.oz_semantics.specs.Renamings.{renamed_thread, renamed_layer}

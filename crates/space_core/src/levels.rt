@@ -35,7 +35,7 @@ use crate::remaking::{remake, tell_through};
 use crate::renaming::add_all_renamed;
 use crate::spaces::space_tell;
 use crate::stacks::Landing;
-use crate::tree::{self, add_level, child_count, child_of, drop_below, store_above};
+use crate::tree::{self, add_level, child_count, child_of, drop_below, is_child, store_above};
 use crate::{edits, silence};
 use oz_base::{Copies, Ident, SpaceName, copies_of};
 use oz_language::Identifier;
@@ -198,6 +198,19 @@ impl Levels {
         ensures { result ≡ has_below self.now space.now }
     {
         has_below(self.levels.as_slice(), space)
+    }
+
+    /// Whether a space is there, and a child of it.
+    pub fn has_child(&self, parent: &SpaceName, child: &SpaceName) -> bool
+        ensures { result ≡ true → HasChild self.now parent.now child.now }
+    {
+        if !is_child(parent, child) {
+            return false;
+        }
+        match self.place(parent) {
+            None => false,
+            Some(_) => self.place(child).is_some(),
+        }
     }
 
     /// Takes the statement off the top of a thread's stack.

@@ -1,4 +1,4 @@
-use Rattle.std.proofs.Common.{◌≡◌, ◌++◌, ◌∷◌, [], List, sym, ap, ◌∙◌}
+use Rattle.std.proofs.Common.{◌++◌, ◌∷◌, [], List, sym, ap, ◌∙◌}
 use Rattle.oz_base.specs.declared.names.Ident.{Ident}
 use Rattle.cells_ports.specs.Objects.{Contents}
 use Rattle.space_core.proofs.MergeLists.{appended_next}

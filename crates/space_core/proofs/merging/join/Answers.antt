@@ -1,4 +1,4 @@
-use Rattle.std.proofs.Common.{◌≡◌, ◌++◌, List, sym, subst, ap, ap₂, ◌∙◌}
+use Rattle.std.proofs.Common.{◌++◌, List, ap, ap₂, ◌∙◌}
 use Rattle.oz_semantics.specs.declared.configuration.Trigger.{Trigger}
 use Rattle.cells_ports.specs.Objects.{Contents}
 use Rattle.renamed_terms.specs.Meanings.{renaming_of}

@@ -1,4 +1,4 @@
-use Rattle.space_core.proofs.RenamedLaws.{placed_more, placed_all}
+use Rattle.space_core.proofs.RenamedLaws.{placed_more}
 use Rattle.space_core.proofs.renaming.add_all_renamed.Goals as goal
 
 pub loop-level-preserved : goal.loop-level-preserved

@@ -1,5 +1,5 @@
 use Rattle.std.proofs.Common.{◌∙◌, sym}
-use Rattle.space_core.proofs.RenamedLaws.{placed_renamed, placed_none}
+use Rattle.space_core.proofs.RenamedLaws.{placed_renamed}
 use Rattle.space_core.proofs.renaming.add_renamed.Goals as goal
 
 pub returns : goal.returns

@@ -1,4 +1,4 @@
-use Rattle.std.proofs.Common.{◌≡◌, List, [], map, take, ap}
+use Rattle.std.proofs.Common.{◌≡◌, map, take}
 use Rattle.renamed_terms.specs.Meanings.{renaming_of}
 use Rattle.space_core.proofs.renaming.renamed_objects.Given as goal
 

@@ -1,4 +1,4 @@
-use Rattle.std.proofs.Common.{◌≡◌, ◌++◌, ◌∷◌, [], List, sym, ap, ◌∙◌}
+use Rattle.std.proofs.Common.{◌++◌, ◌∷◌, [], List, ap, ◌∙◌}
 use Rattle.oz_semantics.specs.Renamings.{renamed_thread}
 use Rattle.oz_semantics.specs.declared.configuration.Thread.{Thread}
 use Rattle.renamed_terms.specs.Meanings.{renaming_of}

@@ -1,7 +1,3 @@
-use Rattle.std.proofs.Common.{◌≡◌, [], Bool, false, true, List, subst, sym, ap, ◌∙◌}
-use Rattle.oz_semantics.specs.declared.configuration.Layer.{Layer}
-use Rattle.oz_semantics.specs.declared.value.Tell.{Tell}
-use Rattle.space_core.specs.Advances.{IsAdvanced}
 use Rattle.space_core.proofs.SpaceEditLaws.{advanced_by, create_clash, create_there, create_done}
 use Rattle.space_core.proofs.levels.Levels.create_told.Goals as goal
 

@@ -1,4 +1,3 @@
-use Rattle.std.proofs.Common.{◌∙◌, sym, ap}
 use Rattle.space_core.proofs.SpaceEditLaws.{inject_done}
 use Rattle.space_core.proofs.levels.Levels.inject.Goals as goal
 
