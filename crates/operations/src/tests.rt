@@ -3,7 +3,7 @@ use builtins::{Act, Answer, Edit, Readiness};
 use oz_base::{Ident, Sequence, Shared, SpaceName};
 use oz_language::{Constant, Literal};
 use oz_raise::Node;
-use oz_semantics::{RaiseKind, Record, SpaceOperation, State, Tell, Value};
+use oz_semantics::{Builtin, RaiseKind, Record, SpaceOperation, State, Tell, Value};
 use std::alloc::{AllocError, Global};
 use std::test::Fail;
 use term_store::Store;
@@ -225,35 +225,24 @@ fn waits_until_the_space_is_decided(rt: HostRuntime) -> Result<(), Fail> {
     Ok(())
 }
 
-#[test]
-fn puts_nothing_into_a_space_that_ended(rt: HostRuntime) -> Result<(), Fail> {
-    let alloc = rt.alloc();
+/// What the injection of a procedure into the child comes to.
+fn injected(alloc: Global, state: &State) -> Result<Outcome, AllocError> {
     let procedure = Tell::Is {
         variable: variable(2),
-        value: Value::Builtin(oz_semantics::Builtin::NewName),
+        value: Value::Builtin(Builtin::NewName),
     };
     let store = told(alloc, procedure)?;
     let space = child(alloc)?;
     let inject = SpaceOperation::Inject;
-    let failed = operated(
-        alloc,
-        &store,
-        &store,
-        inject,
-        &space,
-        &variable(2),
-        &State::Failed,
-    )?;
+    operated(alloc, &store, &store, inject, &space, &variable(2), state)
+}
+
+#[test]
+fn puts_nothing_into_a_space_that_ended(rt: HostRuntime) -> Result<(), Fail> {
+    let alloc = rt.alloc();
+    let failed = injected(alloc, &State::Failed)?;
     assert!(rt; matches!(&failed, Outcome::Answers(Answer::Acts(Act::Passes))));
-    let open = operated(
-        alloc,
-        &store,
-        &store,
-        inject,
-        &space,
-        &variable(2),
-        &State::Stuck,
-    )?;
+    let open = injected(alloc, &State::Stuck)?;
     assert!(rt; matches!(&open, Outcome::Answers(Answer::Edits(Edit::Injects { .. }))));
     Ok(())
 }
