@@ -12,8 +12,8 @@ use Rattle.oz_semantics.specs.Names.{named}
 use Rattle.oz_semantics.specs.Configurations.{is_of, layer_at, layer_of, thread_at, frames_in, is_open, in_layer, with_frames, without_terminated, new_layer}
 use Rattle.oz_semantics.specs.Sights.{Sight, can_step}
 use Rattle.oz_semantics.specs.Statements.{stack_answer}
-use Rattle.oz_semantics.specs.Readiness.{answer_ready, thread_ready}
-use Rattle.oz_semantics.specs.Spaces.{sight}
+use Rattle.oz_semantics.specs.Readiness.{answer_ready}
+use Rattle.oz_semantics.specs.Spaces.{sight, thread_ready}
 use Rattle.oz_semantics.specs.Changes.{Change, Pushes, Spawns, Holds, AddsTrigger, changed_all}
 use Rattle.oz_semantics.specs.Answers.{Act, Passes, GoesOn, Declares, Starts, GivesValue, GivesTerm, GivesVariable, MakesProcedure, MakesName, MakesCell, Reads, Writes, Exchanges, MakesPort, Sends, Delays, Shows}
 use Rattle.oz_semantics.specs.Effects.{Makes, declared_changes, act_effect}
