@@ -18,7 +18,7 @@ returns-clause-ok c =
     let t = term_of nodes in
     let ts = c.deref.result.now in
     let same = given_tells old space c.next_of-next.result x t t ts c.next_of-next.ensures refl (c.deref.ensures.value ∙ c.in_ok-tells.ensures) in
-    let long : c.len.result ≡ length t = c.len.ensures ∙ sym (length-map nodes node_of) in
+    let long : length nodes ≡ length t = sym (length-map nodes node_of) in
     let count : c.saturating_sub-count.result ≡ nodes_inside t = c.saturating_sub-count.ensures ∙ ap (λ n. n - 1) long ∙ sym (nodes_inside-length t) in
     tells_done c.args.id.now ts (term_tells l.space l.next.variable x t) (GivesOut c.saturating_sub-count.result ∷ []) (GivesOut (nodes_inside t) ∷ []) old c.tell_by.new.self c.tell_by.result same
     (ap (λ (n : ℕ). GivesOut n ∷ []) count) c.tell_by.ensures.told

@@ -26,5 +26,5 @@ returns-clause-turn c = λ statements layers changes head is names.
     let left = c.leave_alone.ensures in
     let none = none_there statements new (c.is_plain.ensures.triggers c.if-not-is_plain.false) in
     let spaceless = c.is_plain.ensures.spaces c.if-not-is_plain.false in
-    quiet_turn statements id layers old.levels new (drop 1 old.queue) (asked statements new (Mover id c.args.started) (drop 1 old.queue)) old.shown changes c.args.started c.args.cost head is names c.drop_terminated.ensures none refl
+    quiet_turn statements id layers old.levels new (drop 1 old.queue) (asked statements new (Mover id c.args.started) (drop 1 old.queue)) old.shown changes c.args.started c.args.cost head is names c.drop_terminated.ensures none spaceless refl
     ∙ ap (λ d. (Moved c.args.cost, d)) (sym (course_view statements c.leave_alone.new.course new (Mover id c.args.started) (drop 1 old.queue) old.shown left.levels (left.due id c.requires) left.queue left.shown))

@@ -28,6 +28,6 @@ returns-clause-turn c = λ statements layers frames head is.
     let left = c.leave_alone.ensures in
     let none = none_there statements new (c.is_plain.ensures.triggers c.if-not-is_plain.false) in
     let spaceless = c.is_plain.ensures.spaces c.if-not-is_plain.false in
-    unwound_turn statements id layers old.levels new (drop 1 old.queue) (asked statements new (Mover id None) (drop 1 old.queue)) old.shown frames 1 head is c.drop_terminated.ensures none
+    unwound_turn statements id layers old.levels new (drop 1 old.queue) (asked statements new (Mover id None) (drop 1 old.queue)) old.shown frames 1 head is c.drop_terminated.ensures none spaceless
     (append-nil (drop 1 old.queue ++ able_in statements new id))
     ∙ ap (λ d. (Moved 1, d)) (sym (course_view statements c.leave_alone.new.course new (Mover id None) (drop 1 old.queue) old.shown left.levels (left.due id c.requires) left.queue left.shown))

@@ -36,6 +36,6 @@ returns-clause-turn c = λ statements layers ts changes head alone fits is.
     let left = c.leave_alone.ensures in
     let none = none_there statements new (c.is_plain.ensures.triggers c.if-not-is_plain.false) in
     let spaceless = c.is_plain.ensures.spaces c.if-not-is_plain.false in
-    told_turn statements id layers old.levels new (drop 1 old.queue) (asked statements new (Mover id None) (drop 1 old.queue)) old.shown ts changes c.args.cost head alone fits is c.drop_terminated.ensures none
+    told_turn statements id layers old.levels new (drop 1 old.queue) (asked statements new (Mover id None) (drop 1 old.queue)) old.shown ts changes c.args.cost head alone fits is c.drop_terminated.ensures none spaceless
     (c.is_single.ensures c.if-not-is_single.false) (append-nil (drop 1 old.queue ++ able_in statements new id))
     ∙ ap (λ d. (Moved c.args.cost, d)) (sym (course_view statements c.leave_alone.new.course new (Mover id None) (drop 1 old.queue) old.shown left.levels (left.due id c.requires) left.queue left.shown))
