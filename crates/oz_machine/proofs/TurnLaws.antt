@@ -13,6 +13,8 @@ use Rattle.oz_semantics.specs.declared.configuration.Frame.{Frame}
 use Rattle.oz_semantics.specs.declared.configuration.Configuration.{Configuration}
 use Rattle.oz_semantics.specs.declared.outcome.Stepped.{Stepped}
 use Rattle.builtins.specs.Answers.{IsAnswer}
+use Rattle.operations.specs.Outcomes.{IsOutcome}
+use Rattle.operations.specs.declared.outcome.Outcome.{Outcome}
 use Rattle.builtins.specs.declared.answer.Answer.{Answer}
 use Rattle.builtins.specs.declared.answer.Answer.TheVariants.{Acts, Edits, RaisesKind, RaisesTerm, Operates, Rests}
 use Rattle.oz_base.specs.declared.names.Ident.{Ident}
@@ -46,6 +48,15 @@ top_answers s (other ∷ frames) frame e = let same : other ≡ frame = cc in su
 pub ok_answer : (r : Result Answer AllocError) (a b : answers.Answer) → a ≡ b → IfOk r (IsAnswer b) → IfOk r (IsAnswer a)
 ok_answer (Ok answer) a b e h = subst (λ (x : answers.Answer). IsAnswer x answer) (sym e) h
 ok_answer (Err fault) a b e h = h
+
+-- by states as good as those of all spaces
+pub ok_outcome : (r : Result Outcome AllocError) (statements : List Statement) (layers : List Layer) (one : States) (l : Layer) (space : List ℕ) (frames : List Frame) (top : Option Frame)
+    → IfOk r (λ o. (fs : List Frame) → first fs ≡ top → IsOutcome (answer_in statements layers one l.space fs) o) → l.space ≡ space → first frames ≡ top
+    → answer_in statements layers one space frames ≡ answer_in statements layers (states_of statements layers) space frames
+    → IfOk r (IsOutcome (answer_in statements layers (states_of statements layers) space frames))
+ok_outcome (Ok o) statements layers one l space frames top h name is same =
+    subst (λ (a : answers.Answer). IsOutcome a o) (ap (λ (s : List ℕ). answer_in statements layers one s frames) name ∙ same) (h frames is)
+ok_outcome (Err fault) statements layers one l space frames top h name is same = h
 
 -- The head of the queue, where nobody is due
 
