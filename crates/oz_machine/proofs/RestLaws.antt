@@ -203,6 +203,7 @@ numbered_stays s environment None = refl
 code_stays : (s : Sight) (environment : Environment) (c : Code) → Stays (code_answer s environment c)
 code_stays s environment (code.Statement n) = numbered_stays s environment (slice_get s.statements n)
 code_stays s environment (code.Call procedure argument) = called_stays s procedure (argument ∷ [])
+code_stays s environment (code.Bind x n) = tt
 code_stays s environment (code.Mark exception handler) = tt
 
 stack_stays : (s : Sight) (frames : List Frame) → Stays (stack_answer s frames)
