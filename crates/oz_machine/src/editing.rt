@@ -79,12 +79,7 @@ fn inject(
 
 /// The statement on top of a thread's stack is taken off, and the edit is made. False exactly where what its space is told with it is
 /// inconsistent with what it sees: then nothing changes. It refuses for want of memory, and a commitment and a merge always.
-pub fn edit(
-    alloc: Global,
-    levels: &mut Levels,
-    id: &Ident,
-    what: &Edit,
-) -> Result<bool, AllocError>
+pub fn edit(alloc: Global, levels: &mut Levels, id: &Ident, what: &Edit) -> Result<bool, AllocError>
     requires { is_some (layer_at levels.old id.now.space) ≡ true }
     ensures ok { IfOk result (IsEdited id.now (edit_of what.now) levels.old levels.new) }
     ensures err { OnErr result (levels.new ≡ levels.old) }
