@@ -1,12 +1,12 @@
-use Rattle.std.proofs.Common.{◌≡◌, ℕ, [], ◌∷◌, ◌-◌, length, sym, ap, ◌∙◌, arith}
+use Rattle.std.proofs.Common.{◌≡◌, ℕ, [], ◌∷◌, ◌-◌, length, refl, sym, ap, ◌∙◌}
 use Rattle.std.proofs.lemmas.List.{length-map}
-use Rattle.oz_semantics.specs.Terms.{list_term, term_tells, nodes_inside}
+use Rattle.oz_semantics.specs.Terms.{term_tells, nodes_inside}
 use Rattle.oz_semantics.specs.Configurations.{layer_of}
 use Rattle.oz_semantics.specs.Changes.{GivesOut}
 use Rattle.oz_raise.specs.Nodes.{node_of, term_of}
 use Rattle.oz_acts.proofs.DoneLaws.{tells_done}
 use Rattle.oz_acts.proofs.ActLaws.{given_tells, nodes_inside-length}
-use Rattle.oz_acts.proofs.acts.give_list.Goals as goal
+use Rattle.oz_acts.proofs.acts.give_term.Goals as goal
 
 pub returns-clause-ok : goal.returns-clause-ok
 returns-clause-ok c =
@@ -14,13 +14,11 @@ returns-clause-ok c =
     let old = c.args.levels.now in
     let l = layer_of old space in
     let x = c.args.variable.now in
-    let t = list_term c.args.items.now in
-    let ts = c.deref-2.result.now in
-    let same = given_tells old space c.next_of-next.result x (term_of c.deref.result.now) t ts c.next_of-next.ensures
-    (ap term_of c.deref.ensures.value ∙ c.in_ok-nodes.ensures) (c.deref-2.ensures.value ∙ c.in_ok-tells.ensures) in
-    let nodes = c.in_ok-nodes.nodes in
-    let width : length nodes.items ≡ length t = sym (length-map nodes.items node_of) ∙ ap length c.in_ok-nodes.ensures in
-    let long : c.len.result ≡ length t = omega (arith, nodes.ok.0, c.len.ensures, width) in
+    let nodes = c.args.nodes.now in
+    let t = term_of nodes in
+    let ts = c.deref.result.now in
+    let same = given_tells old space c.next_of-next.result x t t ts c.next_of-next.ensures refl (c.deref.ensures.value ∙ c.in_ok-tells.ensures) in
+    let long : length nodes ≡ length t = sym (length-map nodes node_of) in
     let count : c.saturating_sub-count.result ≡ nodes_inside t = c.saturating_sub-count.ensures ∙ ap (λ n. n - 1) long ∙ sym (nodes_inside-length t) in
     tells_done c.args.id.now ts (term_tells l.space l.next.variable x t) (GivesOut c.saturating_sub-count.result ∷ []) (GivesOut (nodes_inside t) ∷ []) old c.tell_by.new.self c.tell_by.result same
     (ap (λ (n : ℕ). GivesOut n ∷ []) count) c.tell_by.ensures.told
