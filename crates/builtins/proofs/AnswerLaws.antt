@@ -21,21 +21,12 @@ use Rattle.builtins.specs.declared.answer.Answer.TheVariants as said
 -- what says the same but for a rest is the answer
 pub is_answer : (a : answers.Answer) (r : Answer) → answer_of r ≡ erased a → IsAnswer a r
 is_answer (answers.Acts b) (said.Acts c) e = sym e
+is_answer (answers.Edits b) (said.Edits c) e = sym e
 is_answer (answers.RaisesKind k) (said.RaisesKind l) e = sym e
 is_answer (answers.RaisesTerm x) (said.RaisesTerm y) e = sym e
+is_answer (answers.Operates op space x) (said.Operates other child y) e = sym e
 is_answer (answers.Rests ready) said.Rests e = (ready, refl)
-is_answer (answers.Rests ready) (said.Acts c) e = cc
-is_answer (answers.Rests ready) (said.RaisesKind l) e = cc
-is_answer (answers.Rests ready) (said.RaisesTerm y) e = cc
-is_answer (answers.Acts b) (said.RaisesKind l) e = cc
-is_answer (answers.Acts b) (said.RaisesTerm y) e = cc
-is_answer (answers.Acts b) said.Rests e = cc
-is_answer (answers.RaisesKind k) (said.Acts c) e = cc
-is_answer (answers.RaisesKind k) (said.RaisesTerm y) e = cc
-is_answer (answers.RaisesKind k) said.Rests e = cc
-is_answer (answers.RaisesTerm x) (said.Acts c) e = cc
-is_answer (answers.RaisesTerm x) (said.RaisesKind l) e = cc
-is_answer (answers.RaisesTerm x) said.Rests e = cc
+is_answer a r e = cc
 
 one_below : 1 < 2
 one_below = lit< tt
@@ -83,6 +74,9 @@ answer_of_given s builtin.NewPort x y z f g = of_two s builtin.NewPort x y z f g
 answer_of_given s builtin.Send x y z f g = of_two s builtin.Send x y z f g one_below
 answer_of_given s builtin.ByNeed x y z f g = of_two s builtin.ByNeed x y z f g one_below
 answer_of_given s builtin.Show x y z f g = of_one s builtin.Show x y z f g
+answer_of_given s builtin.NewSpace x y z f g = of_two s builtin.NewSpace x y z f g one_below
+answer_of_given s builtin.Choose x y z f g = of_two s builtin.Choose x y z f g one_below
+answer_of_given s (builtin.OnSpace op) x y z f g = of_two s (builtin.OnSpace op) x y z f g one_below
 
 -- what the first arguments answer
 pub given_so : {E : Type 0} (space : List ℕ) (view : View) (b : Builtin) (x y z : Ident) (r : Result Answer E)
@@ -114,6 +108,9 @@ takes_one builtin.NewPort = lit< tt
 takes_one builtin.Send = lit< tt
 takes_one builtin.ByNeed = lit< tt
 takes_one builtin.Show = lit< tt
+takes_one builtin.NewSpace = lit< tt
+takes_one builtin.Choose = lit< tt
+takes_one (builtin.OnSpace op) = lit< tt
 
 -- a call with as many arguments as the built-in takes
 pub call_is : (s : Sight) (b : Builtin) (xs : List Ident) → length xs ≡ arguments_of b → call_answer s b xs ≡ answer s b (argument xs)

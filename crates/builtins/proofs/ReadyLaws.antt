@@ -1,6 +1,8 @@
 -- What calls of built-ins wait for is their inputs alone.
-use Rattle.std.proofs.Common.{◌≡◌, ◌<◌, ◌∷◌, [], ℕ, ℤ, refl, sym, ap, ◌∙◌, Bool, true, false, Option, Some, None, Result, Ok, Err, IfOk, List, length, subst, lit<, get_or, arith, if◌then◌else◌}
+use Rattle.std.proofs.Common.{◌≡◌, ◌<◌, ◌∷◌, [], ℕ, ℤ, refl, sym, ap, ◌∙◌, Bool, true, false, Option, Some, None, Result, Ok, Err, IfOk, List, length, subst, lit<, get_or, arith, if◌then◌else◌, pos, negsuc, ◌&&◌}
+use Rattle.std.specs.Prelude.{nat_le}
 use Rattle.std.specs.List.{list_any}
+use Rattle.std.specs.Option.{option_and_then}
 use Rattle.oz_base.specs.Lists.{list_eq}
 use Rattle.oz_base.specs.Numbers.{sum, difference, product, quotient, remainder}
 use Rattle.oz_base.specs.declared.names.Ident.{Ident}
@@ -9,20 +11,22 @@ use Rattle.oz_base.specs.declared.numbers.NumFault.TheVariants as faults
 use Rattle.oz_language.specs.declared.kernel.Operation.{Operation}
 use Rattle.oz_language.specs.declared.kernel.Operation.TheVariants as operation
 use Rattle.oz_language.specs.declared.kernel.Statement.{Statement}
-use Rattle.oz_semantics.specs.Names.{is_top}
-use Rattle.oz_semantics.specs.Values.{fields_of, constant_in, integer_in, cell_in, port_in, is_procedure}
+use Rattle.oz_semantics.specs.Names.{is_top, is_child_of}
+use Rattle.oz_semantics.specs.Values.{fields_of, constant_in, integer_in, cell_in, port_in, space_in, is_procedure}
 use Rattle.oz_semantics.specs.Store.{View, value_of, same}
-use Rattle.oz_semantics.specs.Sights.{Sight, Readiness, Steps, Waits}
-use Rattle.oz_semantics.specs.Answers.{Act, Answer, Acts, RaisesKind, Reads, Writes, Exchanges, Sends, Delays, Shows, gives_constant, given, argument, with_value, of_kind}
-use Rattle.oz_semantics.specs.Builtins.{arguments_of, gives_number, gives_field, field_at, selects, label_in, arity_in, own_act, on_cell, delays, of_operation, answer}
+use Rattle.oz_semantics.specs.Sights.{Sight, Number, Readiness, Steps, Waits, WaitsForState, Offers}
+use Rattle.oz_semantics.specs.Answers.{Act, Creates, Answer, Acts, Edits, RaisesKind, Operates, Rests, Reads, Writes, Exchanges, Sends, Delays, Shows, gives_constant, given, argument, with_value, of_kind}
+use Rattle.oz_semantics.specs.Builtins.{arguments_of, gives_number, gives_field, field_at, selects, label_in, arity_in, own_act, on_cell, delays, creates, choice_limit, offered, operates, of_operation, answer}
 use Rattle.oz_semantics.specs.Readiness.{answer_ready}
 use Rattle.oz_semantics.specs.declared.value.Value.{Value}
+use Rattle.oz_semantics.specs.declared.value.SpaceOperation.{SpaceOperation}
 use Rattle.oz_semantics.specs.declared.value.Builtin.{Builtin}
 use Rattle.oz_semantics.specs.declared.value.Builtin.TheVariants as builtin
 use Rattle.oz_semantics.specs.declared.outcome.RaiseKind.{RaiseKind}
 use Rattle.oz_semantics.specs.declared.outcome.RaiseKind.TheVariants as raise
 use Rattle.builtins.specs.Answers.{IsReady}
-use Rattle.builtins.specs.Looks.{Inputs, ready_by, awaiting}
+use Rattle.builtins.specs.Choices.{size_in}
+use Rattle.builtins.specs.Looks.{Inputs, ready_by, awaiting, offering, choosing, operating, operating_on}
 use Rattle.builtins.specs.declared.answer.Readiness as said
 use Rattle.tree_equal.specs.Answers.{SameClasses}
 use Rattle.builtins.proofs.AnswerLaws.{takes_one, first_argument}
@@ -133,6 +137,52 @@ delay_steps procedure x v = by (is_procedure v)
 pub by_need_waits : (s : Sight) (f : ℕ → Ident) → answer_ready (answer s builtin.ByNeed f) ≡ awaiting (f 0) (value_of s.view (f 0)) Steps
 by_need_waits s f = one_waits (f 0) (value_of s.view (f 0)) (delays (f 0) (f 1)) (delay_steps (f 0) (f 1))
 
+new_steps : (procedure x : Ident) (v : Value) → answer_ready (creates procedure x v) ≡ Steps
+new_steps procedure x v = by (is_procedure v)
+  where
+    by : (b : Bool) → answer_ready (if b then Edits (Creates procedure x) else RaisesKind raise.BadKind) ≡ Steps
+    by true = refl
+    by false = refl
+
+pub new_space_waits : (s : Sight) (f : ℕ → Ident) → answer_ready (answer s builtin.NewSpace f) ≡ awaiting (f 0) (value_of s.view (f 0)) Steps
+new_space_waits s f = one_waits (f 0) (value_of s.view (f 0)) (creates (f 0) (f 1)) (new_steps (f 0) (f 1))
+
+-- a `Choose` offers, once its number is known
+integer_offers : (x : Ident) (i : ℤ) → answer_ready (offered x i) ≡ offering x (size_in i)
+integer_offers x (pos n) = by (nat_le 1 n && nat_le n choice_limit)
+  where
+    by : (b : Bool) → answer_ready (if b then Rests (Offers (Number n x) []) else RaisesKind raise.Domain) ≡ offering x (if b then Some n else None)
+    by true = refl
+    by false = refl
+integer_offers x (negsuc n) = refl
+
+kind_offers : (x : Ident) (o : Option ℤ) → answer_ready (of_kind o (offered x)) ≡ offering x (option_and_then size_in o)
+kind_offers x None = refl
+kind_offers x (Some i) = integer_offers x i
+
+given_offers : (x y : Ident) (o : Option Value) → answer_ready (given y o (λ v. of_kind (integer_in v) (offered x))) ≡ choosing x y o
+given_offers x y None = refl
+given_offers x y (Some v) = kind_offers x (integer_in v)
+
+choose_offers : (s : Sight) (f : ℕ → Ident) → answer_ready (answer s builtin.Choose f) ≡ choosing (f 1) (f 0) (value_of s.view (f 0))
+choose_offers s f = given_offers (f 1) (f 0) (value_of s.view (f 0))
+
+-- an operation on a child goes by the state of that
+name_operates : (s : Sight) (op : SpaceOperation) (x : Ident) (o : Option (List ℕ)) → answer_ready (of_kind o (operates s op x)) ≡ operating s.space o
+name_operates s op x None = refl
+name_operates s op x (Some other) = by (is_child_of s.space other)
+  where
+    by : (b : Bool) → answer_ready (if b then Operates op other x else RaisesKind raise.SpaceParent) ≡ (if b then WaitsForState other else Steps)
+    by true = refl
+    by false = refl
+
+given_operates : (s : Sight) (op : SpaceOperation) (x y : Ident) (o : Option Value) → answer_ready (given y o (λ v. of_kind (space_in v) (operates s op x))) ≡ operating_on s.space y o
+given_operates s op x y None = refl
+given_operates s op x y (Some v) = name_operates s op x (space_in v)
+
+space_operates : (s : Sight) (op : SpaceOperation) (f : ℕ → Ident) → answer_ready (answer s (builtin.OnSpace op) f) ≡ operating_on s.space (f 0) (value_of s.view (f 0))
+space_operates s op f = given_operates s op (f 1) (f 0) (value_of s.view (f 0))
+
 pub show_steps : (s : Sight) (f : ℕ → Ident) → answer_ready (answer s builtin.Show f) ≡ Steps
 show_steps s f = by (is_top s.space)
   where
@@ -150,13 +200,30 @@ ready_so view p q (Ok s) e h = subst (λ w. IsReady view w s) e (h view)
 ready_so view p q (Err f) e h = tt
 
 -- by the inputs that are given
-pub ready_one_input : {E : Type 0} (view : View) (b c : Builtin) (x y : Ident) (r : Result said.Readiness E) → b ≡ c → ((s : Sight) (f : ℕ → Ident) → answer_ready (answer s c f) ≡ awaiting (f 0) (value_of s.view (f 0)) Steps)
+pub ready_one_input : {E : Type 0} (space : List ℕ) (view : View) (b c : Builtin) (x y : Ident) (r : Result said.Readiness E) → b ≡ c
+    → ((s : Sight) (f : ℕ → Ident) → answer_ready (answer s c f) ≡ awaiting (f 0) (value_of s.view (f 0)) Steps)
     → IfOk r (IsReady view (awaiting x (value_of view x) Steps))
-    → IfOk r (λ r. (statements : List Statement) (space : List ℕ) (given : ℕ → Ident) → Inputs b x y given → IsReady view (answer_ready (answer (record { statements = statements; space = space; view = view }) b given)) r)
-ready_one_input view b c x y (Ok r) e law h = λ statements space f i.
+    → IfOk r (λ r. (statements : List Statement) (given : ℕ → Ident) → Inputs b x y given → IsReady view (answer_ready (answer (record { statements = statements; space = space; view = view }) b given)) r)
+ready_one_input space view b c x y (Ok r) e law h = λ statements f i.
     let s : Sight = record { statements = statements; space = space; view = view } in
     subst (λ w. IsReady view w r) (sym (ap (λ d. answer_ready (answer s d f)) e ∙ law s f ∙ ap (λ a. awaiting a (value_of view a) Steps) i.first)) h
-ready_one_input view b c x y (Err f) e law h = tt
+ready_one_input space view b c x y (Err f) e law h = tt
+
+pub ready_choose_input : {E : Type 0} (space : List ℕ) (view : View) (b : Builtin) (x y : Ident) (r : Result said.Readiness E) → b ≡ builtin.Choose
+    → IfOk r (λ r. (z : Ident) → IsReady view (choosing z x (value_of view x)) r)
+    → IfOk r (λ r. (statements : List Statement) (given : ℕ → Ident) → Inputs b x y given → IsReady view (answer_ready (answer (record { statements = statements; space = space; view = view }) b given)) r)
+ready_choose_input space view b x y (Ok r) e h = λ statements f i.
+    let s : Sight = record { statements = statements; space = space; view = view } in
+    subst (λ w. IsReady view w r) (sym (ap (λ d. answer_ready (answer s d f)) e ∙ choose_offers s f ∙ ap (λ a. choosing (f 1) a (value_of view a)) i.first)) (h (f 1))
+ready_choose_input space view b x y (Err f) e h = tt
+
+pub ready_space_input : {E : Type 0} (space : List ℕ) (view : View) (b : Builtin) (op : SpaceOperation) (x y : Ident) (r : Result said.Readiness E) → b ≡ builtin.OnSpace op
+    → IfOk r (IsReady view (operating_on space x (value_of view x)))
+    → IfOk r (λ r. (statements : List Statement) (given : ℕ → Ident) → Inputs b x y given → IsReady view (answer_ready (answer (record { statements = statements; space = space; view = view }) b given)) r)
+ready_space_input space view b op x y (Ok r) e h = λ statements f i.
+    let s : Sight = record { statements = statements; space = space; view = view } in
+    subst (λ w. IsReady view w r) (sym (ap (λ d. answer_ready (answer s d f)) e ∙ space_operates s op f ∙ ap (λ a. operating_on space a (value_of view a)) i.first)) h
+ready_space_input space view b op x y (Err f) e h = tt
 
 both : (view : View) (op : Operation) (x y z a b : Ident) → a ≡ x → b ≡ y → of_operation view op a b z ≡ of_operation view op x y z
 both view op x y z a b h k = ap (λ c. of_operation view op c b z) h ∙ ap (λ c. of_operation view op x c z) k
@@ -169,14 +236,14 @@ by_inputs view operation.Bound x y f i = refl
 by_inputs view operation.BoundEach x y f i = refl
 by_inputs view op x y f i = both view op x y (f 2) (f 0) (f 1) i.first (i.second two_below)
 
-pub ready_two_inputs : {E : Type 0} (view : View) (b : Builtin) (op : Operation) (x y : Ident) (r : Result said.Readiness E) → b ≡ builtin.Operation op
+pub ready_two_inputs : {E : Type 0} (space : List ℕ) (view : View) (b : Builtin) (op : Operation) (x y : Ident) (r : Result said.Readiness E) → b ≡ builtin.Operation op
     → IfOk r (λ r. (z : Ident) → IsReady view (answer_ready (of_operation view op x y z)) r)
-    → IfOk r (λ r. (statements : List Statement) (space : List ℕ) (given : ℕ → Ident) → Inputs b x y given → IsReady view (answer_ready (answer (record { statements = statements; space = space; view = view }) b given)) r)
-ready_two_inputs view b op x y (Ok r) e h = λ statements space f i.
+    → IfOk r (λ r. (statements : List Statement) (given : ℕ → Ident) → Inputs b x y given → IsReady view (answer_ready (answer (record { statements = statements; space = space; view = view }) b given)) r)
+ready_two_inputs space view b op x y (Ok r) e h = λ statements f i.
     let s : Sight = record { statements = statements; space = space; view = view } in
     let i' : Inputs (builtin.Operation op) x y f = subst (λ d. Inputs d x y f) e i in
     subst (λ w. IsReady view w r) (sym (ap (λ d. answer_ready (answer s d f)) e ∙ ap answer_ready (by_inputs view op x y f i'))) (h (f 2))
-ready_two_inputs view b op x y (Err f) e h = tt
+ready_two_inputs space view b op x y (Err f) e h = tt
 
 pub inputs_in : (b : Builtin) (xs : List Ident) (x y : Ident) → length xs ≡ arguments_of b → x ≡ get_or xs 0 x → (1 < length xs → y ≡ argument xs 1) → Inputs b x y (argument xs)
 inputs_in b xs x y e f g = record {

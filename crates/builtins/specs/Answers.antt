@@ -9,6 +9,8 @@ use Rattle.oz_semantics.specs.Answers as answers
 use Rattle.tree_equal.specs.Answers.{SameClasses}
 use Rattle.builtins.specs.declared.answer.Act.{Act}
 use Rattle.builtins.specs.declared.answer.Act.TheVariants as act
+use Rattle.builtins.specs.declared.answer.Edit.{Edit}
+use Rattle.builtins.specs.declared.answer.Edit.TheVariants as edit
 use Rattle.builtins.specs.declared.answer.Answer.{Answer}
 use Rattle.builtins.specs.declared.answer.Answer.TheVariants as answer
 use Rattle.builtins.specs.declared.answer.Readiness.{Readiness}
@@ -33,6 +35,13 @@ act_of (act.Sends n item) = answers.Sends n item
 act_of (act.Delays procedure x) = answers.Delays procedure x
 act_of (act.Shows x) = answers.Shows x
 
+abbrev pub edit_of : Edit → answers.Edit
+edit_of (edit.Creates procedure x) = answers.Creates procedure x
+edit_of (edit.Commits space i) = answers.Commits space i
+edit_of (edit.Copies space x) = answers.Copies space x
+edit_of (edit.Injects space procedure) = answers.Injects space procedure
+edit_of (edit.TakesIn space x) = answers.TakesIn space x
+
 -- a step does just this
 abbrev pub IsAct : answers.Act → Act → Type 0
 IsAct a b = a ≡ act_of b
@@ -40,12 +49,15 @@ IsAct a b = a ≡ act_of b
 -- an answer is this, but that it may rest for anything
 abbrev pub IsAnswer : answers.Answer → Answer → Type 0
 IsAnswer a (answer.Acts b) = a ≡ answers.Acts (act_of b)
+IsAnswer a (answer.Edits b) = a ≡ answers.Edits (edit_of b)
 IsAnswer a (answer.RaisesKind kind) = a ≡ answers.RaisesKind kind
 IsAnswer a (answer.RaisesTerm x) = a ≡ answers.RaisesTerm x
+IsAnswer a (answer.Operates op space x) = a ≡ answers.Operates op space x
 IsAnswer a answer.Rests = (ready : sights.Readiness) × (a ≡ answers.Rests ready)
 
 -- a thread can do this; a class that is waited for may be named by any variable of it, and more than once
 abbrev pub IsReady : View → sights.Readiness → Readiness → Type 0
 IsReady view ready readiness.Steps = ready ≡ sights.Steps
 IsReady view ready (readiness.Waits xs) = (ys : List Ident) × (ready ≡ sights.Waits ys) × SameClasses view xs ys
+IsReady view ready (readiness.WaitsForState space) = ready ≡ sights.WaitsForState space
 IsReady view ready (readiness.Offers n) = (offer : Offer) × (ready ≡ sights.Offers offer []) × (n ≡ count_of offer)

@@ -1,5 +1,5 @@
 -- Answers as values: they say what definitions do, except what a call rests for.
-use Rattle.std.specs.Prelude.{ℕ, ℤ, pos, int_lt, int_le, if◌then◌else◌, List, [], length, Result, Ok, Err}
+use Rattle.std.specs.Prelude.{ℕ, ℤ, pos, int_lt, int_le, if◌then◌else◌, List, [], length, Option, Some, None, Result, Ok, Err}
 use Rattle.oz_base.specs.Lists.{list_eq}
 use Rattle.oz_base.specs.Numbers.{sum, difference, product, quotient, remainder}
 use Rattle.oz_base.specs.declared.names.Ident.{Ident}
@@ -7,18 +7,20 @@ use Rattle.oz_language.specs.declared.kernel.Constant.{Constant}
 use Rattle.oz_language.specs.declared.kernel.Constant.TheVariants as constant
 use Rattle.oz_language.specs.declared.kernel.Operation.{Operation}
 use Rattle.oz_language.specs.declared.kernel.Operation.TheVariants as operation
-use Rattle.oz_semantics.specs.Names.{is_top}
+use Rattle.oz_semantics.specs.Names.{is_top, is_child_of}
 use Rattle.oz_semantics.specs.Store.{View}
-use Rattle.oz_semantics.specs.Values.{integer_in, constant_in, cell_in, port_in}
+use Rattle.oz_semantics.specs.Values.{integer_in, constant_in, cell_in, port_in, space_in}
 use Rattle.oz_semantics.specs.Terms.{list_term}
 use Rattle.oz_semantics.specs.Sights.{Waits}
 use Rattle.oz_semantics.specs.Answers as answers
 use Rattle.oz_semantics.specs.Answers.{gives_constant, with_value, of_kind}
 use Rattle.oz_semantics.specs.Builtins.{truth, gives_number, gives_field, field_at, selects, label_in, arity_in}
+use Rattle.oz_semantics.specs.declared.value.SpaceOperation.{SpaceOperation}
 use Rattle.oz_semantics.specs.declared.value.Value.{Value}
 use Rattle.oz_semantics.specs.declared.outcome.RaiseKind.{RaiseKind}
 use Rattle.oz_semantics.specs.declared.outcome.RaiseKind.TheVariants as raise
-use Rattle.builtins.specs.Answers.{act_of}
+use Rattle.builtins.specs.Answers.{act_of, edit_of}
+use Rattle.builtins.specs.Choices.{size_in}
 use Rattle.builtins.specs.declared.answer.Answer.{Answer}
 use Rattle.builtins.specs.declared.answer.Answer.TheVariants as answer
 
@@ -28,15 +30,19 @@ resting = answers.Rests (Waits [])
 
 abbrev pub answer_of : Answer → answers.Answer
 answer_of (answer.Acts b) = answers.Acts (act_of b)
+answer_of (answer.Edits b) = answers.Edits (edit_of b)
 answer_of (answer.RaisesKind kind) = answers.RaisesKind kind
 answer_of (answer.RaisesTerm x) = answers.RaisesTerm x
+answer_of (answer.Operates op space x) = answers.Operates op space x
 answer_of answer.Rests = resting
 
 -- without what it rests for
 abbrev pub erased : answers.Answer → answers.Answer
 erased (answers.Acts a) = answers.Acts a
+erased (answers.Edits e) = answers.Edits e
 erased (answers.RaisesKind kind) = answers.RaisesKind kind
 erased (answers.RaisesTerm x) = answers.RaisesTerm x
+erased (answers.Operates op space x) = answers.Operates op space x
 erased (answers.Rests ready) = resting
 
 -- Operators by what they answer to values; one that is no operation on integers rests
@@ -100,3 +106,20 @@ on_port space act v = of_kind (port_in v) (own_act space raise.GlobalPort act)
 abbrev pub acting : (ℕ → answers.Act) → Result ℕ Answer → answers.Answer
 acting act (Ok n) = answers.Acts (act n)
 acting act (Err a) = answer_of a
+
+-- Computation spaces
+
+-- by how many alternatives are offered, if any are
+abbrev pub offered_of : Option ℕ → answers.Answer
+offered_of None = answers.RaisesKind raise.Domain
+offered_of (Some n) = resting
+
+abbrev pub chooses : Value → answers.Answer
+chooses v = of_kind (integer_in v) (λ i. offered_of (size_in i))
+
+-- an operation on a space with this name, with its other argument x: it has to be in this one
+abbrev pub operates_in : List ℕ → SpaceOperation → Ident → List ℕ → answers.Answer
+operates_in space op x child = if is_child_of space child then answers.Operates op child x else answers.RaisesKind raise.SpaceParent
+
+abbrev pub operates_on : List ℕ → SpaceOperation → Ident → Value → answers.Answer
+operates_on space op x v = of_kind (space_in v) (operates_in space op x)

@@ -1,4 +1,5 @@
 pub mod Answers
+pub mod Choices
 pub mod Exact
 pub mod Looks
 pub mod Tables

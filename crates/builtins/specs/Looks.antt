@@ -1,10 +1,13 @@
 -- What calls of built-ins wait for.
-use Rattle.std.specs.Prelude.{ℕ, ◌≡◌, ◌<◌, [], ◌∷◌, Option, Some, None}
+use Rattle.std.specs.Prelude.{ℕ, ◌≡◌, ◌<◌, if◌then◌else◌, List, [], ◌∷◌, Option, Some, None}
 use Rattle.oz_base.specs.declared.names.Ident.{Ident}
-use Rattle.oz_semantics.specs.Sights.{Readiness, Steps, Waits}
+use Rattle.oz_semantics.specs.Names.{is_child_of}
+use Rattle.oz_semantics.specs.Values.{space_in}
+use Rattle.oz_semantics.specs.Sights.{Number, Readiness, Steps, Waits, WaitsForState, Offers}
 use Rattle.oz_semantics.specs.Builtins.{arguments_of}
 use Rattle.oz_semantics.specs.declared.value.Builtin.{Builtin}
 use Rattle.oz_semantics.specs.declared.value.Value.{Value}
+use Rattle.builtins.specs.Choices.{choice_in}
 
 -- the arguments of a call begin with these, as far as the built-in takes so many
 pub record Given (b : Builtin) (x y z : Ident) (given : ℕ → Ident) : Type 0 where
@@ -26,3 +29,23 @@ ready_by (Some x) = Waits (x ∷ [])
 abbrev pub awaiting : Ident → Option Value → Readiness → Readiness
 awaiting x None ready = Waits (x ∷ [])
 awaiting x (Some v) ready = ready
+
+-- it offers so many alternatives for x, or steps
+abbrev pub offering : Ident → Option ℕ → Readiness
+offering x None = Steps
+offering x (Some n) = Offers (Number n x) []
+
+-- it offers alternatives for x, so many as y says, which is waited for
+abbrev pub choosing : Ident → Ident → Option Value → Readiness
+choosing x y None = Waits (y ∷ [])
+choosing x y (Some v) = offering x (choice_in v)
+
+-- it goes by the state of a space, where that is a child, and else steps
+abbrev pub operating : List ℕ → Option (List ℕ) → Readiness
+operating space None = Steps
+operating space (Some other) = if is_child_of space other then WaitsForState other else Steps
+
+-- the same of y, which is waited for
+abbrev pub operating_on : List ℕ → Ident → Option Value → Readiness
+operating_on space y None = Waits (y ∷ [])
+operating_on space y (Some v) = operating space (space_in v)

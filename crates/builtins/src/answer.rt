@@ -1,8 +1,8 @@
-//! What a statement answers: it acts, raises an exception, or can't step yet (CTM 2.4).
+//! What a statement answers: it acts, raises an exception, or can't step yet (CTM 2.4). An operation on a space goes by the state of that.
 use environments::Environment;
-use oz_base::{Ident, Sequence, Shared};
+use oz_base::{Ident, Sequence, Shared, SpaceName};
 use oz_language::{Constant, Identifier};
-use oz_semantics::{Frame, RaiseKind, Value};
+use oz_semantics::{Frame, RaiseKind, SpaceOperation, Value};
 
 /// A body, and identifiers that stand for new variables in it. The others stand for what they stand for in the environment.
 #[derive(Drop)]
@@ -95,15 +95,39 @@ pub enum Act {
     Shows(Ident),
 }
 
+/// What a step does with the spaces in the thread's own. A built-in answers that it creates one; the others are what an operation on a
+/// space comes to, by the state of that.
+#[derive(Drop)]
+pub enum Edit {
+    /// The variable is a new space, in which the procedure is applied to the root variable.
+    Creates { procedure: Ident, variable: Ident },
+    /// The space goes on with the alternative of this number.
+    Commits { space: SpaceName, index: u64 },
+    /// The variable is a copy of the space.
+    Copies { space: SpaceName, variable: Ident },
+    /// In the space the procedure is applied to the root variable.
+    Injects { space: SpaceName, procedure: Ident },
+    /// The space becomes a part of the thread's, and the variable is its root variable.
+    TakesIn { space: SpaceName, variable: Ident },
+}
+
 /// What a statement answers.
 #[derive(Drop)]
 pub enum Answer {
     /// A step.
     Acts(Act),
+    /// A step that changes the tree of spaces.
+    Edits(Edit),
     /// A step too: an exception of the machine.
     RaisesKind(RaiseKind),
     /// And the exception that is the term of the variable.
     RaisesTerm(Ident),
+    /// An operation on a space in the thread's own, with its other argument: what it answers goes by the state of that space.
+    Operates {
+        operation: SpaceOperation,
+        space: SpaceName,
+        argument: Ident,
+    },
     /// It can't step yet.
     Rests,
 }
@@ -114,6 +138,8 @@ pub enum Readiness {
     Steps,
     /// It waits until one of these variables is determined, or becomes equal to another.
     Waits(Sequence<Ident>),
+    /// It waits until this space neither runs nor is suspended.
+    WaitsForState(SpaceName),
     /// It offers so many alternatives, and waits for nothing.
     Offers(u64),
 }

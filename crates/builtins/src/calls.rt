@@ -9,10 +9,12 @@ ghost use Rattle.builtins.specs.Looks.{Given};
 ghost use Rattle.builtins.specs.Exact.{answer_of, erased, gives_label, gives_width, gives_arity, passes, shows};
 
 use crate::answer::{Act, Answer};
+use crate::choices::choose;
 use crate::delays::by_need;
 use crate::objects::{access, assign, exchange, new_cell, new_name, new_port, send};
 use crate::operations::of_operation;
 use crate::records::{gives_arity, gives_label, gives_width};
+use crate::spaces::{new_space, on_space};
 use oz_base::{Copies, Ident, SpaceName};
 use oz_language::Operation;
 use oz_semantics::{Builtin, RaiseKind};
@@ -49,6 +51,9 @@ pub fn arguments_of(builtin: Builtin) -> usize
         Builtin::Send => 2,
         Builtin::ByNeed => 2,
         Builtin::Show => 1,
+        Builtin::NewSpace => 2,
+        Builtin::Choose => 2,
+        Builtin::OnSpace(_) => 2,
     }
 }
 
@@ -132,6 +137,9 @@ fn answers(
         Builtin::Send => send(alloc, store, space, first, second),
         Builtin::ByNeed => by_need(alloc, store, first, second),
         Builtin::Show => show(alloc, space, first),
+        Builtin::NewSpace => new_space(alloc, store, first, second),
+        Builtin::Choose => Ok(choose(store, first)),
+        Builtin::OnSpace(operation) => { on_space(alloc, store, space, operation, first, second) }
     }
 }
 

@@ -11,13 +11,18 @@ use oz_semantics::{RaiseKind, Value};
 use std::alloc::{AllocError, Global};
 use term_store::Store;
 
-fn is_procedure(value: &Value) -> bool
+/// Whether a value is a procedure, of the program or of the language itself.
+pub fn is_procedure(value: &Value) -> bool
     ensures { result ≡ is_procedure value.now }
 {
     match value {
         Value::Procedure(_) | Value::Builtin(_) => true,
-        Value::Constant(_) | Value::Name(_) | Value::Record(_) | Value::Cell(_) | Value::Port(_) =>
-            false,
+        Value::Constant(_)
+        | Value::Name(_)
+        | Value::Record(_)
+        | Value::Cell(_)
+        | Value::Port(_)
+        | Value::Space(_) => false,
     }
 }
 

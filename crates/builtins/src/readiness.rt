@@ -1,20 +1,23 @@
 //! Whether calls of built-ins can step.
-ghost use Rattle.std.specs.Prelude.{◌≡◌, ◌∷◌, [], ℕ, Bool, List, IfOk, option_copied};
+ghost use Rattle.std.specs.Prelude.{◌≡◌, ◌∷◌, [], ℕ, Bool, List, Some, IfOk, option_copied};
 ghost use Rattle.oz_base.specs.declared.names.Ident.{Ident};
 ghost use Rattle.oz_language.specs.declared.kernel.Statement.{Statement};
+ghost use Rattle.oz_semantics.specs.Values.{space_in};
 ghost use Rattle.oz_semantics.specs.Store.{View, value_of};
 ghost use Rattle.oz_semantics.specs.Entailment.{equality};
 ghost use Rattle.oz_semantics.specs.Sights.{Steps};
 ghost use Rattle.oz_semantics.specs.Builtins.{of_equality, of_operation, answer, call_answer};
 ghost use Rattle.oz_semantics.specs.Readiness.{answer_ready};
 ghost use Rattle.builtins.specs.Answers.{IsReady};
-ghost use Rattle.builtins.specs.Looks.{Inputs, ready_by, awaiting};
+ghost use Rattle.builtins.specs.Looks.{Inputs, ready_by, awaiting, offering, choosing, operating, operating_on};
 
 use crate::answer::Readiness;
 use crate::calls::{argument_or, arguments_of};
-use oz_base::{Copies, Ident, Sequence};
+use crate::choices::choice_in;
+use crate::spaces::is_child_of;
+use oz_base::{Copies, Ident, Sequence, SpaceName};
 use oz_language::Operation;
-use oz_semantics::Builtin;
+use oz_semantics::{Builtin, Value};
 use std::alloc::{AllocError, Global};
 use term_store::Store;
 use tree_equal::{Equality, test};
@@ -113,16 +116,73 @@ fn ready_operation(
     }
 }
 
-/// Whether a call with as many arguments as the built-in takes can step, by its inputs: the second is read where it takes two. It
+/// It offers so many alternatives, if it offers any, and else steps.
+fn offering(choice: Option<u64>) -> Readiness
+    ensures { (view : View) (x : Ident) → IsReady view (offering x choice) result }
+{
+    match choice {
+        Some(count) => Readiness::Offers(count),
+        None => Readiness::Steps,
+    }
+}
+
+/// A `Choose` of a number, which is waited for.
+fn ready_choose(alloc: Global, store: &Store, number: &Ident) -> Result<Readiness, AllocError>
+    ensures { IfOk result (λ r. (x : Ident) → IsReady store.now (choosing x number.now (value_of store.now number.now)) r) }
+{
+    match store.value(number) {
+        None => ready_by(alloc, Some(number)),
+        Some(value) => Ok(offering(choice_in(value))),
+    }
+}
+
+/// An operation on a space with this name goes by the state of that, where it is a child.
+fn ready_in(alloc: Global, space: &SpaceName, other: &SpaceName) -> Result<Readiness, AllocError>
+    ensures { IfOk result (λ r. (view : View) → IsReady view (operating space.now (Some other.now)) r) }
+{
+    if is_child_of(space, other) {
+        Ok(Readiness::WaitsForState(other.copied(alloc)?))
+    } else {
+        Ok(Readiness::Steps)
+    }
+}
+
+/// An operation on what has this value.
+fn ready_on(alloc: Global, space: &SpaceName, value: &Value) -> Result<Readiness, AllocError>
+    ensures { IfOk result (λ r. (view : View) → IsReady view (operating space.now (space_in value.now)) r) }
+{
+    match value {
+        Value::Space(other) => ready_in(alloc, space, other),
+        _ => Ok(Readiness::Steps),
+    }
+}
+
+/// An operation on a space, which is waited for.
+fn ready_on_space(
+    alloc: Global,
+    store: &Store,
+    space: &SpaceName,
+    other: &Ident,
+) -> Result<Readiness, AllocError>
+    ensures { IfOk result (IsReady store.now (operating_on space.now other.now (value_of store.now other.now))) }
+{
+    match store.value(other) {
+        None => ready_by(alloc, Some(other)),
+        Some(value) => ready_on(alloc, space, value),
+    }
+}
+
+/// Whether a call with as many arguments as the built-in takes can step, by its inputs: the second is read where it takes three. It
 /// refuses where there is no memory, which it needs for tests of equality and for what it waits for alone.
 pub fn ready_given(
     alloc: Global,
     store: &Store,
+    space: &SpaceName,
     builtin: Builtin,
     first: &Ident,
     second: &Ident,
 ) -> Result<Readiness, AllocError>
-    ensures { IfOk result (λ r. (statements : List Statement) (space : List ℕ) (given : ℕ → Ident) → Inputs builtin first.now second.now given → IsReady store.now (answer_ready (answer (record { statements = statements; space = space; view = store.now }) builtin given)) r) }
+    ensures { IfOk result (λ r. (statements : List Statement) (given : ℕ → Ident) → Inputs builtin first.now second.now given → IsReady store.now (answer_ready (answer (record { statements = statements; space = space.now; view = store.now }) builtin given)) r) }
 {
     match builtin {
         Builtin::Operation(operation) => ready_operation(alloc, store, operation, first, second),
@@ -139,6 +199,9 @@ pub fn ready_given(
         Builtin::Send => ready_one(alloc, store, first),
         Builtin::ByNeed => ready_one(alloc, store, first),
         Builtin::Show => Ok(Readiness::Steps),
+        Builtin::NewSpace => ready_one(alloc, store, first),
+        Builtin::Choose => ready_choose(alloc, store, first),
+        Builtin::OnSpace(_) => ready_on_space(alloc, store, space, first),
     }
 }
 
@@ -146,10 +209,11 @@ pub fn ready_given(
 pub fn ready_call(
     alloc: Global,
     store: &Store,
+    space: &SpaceName,
     builtin: Builtin,
     arguments: &[Ident],
 ) -> Result<Readiness, AllocError>
-    ensures { IfOk result (λ r. (statements : List Statement) (space : List ℕ) → IsReady store.now (answer_ready (call_answer (record { statements = statements; space = space; view = store.now }) builtin arguments.now)) r) }
+    ensures { IfOk result (λ r. (statements : List Statement) → IsReady store.now (answer_ready (call_answer (record { statements = statements; space = space.now; view = store.now }) builtin arguments.now)) r) }
 {
     if arguments.len() != arguments_of(builtin) {
         return Ok(Readiness::Steps);
@@ -158,6 +222,7 @@ pub fn ready_call(
     ready_given(
         alloc,
         store,
+        space,
         builtin,
         first,
         argument_or(arguments, 1, first),

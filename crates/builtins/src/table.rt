@@ -6,7 +6,7 @@ ghost use Rattle.oz_semantics.specs.Builtins.{rows};
 ghost use Rattle.builtins.specs.Tables.{row_of, worded, word_of, called, named_builtin};
 
 use oz_language::Operation;
-use oz_semantics::Builtin;
+use oz_semantics::{Builtin, SpaceOperation};
 
 /// What stands in a row of the table. The number of a row is that of the built-in's variable.
 #[derive(Clone, Copy)]
@@ -101,13 +101,41 @@ static ROWS: [Row; 36] = [
         name: b"Show",
         builtin: Builtin::Show,
     },
-    Row::Unserved,
-    Row::Unserved,
-    Row::Unserved,
-    Row::Unserved,
-    Row::Unserved,
-    Row::Unserved,
-    Row::Unserved,
+    Row::Named {
+        word: 15,
+        name: b"NewSpace",
+        builtin: Builtin::NewSpace,
+    },
+    Row::Named {
+        word: 16,
+        name: b"Ask",
+        builtin: Builtin::OnSpace(SpaceOperation::Ask),
+    },
+    Row::Named {
+        word: 17,
+        name: b"Choose",
+        builtin: Builtin::Choose,
+    },
+    Row::Named {
+        word: 18,
+        name: b"Commit",
+        builtin: Builtin::OnSpace(SpaceOperation::Commit),
+    },
+    Row::Named {
+        word: 19,
+        name: b"Clone",
+        builtin: Builtin::OnSpace(SpaceOperation::Clone),
+    },
+    Row::Named {
+        word: 20,
+        name: b"Inject",
+        builtin: Builtin::OnSpace(SpaceOperation::Inject),
+    },
+    Row::Named {
+        word: 21,
+        name: b"Merge",
+        builtin: Builtin::OnSpace(SpaceOperation::Merge),
+    },
     Row::Unserved,
     Row::Unserved,
     Row::Unserved,

@@ -1,7 +1,7 @@
-use super::{Act, Answer, Readiness, Row, answer_call, lookup, ready_call, rows};
+use super::{Act, Answer, Edit, Readiness, Row, answer_call, choice_of, lookup, ready_call, rows};
 use oz_base::{Ident, SpaceName};
-use oz_language::{Constant, Operation};
-use oz_semantics::{Builtin, RaiseKind, Tell, Value};
+use oz_language::{Constant, Literal, Operation};
+use oz_semantics::{Builtin, RaiseKind, SpaceOperation, Tell, Value};
 use std::alloc::{AllocError, Global};
 use std::test::Fail;
 use term_store::Store;
@@ -86,7 +86,8 @@ fn waits_for_its_input(rt: HostRuntime) -> Result<(), Fail> {
     let alloc = rt.alloc();
     let store = Store::new(alloc);
     let arguments = Vec::from_array(alloc, [variable(3)])?;
-    let ready = ready_call(alloc, &store, Builtin::Wait, arguments.as_slice())?;
+    let top = SpaceName::top();
+    let ready = ready_call(alloc, &store, &top, Builtin::Wait, arguments.as_slice())?;
     let waiting = match ready {
         Readiness::Waits(variables) => variables.len(),
         _ => 0,
@@ -95,7 +96,7 @@ fn waits_for_its_input(rt: HostRuntime) -> Result<(), Fail> {
     Ok(())
 }
 
-/// What an answer says of names, cells, ports and by-need computations, by the numbers in it.
+/// What an answer says of names, cells, ports, by-need computations and spaces, by the numbers in it: of a space by its last one.
 #[derive(Clone, Copy, Debug, PartialEq, Eq)]
 enum Said {
     Rests,
@@ -108,6 +109,8 @@ enum Said {
     MakesPort(u64, u64),
     Sends(u64, u64),
     Delays(u64, u64),
+    Creates(u64, u64),
+    Operates(SpaceOperation, u64, u64),
     Other,
 }
 
@@ -132,11 +135,34 @@ fn done(act: &Act) -> Said {
     }
 }
 
+fn edited(edit: &Edit) -> Said {
+    match edit {
+        Edit::Creates {
+            procedure,
+            variable,
+        } => Said::Creates(procedure.number, variable.number),
+        _ => Said::Other,
+    }
+}
+
+fn last_number(space: &SpaceName) -> u64 {
+    match space.as_slice().last() {
+        Some(number) => *number,
+        None => 0,
+    }
+}
+
 fn in_short(answer: &Answer) -> Said {
     match answer {
         Answer::Acts(act) => done(act),
+        Answer::Edits(edit) => edited(edit),
         Answer::RaisesKind(kind) => Said::Raises(*kind),
         Answer::RaisesTerm(_) => Said::Other,
+        Answer::Operates {
+            operation,
+            space,
+            argument,
+        } => Said::Operates(*operation, last_number(space), argument.number),
         Answer::Rests => Said::Rests,
     }
 }
@@ -260,7 +286,13 @@ fn a_child_does_not_use_those_of_the_top(rt: HostRuntime) -> Result<(), Fail> {
 fn awaited(alloc: Global, builtin: Builtin, numbers: &[u64]) -> Result<usize, AllocError> {
     let store = objects(alloc)?;
     let arguments = variables(alloc, numbers)?;
-    match ready_call(alloc, &store, builtin, arguments.as_slice())? {
+    match ready_call(
+        alloc,
+        &store,
+        &SpaceName::top(),
+        builtin,
+        arguments.as_slice(),
+    )? {
         Readiness::Waits(variables) => Ok(variables.len()),
         _ => Ok(0),
     }
@@ -294,6 +326,133 @@ fn a_procedure_is_delayed(rt: HostRuntime) -> Result<(), Fail> {
     Ok(())
 }
 
+/// Variable 0 is child 4 of the top, 1 is child 6 of that, 2 a built-in, and 3 the number 7.
+fn spaces(alloc: Global) -> Result<Store, AllocError> {
+    let child = SpaceName::top().child(alloc, 4)?;
+    let below = child.child(alloc, 6)?;
+    let values = [
+        Value::Space(child),
+        Value::Space(below),
+        Value::Builtin(Builtin::Wait),
+        Value::Constant(Constant::Int(7)),
+    ];
+    let mut tells = Vec::new(alloc);
+    for (number, value) in [0, 1, 2, 3]
+        .into_iter()
+        .zip(Vec::from_array(alloc, values)?)
+    {
+        tells.push(Tell::Is {
+            variable: variable(number),
+            value,
+        })?;
+    }
+    let mut store = Store::new(alloc);
+    store.tell(alloc, tells.as_slice(), &mut Vec::new(alloc))?;
+    Ok(store)
+}
+
+/// What a call with these variables answers in the top, and whether it goes by the state of a space.
+fn on_spaces(
+    alloc: Global,
+    builtin: Builtin,
+    numbers: &[u64],
+) -> Result<(Said, Option<u64>), AllocError> {
+    let store = spaces(alloc)?;
+    let top = SpaceName::top();
+    let arguments = variables(alloc, numbers)?;
+    let answer = answer_call(alloc, &store, &top, builtin, arguments.as_slice())?;
+    let state = match ready_call(alloc, &store, &top, builtin, arguments.as_slice())? {
+        Readiness::WaitsForState(space) => Some(last_number(&space)),
+        _ => None,
+    };
+    Ok((in_short(&answer), state))
+}
+
+#[test]
+fn a_space_is_made_of_a_procedure(rt: HostRuntime) -> Result<(), Fail> {
+    let alloc = rt.alloc();
+    let new = Builtin::NewSpace;
+    assert_eq!(rt;
+        on_spaces(alloc, new, &[2, 9])?,
+        (Said::Creates(2, 9), None)
+    );
+    assert_eq!(rt; on_spaces(alloc, new, &[8, 9])?, (Said::Rests, None));
+    assert_eq!(rt;
+        on_spaces(alloc, new, &[3, 9])?,
+        (Said::Raises(RaiseKind::BadKind), None)
+    );
+    Ok(())
+}
+
+#[test]
+fn an_operation_is_on_a_child(rt: HostRuntime) -> Result<(), Fail> {
+    let alloc = rt.alloc();
+    let ask = Builtin::OnSpace(SpaceOperation::Ask);
+    let merge = Builtin::OnSpace(SpaceOperation::Merge);
+    assert_eq!(rt;
+        on_spaces(alloc, ask, &[0, 9])?,
+        (Said::Operates(SpaceOperation::Ask, 4, 9), Some(4))
+    );
+    assert_eq!(rt;
+        on_spaces(alloc, merge, &[0, 9])?,
+        (Said::Operates(SpaceOperation::Merge, 4, 9), Some(4))
+    );
+    assert_eq!(rt;
+        on_spaces(alloc, ask, &[1, 9])?,
+        (Said::Raises(RaiseKind::SpaceParent), None)
+    );
+    assert_eq!(rt;
+        on_spaces(alloc, ask, &[3, 9])?,
+        (Said::Raises(RaiseKind::BadKind), None)
+    );
+    assert_eq!(rt; on_spaces(alloc, ask, &[8, 9])?, (Said::Rests, None));
+    Ok(())
+}
+
+/// What a `Choose` of a value answers, and how many alternatives it offers.
+fn chosen_of(alloc: Global, value: Value) -> Result<(Said, Option<u64>), AllocError> {
+    let tell = Tell::Is {
+        variable: variable(0),
+        value,
+    };
+    let mut store = Store::new(alloc);
+    store.tell(alloc, &[tell], &mut Vec::new(alloc))?;
+    let top = SpaceName::top();
+    let arguments = variables(alloc, &[0, 9])?;
+    let answer = answer_call(alloc, &store, &top, Builtin::Choose, arguments.as_slice())?;
+    let ready = ready_call(alloc, &store, &top, Builtin::Choose, arguments.as_slice())?;
+    let offered = match ready {
+        Readiness::Offers(count) if choice_of(&store, &variable(0)) == Some(count) => Some(count),
+        _ => None,
+    };
+    Ok((in_short(&answer), offered))
+}
+
+fn chosen_integer(alloc: Global, number: i128) -> Result<(Said, Option<u64>), AllocError> {
+    chosen_of(alloc, Value::Constant(Constant::Int(number)))
+}
+
+#[test]
+fn offers_numbers_in_a_range(rt: HostRuntime) -> Result<(), Fail> {
+    let alloc = rt.alloc();
+    let refused = (Said::Raises(RaiseKind::Domain), None);
+    assert_eq!(rt; chosen_integer(alloc, -1)?, refused);
+    assert_eq!(rt; chosen_integer(alloc, 0)?, refused);
+    assert_eq!(rt; chosen_integer(alloc, 1)?, (Said::Rests, Some(1)));
+    assert_eq!(rt;
+        chosen_integer(alloc, 1_000_000)?,
+        (Said::Rests, Some(1_000_000))
+    );
+    assert_eq!(rt; chosen_integer(alloc, 1_000_001)?, refused);
+    let atom = Value::Constant(Constant::Literal(Literal::Atom(1)));
+    assert_eq!(rt;
+        chosen_of(alloc, atom)?,
+        (Said::Raises(RaiseKind::BadKind), None)
+    );
+    assert_eq!(rt; awaited(alloc, Builtin::Choose, &[3, 9])?, 1);
+    Ok(())
+}
+
 #[test]
 fn has_a_row_for_each(rt: HostRuntime) -> Result<(), Fail> {
     let named = match rows()[24] {
@@ -311,6 +470,10 @@ fn finds_a_built_in_by_its_name(rt: HostRuntime) -> Result<(), Fail> {
     assert!(rt; matches!(lookup(b"Exchange"), Some(Builtin::Exchange)));
     assert!(rt; matches!(lookup(b"Send"), Some(Builtin::Send)));
     assert!(rt; matches!(lookup(b"ByNeed"), Some(Builtin::ByNeed)));
+    assert!(rt; matches!(lookup(b"NewSpace"), Some(Builtin::NewSpace)));
+    assert!(rt; matches!(lookup(b"Choose"), Some(Builtin::Choose)));
+    let clone = lookup(b"Clone");
+    assert!(rt; matches!(clone, Some(Builtin::OnSpace(SpaceOperation::Clone))));
     assert!(rt; lookup(b"arity").is_none());
     assert!(rt; lookup(b"").is_none());
     Ok(())

@@ -8,7 +8,7 @@ use Rattle.oz_language.specs.declared.kernel.Statement.{Statement}
 use Rattle.oz_semantics.specs.Triggers.{is_needed_in, beginning, fired, has_needed, fired_for}
 use Rattle.oz_semantics.specs.declared.configuration.Trigger.{Trigger}
 use Rattle.oz_semantics.specs.declared.configuration.Layer.{Layer}
-use Rattle.oz_threads.proofs.PlaceLaws.{item_at}
+use Rattle.stability.proofs.PlaceLaws.{item_at}
 use Rattle.space_core.specs.Firing.{marked, unmarked, firing, at_place}
 use Rattle.by_need.specs.Rounds.{is_mark, fire_each, IsRound}
 use Rattle.by_need.proofs.WaitLaws.{made_more}

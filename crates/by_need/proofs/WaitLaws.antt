@@ -9,16 +9,18 @@ use Rattle.oz_base.specs.declared.names.Ident.{Ident}
 use Rattle.oz_language.specs.declared.kernel.Statement.{Statement}
 use Rattle.oz_semantics.specs.Store.{View, same, is_determined}
 use Rattle.oz_semantics.specs.Configurations.{is_open, view}
-use Rattle.oz_semantics.specs.Sights.{Readiness, waits_of}
-use Rattle.oz_semantics.specs.Readiness.{thread_ready}
-use Rattle.oz_semantics.specs.Spaces.{sight, waited_in}
+use Rattle.oz_semantics.specs.Sights.{States, Readiness, waits_of}
+use Rattle.oz_semantics.specs.Spaces.{ready_in, waited_in, states_of}
 use Rattle.oz_semantics.specs.Triggers.{is_needed, is_needed_in}
 use Rattle.oz_semantics.specs.declared.configuration.Layer.{Layer}
 use Rattle.oz_semantics.specs.declared.configuration.Thread.{Thread}
 use Rattle.oz_semantics.specs.declared.configuration.Trigger.{Trigger}
 use Rattle.builtins.specs.Answers.{IsReady}
+use Rattle.builtins.specs.declared.answer.Readiness as said
 use Rattle.builtins.specs.declared.answer.Readiness.TheVariants as readiness
 use Rattle.tree_equal.specs.Answers.{SameClasses}
+use Rattle.stability.specs.Known.{Serves}
+use Rattle.stability.proofs.AlikeLaws.{ready_alike}
 use Rattle.by_need.specs.Waited.{AddsClasses}
 
 -- marks by other words
@@ -45,11 +47,12 @@ adds_waits view defined xs old new e h =
 adds_none : (view : View) (defined : Readiness) (old : List Ident) → waits_of defined ≡ [] → AddsClasses view (waits_of defined) old old
 adds_none view defined old e = λ z. or_false (list_any (same view z) old) ∙ sym (ap (λ (xs : List Ident). list_any (same view z) old || list_any (same view z) xs) e)
 
-pub steps_add : (view : View) (defined : Readiness) (old : List Ident) → IsReady view defined readiness.Steps → AddsClasses view (waits_of defined) old old
-steps_add view defined old h = adds_none view defined old (ap waits_of h)
-
-pub offers_add : (view : View) (defined : Readiness) (old : List Ident) (n : ℕ) → IsReady view defined (readiness.Offers n) → AddsClasses view (waits_of defined) old old
-offers_add view defined old n h = adds_none view defined old (ap waits_of h.1)
+pub others_add : (view : View) (defined : Readiness) (old : List Ident) (r : said.Readiness) → ((xs : List Ident) → r ≡ readiness.Waits xs → ⊥) → IsReady view defined r
+    → AddsClasses view (waits_of defined) old old
+others_add view defined old readiness.Steps other h = adds_none view defined old (ap waits_of h)
+others_add view defined old (readiness.WaitsForState space) other h = adds_none view defined old (ap waits_of h)
+others_add view defined old (readiness.Offers n) other h = adds_none view defined old (ap waits_of h.1)
+others_add view defined old (readiness.Waits xs) other h = absurd (other xs refl)
 
 -- One more thread
 
@@ -70,19 +73,29 @@ waits_mapped : (f : Thread → Readiness) (ts : List Thread) → flat_map waits_
 waits_mapped f [] = refl
 waits_mapped f (t ∷ ts) = ap (λ xs. waits_of (f t) ++ xs) (waits_mapped f ts)
 
+-- what a thread of the layer waits for
+abbrev pub thread_waits : List Statement → List Layer → States → Layer → Thread → List Ident
+thread_waits statements layers states l t = waits_of (ready_in statements layers states l.space t)
+
 module _ (statements : List Statement) (layers : List Layer) (l : Layer) where
-  abbrev waits : List Ident
-  waits = flat_map (λ t. waits_of (thread_ready (sight statements layers l.space) t)) l.threads
+  abbrev waits : States → List Ident
+  waits states = flat_map (λ t. waits_of (ready_in statements layers states l.space t)) l.threads
 
-  waited_open : is_open l.status ≡ true → waited_in statements layers l ≡ waits
-  waited_open e =
-      ap (λ (b : Bool). flat_map waits_of (if b then map (thread_ready (sight statements layers l.space)) l.threads else [])) e
-      ∙ waits_mapped (thread_ready (sight statements layers l.space)) l.threads
+  waited_open : (states : States) → is_open l.status ≡ true → waited_in statements layers states l ≡ waits states
+  waited_open states e =
+      ap (λ (b : Bool). flat_map waits_of (if b then map (ready_in statements layers states l.space) l.threads else [])) e ∙ waits_mapped (ready_in statements layers states l.space) l.threads
 
-  pub needed_open : is_open l.status ≡ true → map (is_needed (view layers l.space) waits) l.triggers ≡ map (is_needed_in statements layers l) l.triggers
-  needed_open e =
-      ap (λ (xs : List Ident). map (is_needed (view layers l.space) xs) l.triggers) (sym (waited_open e))
-      ∙ sym (ap (λ (b : Bool). map (λ t. b && is_needed (view layers l.space) (waited_in statements layers l) t) l.triggers) e)
+  -- by states that serve as well
+  waits_alike : (one other : States) → Serves statements layers one other → waits one ≡ waits other
+  waits_alike one other serves =
+      let same : ◌≡◌ {A = Thread → Readiness} (ready_in statements layers one l.space) (ready_in statements layers other l.space) = λ i t. ready_alike statements layers one other serves l.space t i in
+      ap (λ (f : Thread → Readiness). flat_map (λ (t : Thread). waits_of (f t)) l.threads) same
+
+  pub needed_open : (states : States) → Serves statements layers states (states_of statements layers) → is_open l.status ≡ true
+      → map (is_needed (view layers l.space) (waits states)) l.triggers ≡ map (is_needed_in statements layers l) l.triggers
+  needed_open states serves e =
+      ap (λ (xs : List Ident). map (is_needed (view layers l.space) xs) l.triggers) (waits_alike states (states_of statements layers) serves ∙ sym (waited_open (states_of statements layers) e))
+      ∙ sym (ap (λ (b : Bool). map (λ t. b && is_needed (view layers l.space) (waited_in statements layers (states_of statements layers) l) t) l.triggers) e)
 
   pub needed_ended : is_open l.status ≡ false → map (λ (t : Trigger). false) l.triggers ≡ map (is_needed_in statements layers l) l.triggers
-  needed_ended e = sym (ap (λ (b : Bool). map (λ t. b && is_needed (view layers l.space) (waited_in statements layers l) t) l.triggers) e)
+  needed_ended e = sym (ap (λ (b : Bool). map (λ t. b && is_needed (view layers l.space) (waited_in statements layers (states_of statements layers) l) t) l.triggers) e)

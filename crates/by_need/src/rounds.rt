@@ -9,6 +9,7 @@ use crate::triggers::needed_at;
 use oz_base::{Copies, Sequence};
 use oz_language::Statement;
 use space_core::Levels;
+use stability::states_of;
 use std::alloc::{AllocError, Global};
 
 /// How many triggers there are. It refuses where they are 2^64 or more.
@@ -31,9 +32,10 @@ fn marks_of(
 ) -> Result<Sequence<Sequence<bool>>, AllocError>
     ensures { IfOk result (λ marks. marks ≡ map (λ l. map (is_needed_in statements.now levels.now l) l.triggers) levels.now) }
 {
+    let states = states_of(alloc, statements, levels)?;
     let mut marks = Sequence::new(alloc);
     for place in 0..levels.len() {
-        marks.push(needed_at(alloc, statements, levels, place)?)?;
+        marks.push(needed_at(alloc, statements, levels, &states, place)?)?;
     }
     Ok(marks)
 }

@@ -37,7 +37,7 @@ fn delay(levels: &mut Levels, procedure: u64, variable: u64) -> Result<(), Alloc
 fn applied(levels: &Levels, number: u64) -> Option<u64> {
     match &levels.top_frame(&of_top(number))?.code {
         Code::Call { procedure, .. } => Some(procedure.number),
-        Code::Statement(_) | Code::Mark { .. } => None,
+        Code::Statement(_) | Code::Bind { .. } | Code::Mark { .. } => None,
     }
 }
 

@@ -5,20 +5,20 @@ ghost use Rattle.oz_semantics.specs.Store.{View, same};
 ghost use Rattle.oz_semantics.specs.Configurations.{is_open, view};
 ghost use Rattle.oz_semantics.specs.Sights as sights;
 ghost use Rattle.oz_semantics.specs.Sights.{waits_of};
-ghost use Rattle.oz_semantics.specs.Readiness.{thread_ready};
+ghost use Rattle.oz_semantics.specs.Spaces.{ready_in, states_of};
 ghost use Rattle.oz_semantics.specs.Triggers.{is_needed, is_needed_in};
 ghost use Rattle.builtins.specs.Answers.{IsReady};
-ghost use Rattle.oz_threads.specs.Sights.{sight_of};
 ghost use Rattle.space_core.specs.Levels.{OfLayer};
+ghost use Rattle.stability.specs.Known.{known, Serves};
 ghost use Rattle.tree_equal.specs.Answers.{SameClasses};
 ghost use Rattle.by_need.specs.Waited.{AddsClasses};
 
 use builtins::Readiness;
-use oz_base::{Ident, Sequence, SpaceName};
+use oz_base::{Ident, Sequence};
 use oz_language::Statement;
 use oz_semantics::{Status, Thread, Trigger};
-use oz_threads::ready_where;
 use space_core::Levels;
+use stability::{States, ready_in};
 use std::alloc::{AllocError, Global};
 use term_store::Store;
 
@@ -67,48 +67,48 @@ fn unneeded(alloc: Global, triggers: &[Trigger]) -> Result<Sequence<bool>, Alloc
 fn add_waits(waited: &mut Sequence<Ident>, ready: Readiness) -> Result<(), AllocError>
     ensures { OnOk result ((view : View) (defined : sights.Readiness) → IsReady view defined ready → AddsClasses view (waits_of defined) waited.old waited.new) }
 {
-    match ready {
-        Readiness::Waits(waits) => {
-            waited.append(waits.into_vec())?;
-            Ok(())
-        }
-        Readiness::Steps => Ok(()),
-        Readiness::Offers(_) => Ok(()),
-    }
+    let Readiness::Waits(waits) = ready else {
+        return Ok(());
+    };
+    waited.append(waits.into_vec())
 }
 
-/// The variables that these threads of a space wait for, by what the space sees; each class by any variable of it, and as often as it is
-/// waited for.
-fn waited_where(
+/// The variables that these threads of the space at a place wait for, by the states that are known; each class by any variable of it, and
+/// as often as it is waited for.
+fn waited_in(
     alloc: Global,
     statements: &[Statement],
-    space: &SpaceName,
-    store: &Store,
+    levels: &Levels,
+    states: &States,
+    place: usize,
     threads: &[Thread],
 ) -> Result<Sequence<Ident>, AllocError>
-    ensures { IfOk result (λ waited. SameClasses store.now waited (flat_map (λ t. waits_of (thread_ready (sight_of statements.now space.now store.now) t)) threads.now)) }
+    requires { place < length levels.now }
+    ensures { OfLayer levels.now place (λ l. IfOk result (λ waited. SameClasses (view levels.now l.space) waited (flat_map (λ t. waits_of (ready_in statements.now levels.now (known levels.now states.now) l.space t)) threads.now))) }
 {
     let mut waited = Sequence::new(alloc);
     for thread in threads {
-        let ready = ready_where(alloc, statements, space, store, thread)?;
+        let ready = ready_in(alloc, statements, levels, states, place, thread)?;
         add_waits(&mut waited, ready)?;
     }
     Ok(waited)
 }
 
-/// Which triggers of a space that is open are needed, by what the space sees.
-fn needed_where(
+/// Which triggers of the space at a place, which is open, are needed for what these threads of it wait for.
+fn needed_for(
     alloc: Global,
     statements: &[Statement],
-    space: &SpaceName,
-    store: &Store,
+    levels: &Levels,
+    states: &States,
+    place: usize,
     threads: &[Thread],
     triggers: &[Trigger],
 ) -> Result<Sequence<bool>, AllocError>
-    ensures { IfOk result (λ marks. marks ≡ map (is_needed store.now (flat_map (λ t. waits_of (thread_ready (sight_of statements.now space.now store.now) t)) threads.now)) triggers.now) }
+    requires { place < length levels.now }
+    ensures { OfLayer levels.now place (λ l. IfOk result (λ marks. marks ≡ map (is_needed (view levels.now l.space) (flat_map (λ t. waits_of (ready_in statements.now levels.now (known levels.now states.now) l.space t)) threads.now)) triggers.now)) }
 {
-    let waited = waited_where(alloc, statements, space, store, threads)?;
-    needed(alloc, store, triggers, waited.as_slice())
+    let waited = waited_in(alloc, statements, levels, states, place, threads)?;
+    needed(alloc, levels.store_at(place), triggers, waited.as_slice())
 }
 
 fn is_open(status: &Status) -> bool
@@ -117,23 +117,26 @@ fn is_open(status: &Status) -> bool
     matches!(status, Status::Open)
 }
 
-/// Which triggers of the space at a place are needed. A space that is not open needs none.
+/// Which triggers of the space at a place are needed, by the states by which all threads go. A space that is not open needs none.
 pub fn needed_at(
     alloc: Global,
     statements: &[Statement],
     levels: &Levels,
+    states: &States,
     place: usize,
 ) -> Result<Sequence<bool>, AllocError>
     requires { place < length levels.now }
-    ensures { OfLayer levels.now place (λ l. IfOk result (λ marks. marks ≡ map (is_needed_in statements.now levels.now l) l.triggers)) }
+    ensures { Serves statements.now levels.now (known levels.now states.now) (states_of statements.now levels.now)
+        → OfLayer levels.now place (λ l. IfOk result (λ marks. marks ≡ map (is_needed_in statements.now levels.now l) l.triggers)) }
 {
     let triggers = levels.triggers_at(place);
     if is_open(levels.status_at(place)) {
-        return needed_where(
+        return needed_for(
             alloc,
             statements,
-            levels.space_at(place),
-            levels.store_at(place),
+            levels,
+            states,
+            place,
             levels.threads_at(place),
             triggers,
         );

@@ -32,6 +32,10 @@ binding_all (n ∷ ns) (x ∷ xs) e = binding n x (binding_all ns xs e)
 binding_all (n ∷ ns) [] e = e
 binding_all [] xs e = e
 
+-- each variable gives way to another
+abbrev pub renamed : (Ident → Ident) → Environment → Environment
+renamed rename e = maps.from_entries (map (λ (b : ℕ × Ident). (b.0, rename b.1)) (maps.entries e))
+
 -- a variable that no space gives out: the top numbers its children from 1
 abbrev pub nowhere : Ident
 nowhere = record { space = 0 ∷ []; number = 0 }

@@ -1,5 +1,5 @@
 -- An environment as recent bindings over a map with the older ones.
-use Rattle.std.specs.Prelude.{ℕ, List, [], ◌∷◌}
+use Rattle.std.specs.Prelude.{ℕ, List, [], ◌∷◌, map}
 use Rattle.std.specs.FinMap as maps
 use Rattle.oz_base.specs.declared.names.Ident.{Ident}
 use Rattle.environments.specs.Environments.{Environment}
@@ -12,5 +12,9 @@ bindings (Newest' p code variable older) = (code, variable) ∷ bindings older
 
 -- the map after these were put into it, from the last to the first
 abbrev pub put_over : List (ℕ × Ident) → Environment → Environment
-put_over [] map = map
-put_over (b ∷ bs) map = maps.insert (put_over bs map) b.0 b.1
+put_over [] older = older
+put_over (b ∷ bs) older = maps.insert (put_over bs older) b.0 b.1
+
+-- each variable gives way to another
+abbrev pub renamed_bindings : (Ident → Ident) → List (ℕ × Ident) → List (ℕ × Ident)
+renamed_bindings rename bs = map (λ (b : ℕ × Ident). (b.0, rename b.1)) bs

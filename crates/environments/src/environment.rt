@@ -1,11 +1,14 @@
 //! An environment, as recent bindings in front of a map from the numbers of identifiers to variables.
 ghost use Rattle.std.specs.Prelude.{◌≡◌, length, IfOk, OnOk, OnErr, option_copied};
-ghost use Rattle.environments.specs.Environments.{code, unbound, bound_in, binding, binding_all};
+ghost use Rattle.environments.specs.Environments.{code, unbound, bound_in, binding, binding_all, renamed};
+ghost use Rattle.renamings.specs.Renames.{ident_by};
+ghost use Rattle.renamings.specs.declared.given.Kind.TheVariants.{Variable};
 
 use crate::recent::Recent;
 use oz_base::{Copies, Ident};
 use oz_language::Identifier;
-use shared_map::SharedMap;
+use renamings::{Kind, Renaming};
+use shared_map::{Change, SharedMap};
 use std::alloc::{AllocError, Global};
 use std::marker::Model;
 
@@ -132,6 +135,38 @@ impl Environment {
             extended.bind(alloc, names[left], variables[left].copied(alloc)?)?;
         }
         Ok(extended)
+    }
+}
+
+/// The new names of variables.
+#[derive(Drop)]
+struct Variables<'a> {
+    by: &'a Renaming,
+}
+
+impl<'a> Change<Ident> for Variables<'a> {
+    ghost changed = { λ variables. ident_by Variable variables.by.now };
+
+    fn changed(&self, alloc: Global, variable: &Ident) -> Result<Ident, AllocError> {
+        self.by.ident(alloc, Kind::Variable, variable)
+    }
+
+    fn keeps(&self, variable: &Ident) -> bool {
+        self.by.keeps(variable)
+    }
+}
+
+impl Environment {
+    /// An environment in which each identifier stands for the variable of the new name. It takes a time that grows with the number of
+    /// bindings, and shares of the older ones what keeps its names. It refuses a number above 2^64 - 1.
+    pub fn renamed(&self, alloc: Global, by: &Renaming) -> Result<Self, AllocError>
+        ensures { IfOk result (λ after. after ≡ renamed (ident_by Variable by.now) self.now) }
+    {
+        Ok(Environment {
+            recent: self.recent.renamed(alloc, by)?,
+            count: self.count,
+            older: self.older.changed(alloc, &Variables { by })?,
+        })
     }
 }
 

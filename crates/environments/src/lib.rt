@@ -11,6 +11,7 @@ mod tests {
     use super::*;
     use oz_base::{Copies, Ident, SpaceName};
     use oz_language::Identifier;
+    use renamings::Renaming;
     use std::alloc::{AllocError, Global};
     use std::test::Fail;
     use std::thread;
@@ -86,6 +87,33 @@ mod tests {
             assert_eq!(rt; number_of(&environment, word), Some(last));
         }
         assert_eq!(rt; number_of(&environment, Identifier::Word(30)), None);
+        Ok(())
+    }
+
+    #[test]
+    fn renames_recent_and_older_variables(rt: HostRuntime) -> Result<(), Fail> {
+        let alloc = rt.alloc();
+        let mut environment = Environment::new();
+        bind_words(&mut environment, alloc, 0, 25)?;
+        let child = SpaceName::top().child(alloc, 1)?;
+        let inner = Ident {
+            space: child.copied(alloc)?,
+            number: 0,
+        };
+        environment.bind(alloc, Identifier::Fresh(0), inner)?;
+        let by = Renaming::Move {
+            from: child,
+            to: SpaceName::top().child(alloc, 9)?,
+        };
+        let renamed = environment.renamed(alloc, &by)?;
+        assert_eq!(rt; number_of(&renamed, Identifier::Word(3)), Some(3));
+        assert_eq!(rt; number_of(&renamed, Identifier::Word(24)), Some(24));
+        assert_eq!(rt; number_of(&renamed, Identifier::Word(25)), None);
+        let moved = match renamed.bound(Identifier::Fresh(0)) {
+            Some(variable) => variable.space.as_slice() == &[9][..],
+            None => false,
+        };
+        assert!(rt; moved);
         Ok(())
     }
 

@@ -2,9 +2,12 @@
 ghost use Rattle.std.specs.Prelude.{◌≡◌, ◌∷◌, [], length, IfOk, OnOk, OnErr, option_copied};
 ghost use Rattle.std.specs.Ordering.{nat_cmp};
 ghost use Rattle.std.specs.FinMap as maps;
-ghost use Rattle.environments.specs.Recents.{bindings, put_over};
+ghost use Rattle.environments.specs.Recents.{bindings, put_over, renamed_bindings};
+ghost use Rattle.renamings.specs.Renames.{ident_by};
+ghost use Rattle.renamings.specs.declared.given.Kind.TheVariants.{Variable};
 
 use oz_base::{Copies, Ident};
+use renamings::{Kind, Renaming};
 use shared_map::SharedMap;
 use std::alloc::{AllocError, Global};
 use std::mem;
@@ -102,6 +105,21 @@ impl Recent {
                 let mut map = binding.older.put_into(alloc, map)?;
                 let _was = map.insert(alloc, binding.code, binding.variable.copied(alloc)?)?;
                 Ok(map)
+            }
+        }
+    }
+
+    /// The variables under their new names, in memory of its own.
+    pub fn renamed(&self, alloc: Global, by: &Renaming) -> Result<Self, AllocError>
+        ensures { IfOk result (λ after. bindings after ≡ renamed_bindings (ident_by Variable by.now) (bindings self.now)) }
+    {
+        match self {
+            Recent::Nothing => Ok(Recent::Nothing),
+            Recent::Newest(binding) => {
+                let mut after = binding.older.renamed(alloc, by)?;
+                let variable = by.ident(alloc, Kind::Variable, &binding.variable)?;
+                after.push(alloc, binding.code, variable)?;
+                Ok(after)
             }
         }
     }

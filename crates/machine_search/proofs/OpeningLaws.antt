@@ -34,6 +34,7 @@ AreBuiltins (Is x (value.Procedure p) ∷ ts) = ⊥
 AreBuiltins (Is x (value.Name n) ∷ ts) = ⊥
 AreBuiltins (Is x (value.Cell c) ∷ ts) = ⊥
 AreBuiltins (Is x (value.Port p) ∷ ts) = ⊥
+AreBuiltins (Is x (value.Space s) ∷ ts) = ⊥
 AreBuiltins (Equal x y ∷ ts) = ⊥
 
 are_builtins : (n : ℕ) (rs : List Row) → AreBuiltins (builtin_tells n rs)
@@ -51,6 +52,7 @@ none_told (Is x (value.Procedure p) ∷ ts) h = absurd h
 none_told (Is x (value.Name n) ∷ ts) h = absurd h
 none_told (Is x (value.Cell c) ∷ ts) h = absurd h
 none_told (Is x (value.Port p) ∷ ts) h = absurd h
+none_told (Is x (value.Space s) ∷ ts) h = absurd h
 none_told (Equal x y ∷ ts) h = absurd h
 
 no_field : (x : Ident) (b : Builtin) (ts : List Tell) → AreBuiltins ts → flat_map (field_pairs [] (Is x (value.Builtin b))) ts ≡ []
@@ -66,6 +68,7 @@ no_field x b (Is y (value.Procedure p) ∷ ts) h = absurd h
 no_field x b (Is y (value.Name n) ∷ ts) h = absurd h
 no_field x b (Is y (value.Cell c) ∷ ts) h = absurd h
 no_field x b (Is y (value.Port p) ∷ ts) h = absurd h
+no_field x b (Is y (value.Space s) ∷ ts) h = absurd h
 no_field x b (Equal y z ∷ ts) h = absurd h
 
 no_fields : (us ts : List Tell) → AreBuiltins us → AreBuiltins ts → flat_map (λ t. flat_map (field_pairs [] t) ts) us ≡ []
@@ -77,6 +80,7 @@ no_fields (Is x (value.Procedure p) ∷ us) ts h all = absurd h
 no_fields (Is x (value.Name n) ∷ us) ts h all = absurd h
 no_fields (Is x (value.Cell c) ∷ us) ts h all = absurd h
 no_fields (Is x (value.Port p) ∷ us) ts h all = absurd h
+no_fields (Is x (value.Space s) ∷ us) ts h all = absurd h
 no_fields (Equal x y ∷ us) ts h all = absurd h
 
 no_pairs : (ts : List Tell) → AreBuiltins ts → next_pairs [] ts ≡ []

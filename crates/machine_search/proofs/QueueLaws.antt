@@ -8,9 +8,8 @@ use Rattle.oz_base.specs.IdentLaws.{ident_eq-itself, ident_eq-equal}
 use Rattle.oz_language.specs.declared.kernel.Statement.{Statement}
 use Rattle.oz_semantics.specs.Names.{is_below, named}
 use Rattle.oz_semantics.specs.Configurations.{is_open}
-use Rattle.oz_semantics.specs.Sights.{Sight, can_step}
-use Rattle.oz_semantics.specs.Readiness.{thread_ready}
-use Rattle.oz_semantics.specs.Spaces.{sight, layer_goes_on, layers_below, goes_on}
+use Rattle.oz_semantics.specs.Sights.{Readiness, can_step}
+use Rattle.oz_semantics.specs.Spaces.{states_of, thread_ready, layer_goes_on, layers_below, goes_on}
 use Rattle.oz_semantics.specs.Settling.{runnable_in, runnable, is_among, mover_in, queue_after}
 use Rattle.oz_semantics.specs.declared.configuration.Thread.{Thread}
 use Rattle.oz_semantics.specs.declared.configuration.Layer.{Layer}
@@ -61,35 +60,39 @@ append_parts : {A : Type 0} (xs ys : List A) → (xs ++ ys) ≡ [] → (xs ≡ [
 append_parts [] ys e = (refl, e)
 append_parts (x ∷ xs) ys e = absurd (cc (e))
 
-no_thread : (s : Sight) (space : List ℕ) (threads : List Thread) → map (λ (t : Thread). named space t.number) (filter (λ t. can_step (thread_ready s t)) threads) ≡ []
-    → list_any can_step (map (thread_ready s) threads) ≡ false
-no_thread s space [] e = refl
-no_thread s space (t ∷ threads) e = by (can_step (thread_ready s t)) (no_thread s space threads) e
+no_thread : (ready : Thread → Readiness) (space : List ℕ) (threads : List Thread) → map (λ (t : Thread). named space t.number) (filter (λ t. can_step (ready t)) threads) ≡ []
+    → list_any can_step (map ready threads) ≡ false
+no_thread ready space [] e = refl
+no_thread ready space (t ∷ threads) e = by (can_step (ready t)) (no_thread ready space threads) e
   where
-    by : (b : Bool) → (map (λ (t : Thread). named space t.number) (filter (λ t. can_step (thread_ready s t)) threads) ≡ [] → list_any can_step (map (thread_ready s) threads) ≡ false)
-        → map (λ (t : Thread). named space t.number) (cond b (t ∷ filter (λ t. can_step (thread_ready s t)) threads) (filter (λ t. can_step (thread_ready s t)) threads)) ≡ []
-        → (b || list_any can_step (map (thread_ready s) threads)) ≡ false
+    by : (b : Bool) → (map (λ (t : Thread). named space t.number) (filter (λ t. can_step (ready t)) threads) ≡ [] → list_any can_step (map ready threads) ≡ false)
+        → map (λ (t : Thread). named space t.number) (cond b (t ∷ filter (λ t. can_step (ready t)) threads) (filter (λ t. can_step (ready t)) threads)) ≡ []
+        → (b || list_any can_step (map ready threads)) ≡ false
     by true rest e = absurd (cc (e))
     by false rest e = rest e
 
-no_layer : (statements : List Statement) (layers : List Layer) (l : Layer) → runnable_in statements layers l ≡ [] → layer_goes_on statements layers l ≡ false
+-- by the states of all spaces
+abbrev going : List Statement → List Layer → Layer → Bool
+going statements layers = layer_goes_on statements layers (states_of statements layers)
+
+no_layer : (statements : List Statement) (layers : List Layer) (l : Layer) → runnable_in statements layers l ≡ [] → going statements layers l ≡ false
 no_layer statements layers l e = by (is_open l.status) e
   where
-    by : (b : Bool) → (if b then map (λ (t : Thread). named l.space t.number) (filter (λ t. can_step (thread_ready (sight statements layers l.space) t)) l.threads) else []) ≡ []
-        → list_any can_step (if b then map (thread_ready (sight statements layers l.space)) l.threads else []) ≡ false
-    by true e = no_thread (sight statements layers l.space) l.space l.threads e
+    by : (b : Bool) → (if b then map (λ (t : Thread). named l.space t.number) (filter (λ t. can_step (thread_ready statements layers l.space t)) l.threads) else []) ≡ []
+        → list_any can_step (if b then map (thread_ready statements layers l.space) l.threads else []) ≡ false
+    by true e = no_thread (thread_ready statements layers l.space) l.space l.threads e
     by false e = refl
 
 no_layers : (statements : List Statement) (layers : List Layer) (space : List ℕ) (ls : List Layer) → flat_map (runnable_in statements layers) ls ≡ []
-    → list_any (layer_goes_on statements layers) (layers_below ls space) ≡ false
+    → list_any (going statements layers) (layers_below ls space) ≡ false
 no_layers statements layers space [] e = refl
 no_layers statements layers space (l ∷ ls) e =
     let parts = append_parts (runnable_in statements layers l) (flat_map (runnable_in statements layers) ls) e in
     by (is_below space l.space) (no_layer statements layers l parts.0) (no_layers statements layers space ls parts.1)
   where
-    by : (b : Bool) → layer_goes_on statements layers l ≡ false → list_any (layer_goes_on statements layers) (layers_below ls space) ≡ false
-        → list_any (layer_goes_on statements layers) (cond b (l ∷ layers_below ls space) (layers_below ls space)) ≡ false
-    by true here rest = ap (λ t. t || list_any (layer_goes_on statements layers) (layers_below ls space)) here ∙ rest
+    by : (b : Bool) → going statements layers l ≡ false → list_any (going statements layers) (layers_below ls space) ≡ false
+        → list_any (going statements layers) (cond b (l ∷ layers_below ls space) (layers_below ls space)) ≡ false
+    by true here rest = ap (λ t. t || list_any (going statements layers) (layers_below ls space)) here ∙ rest
     by false here rest = rest
 
 pub nothing_goes_on : (statements : List Statement) (c : Configuration) (space : List ℕ) → IsQueued statements c → c.queue ≡ [] → goes_on statements c.layers space ≡ false

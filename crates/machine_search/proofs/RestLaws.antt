@@ -1,8 +1,8 @@
 -- A run from where all that can step is queued ends where nothing of its space can step.
-use Rattle.std.proofs.Common.{◌≡◌, ℕ, zero, suc, ◌+◌, ◌-◌, nat_le, Bool, true, false, cond, if◌then◌else◌, List, [], ◌∷◌, Option, Some, None, option_map, refl, sym, ap, ◌∙◌, subst, true≢false}
+use Rattle.std.proofs.Common.{◌≡◌, ℕ, zero, suc, ◌+◌, ◌-◌, nat_le, Bool, true, false, cond, if◌then◌else◌, List, [], ◌∷◌, ◌++◌, append_assoc, Option, Some, None, option_map, refl, sym, ap, ◌∙◌, subst, true≢false}
 use Rattle.std.specs.List.{find}
 use Rattle.std.proofs.lemmas.Option.{same_Some}
-use Rattle.oz_base.specs.Lists.{is_empty}
+use Rattle.oz_base.specs.Lists.{is_empty, list_eq}
 use Rattle.oz_base.specs.ListLaws.{list_eq-decides}
 use Rattle.oz_base.specs.declared.names.Ident.{Ident}
 use Rattle.oz_language.specs.declared.kernel.Statement.{Statement}
@@ -13,9 +13,8 @@ use Rattle.oz_search.specs.declared.tree.Kind.TheVariants.{Alternatives, End}
 use Rattle.oz_search.specs.Paths.{is_among}
 use Rattle.oz_search.specs.Nodes.{Reached, Met, Node, OutOfFuel, NotANode, met_last, met_by_kind, met_next, met_from}
 use Rattle.oz_search.specs.Plain.{outcomes}
-use Rattle.oz_semantics.specs.Configurations.{is_of, layer_at}
-use Rattle.oz_semantics.specs.Sights.{Offer}
-use Rattle.oz_semantics.specs.Spaces.{state, goes_on, is_stable, offer_in, stable_state, open_state, state_by}
+use Rattle.oz_semantics.specs.Sights.{States, state_in, Offer}
+use Rattle.oz_semantics.specs.Spaces.{state, goes_on, subtree_goes_on, is_stable, offer_in, stable_state, open_state, state_by, states_behind}
 use Rattle.oz_semantics.specs.Triggers.{triggered}
 use Rattle.oz_semantics.specs.Settling.{Turned, top_failed, without_inconsistent, runnable, requeued}
 use Rattle.oz_semantics.specs.Edits.{created, committed}
@@ -31,6 +30,8 @@ use Rattle.oz_semantics.specs.declared.configuration.Configuration.{Configuratio
 use Rattle.oz_semantics.specs.declared.outcome.State.{State}
 use Rattle.oz_semantics.specs.declared.outcome.State.TheVariants.{Running, Suspended, Solved, Stuck}
 use Rattle.oz_semantics.specs.declared.outcome.Stepped.TheVariants.{Moved, Quiescent, TopEnded}
+use Rattle.view_laws.specs.Trees.{is_ascending, names_of}
+use Rattle.view_laws.proofs.BehindLaws.{behind_goes_on}
 use Rattle.machine_search.specs.Rests.{IsSettled, SettledLaw, RootLaw, ChosenLaw, RestLaw, StateLaw, NodesLaw}
 use Rattle.machine_search.proofs.QueueLaws.{all_queued, nothing_goes_on}
 use Rattle.machine_search.proofs.TopLaws.{still_consistent, begun_consistent, committed_top, created_top}
@@ -86,14 +87,6 @@ pub rest_law : RestLaw
 rest_law k space c fuel d left queued e = ends k space (suc fuel) c fuel d left queued e
 
 -- ---- so no space runs there
-find_holds : {A : Type 0} (p : A → Bool) (xs : List A) (x : A) → find p xs ≡ Some x → p x ≡ true
-find_holds p [] x e = absurd (cc (e))
-find_holds p (y ∷ ys) x e = by (p y) refl (find_holds p ys x) e
-  where
-    by : (b : Bool) → p y ≡ b → (find p ys ≡ Some x → p x ≡ true) → cond b (Some y) (find p ys) ≡ Some x → p x ≡ true
-    by true i rest e = ap p (sym (same_Some y x e)) ∙ i
-    by false i rest e = rest e
-
 stable_not : (o : Option Offer) (threads : List Thread) → stable_state o threads ≡ Running → ⊥
 stable_not (Some offer) threads e = cc
 stable_not None threads e = by (is_empty threads) e
@@ -102,30 +95,45 @@ stable_not None threads e = by (is_empty threads) e
     by true e = cc
     by false e = cc
 
-open_not : (statements : List Statement) (layers : List Layer) (l : Layer) → goes_on statements layers l.space ≡ false → open_state statements layers l ≡ Running → ⊥
-open_not statements layers l not_going e = go (is_stable statements layers l.space) (sym (ap (λ b. if b then Running else rest) not_going) ∙ e)
+open_not : (statements : List Statement) (layers : List Layer) (known : States) (l : Layer) → subtree_goes_on statements layers known l.space ≡ false
+    → open_state statements layers known l ≡ Running → ⊥
+open_not statements layers known l not_going e = go (is_stable statements layers known l.space) (sym (ap (λ b. if b then Running else rest) not_going) ∙ e)
   where
     rest : State
-    rest = if is_stable statements layers l.space then stable_state (offer_in statements layers l) l.threads else Suspended
+    rest = if is_stable statements layers known l.space then stable_state (offer_in statements layers known l) l.threads else Suspended
 
-    go : (b : Bool) → (if b then stable_state (offer_in statements layers l) l.threads else Suspended) ≡ Running → ⊥
-    go true e = stable_not (offer_in statements layers l) l.threads e
+    go : (b : Bool) → (if b then stable_state (offer_in statements layers known l) l.threads else Suspended) ≡ Running → ⊥
+    go true e = stable_not (offer_in statements layers known l) l.threads e
     go false e = cc
 
-not_running : (statements : List Statement) (layers : List Layer) (l : Layer) (s : Status) → goes_on statements layers l.space ≡ false → state_by statements layers l s ≡ Running → ⊥
-not_running statements layers l status.Open not_going e = open_not statements layers l not_going e
-not_running statements layers l status.Failed not_going e = cc
-not_running statements layers l (status.Raised x) not_going e = cc
+not_running : (statements : List Statement) (layers : List Layer) (known : States) (l : Layer) (s : Status) → subtree_goes_on statements layers known l.space ≡ false
+    → state_by statements layers known l s ≡ Running → ⊥
+not_running statements layers known l status.Open not_going e = open_not statements layers known l not_going e
+not_running statements layers known l status.Failed not_going e = cc
+not_running statements layers known l (status.Raised x) not_going e = cc
+not_running statements layers known l status.Merged not_going e = cc
 
-no_state : (statements : List Statement) (layers : List Layer) (space : List ℕ) → goes_on statements layers space ≡ false → (o : Option Layer) → layer_at layers space ≡ o
-    → option_map (λ (l : Layer). state_by statements layers l l.status) o ≡ Some Running → ⊥
-no_state statements layers space not_going None there e = cc
-no_state statements layers space not_going (Some l) there e =
-    let same : l.space ≡ space = (list_eq-decides l.space space).0 (find_holds (is_of space) layers l there) in
-    not_running statements layers l l.status (ap (goes_on statements layers) same ∙ not_going) (same_Some _ _ e)
+-- the first layer of the name, among those behind others
+no_state : (statements : List Statement) (layers : List Layer) (space : List ℕ) → is_ascending (names_of layers) ≡ true → goes_on statements layers space ≡ false
+    → (front ls : List Layer) → layers ≡ front ++ ls → state_in (states_behind statements layers ls) space ≡ Some Running → ⊥
+no_state statements layers space ordered not_going front [] parts e = cc
+no_state statements layers space ordered not_going front (l ∷ ls) parts e =
+    by (list_eq l.space space) refl (no_state statements layers space ordered not_going (front ++ l ∷ []) ls (parts ∙ sym (append_assoc front (l ∷ []) ls))) e
+  where
+    behind : l.space ≡ space → subtree_goes_on statements layers (states_behind statements layers ls) l.space ≡ false
+    behind same = behind_goes_on statements layers front ls l parts ordered ∙ ap (goes_on statements layers) same ∙ not_going
+
+    here : List ℕ × State
+    here = (l.space, state_by statements layers (states_behind statements layers ls) l l.status)
+
+    by : (b : Bool) → list_eq l.space space ≡ b → (state_in (states_behind statements layers ls) space ≡ Some Running → ⊥)
+        → option_map (λ (s : List ℕ × State). s.1) (cond b (Some here) (find (λ (s : List ℕ × State). list_eq s.0 space) (states_behind statements layers ls))) ≡ Some Running → ⊥
+    by true own rest k = not_running statements layers (states_behind statements layers ls) l l.status (behind ((list_eq-decides l.space space).0 own)) (same_Some _ _ k)
+    by false own rest k = rest k
 
 pub state_law : StateLaw
-state_law k space c fuel d left queued e running = no_state k.statements d.layers space (rest_law k space c fuel d left queued e).0 (layer_at d.layers space) refl running
+state_law k space c fuel d left queued e ordered running =
+    no_state k.statements d.layers space ordered (rest_law k space c fuel d left queued e).0 [] d.layers refl running
 
 -- ---- nor in any node
 node_in : Met Configuration Outcome → Reached Configuration Outcome → Reached Configuration Outcome

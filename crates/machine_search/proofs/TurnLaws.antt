@@ -5,17 +5,16 @@ use Rattle.oz_language.specs.declared.kernel.Statement.{Statement}
 use Rattle.oz_language.specs.declared.kernel.Kernel.{Kernel}
 use Rattle.oz_semantics.specs.Names.{is_top}
 use Rattle.oz_semantics.specs.Store.{is_consistent}
-use Rattle.oz_semantics.specs.Configurations.{layer_of, stack_of, view, in_layer, with_frames, without_terminated, ending}
-use Rattle.oz_semantics.specs.Answers.{Answer, Acts, RaisesKind, RaisesTerm, Rests}
-use Rattle.oz_semantics.specs.Statements.{stack_answer}
-use Rattle.oz_semantics.specs.Spaces.{sight}
-use Rattle.oz_semantics.specs.Changes.{Change, changed_all, done}
+use Rattle.oz_semantics.specs.Configurations.{layer_of, stack_of, view, in_layer, with_frames, without_terminated, telling, ending}
+use Rattle.oz_semantics.specs.Answers.{Edit, Answer, Acts, Edits, RaisesKind, RaisesTerm, Operates, Rests}
+use Rattle.oz_semantics.specs.Spaces.{states_of, answer_in}
+use Rattle.oz_semantics.specs.Changes.{changed_all}
 use Rattle.oz_semantics.specs.Effects.{Effect, Makes, Tells, ShowsText, act_effect}
 use Rattle.oz_semantics.specs.Exceptions.{unwound}
 use Rattle.oz_semantics.specs.Texts.{Printed, term_text}
 use Rattle.oz_semantics.specs.Triggers.{triggered}
 use Rattle.oz_semantics.specs.Settling.{Turned, term_variable, with_raised, top_is_inconsistent, without_inconsistent, runnable, requeued, settled, top_failed}
-use Rattle.oz_semantics.specs.Steps.{went_on, ended_by, uncaught, raised_to, raised, told, shown_by, after_effect, after_answer, without_top, stepped}
+use Rattle.oz_semantics.specs.Steps.{went_on, ended_by, uncaught, raised_to, raised, told, shown_by, after_effect, edit_tells, edited, after_edit, after_answer, without_top, stepped}
 use Rattle.oz_semantics.specs.Schedule.{turn_of, turn}
 use Rattle.oz_semantics.specs.declared.value.Tell.{Tell}
 use Rattle.oz_semantics.specs.declared.configuration.Frame.{Frame}
@@ -61,9 +60,9 @@ module _ (k : Kernel) (id : Ident) where
   raised_step : (x : Ident) (layers : List Layer) (c : Configuration) → IsStep k.statements (raised k.statements id x layers c)
   raised_step x layers c = raised_to_step x (unwound x (stack_of layers id)) layers c
 
-  told_step : (ts : List Tell) (changes : List Change) (layers : List Layer) (c : Configuration) → IsStep k.statements (told k.statements id ts changes layers c)
-  told_step ts changes layers c =
-      either k.statements (is_consistent (view layers id.space ++ ts)) _ _ (went_on_step 1 (done id ts changes layers) c (omega arith))
+  told_step : (ts : List Tell) (change : List Layer → List Layer) (layers : List Layer) (c : Configuration) → IsStep k.statements (told k.statements id ts change layers c)
+  told_step ts change layers c =
+      either k.statements (is_consistent (view layers id.space ++ ts)) _ _ (went_on_step 1 (change (in_layer id.space (telling ts) layers)) c (omega arith))
       (raised_step (term_variable layers id.space) (with_raised FailureTell id.space layers) c)
 
   shown_step : (printed : Printed) (layers : List Layer) (c : Configuration) → IsStep k.statements (shown_by k.statements id printed layers c)
@@ -71,17 +70,22 @@ module _ (k : Kernel) (id : Ident) where
 
   effect_step : (layers : List Layer) (c : Configuration) (e : Effect) → IsStep k.statements (after_effect k id layers c e)
   effect_step layers c (Makes changes) = went_on_step 1 (changed_all id changes layers) c (omega arith)
-  effect_step layers c (Tells ts changes) = told_step ts changes layers c
+  effect_step layers c (Tells ts changes) = told_step ts (changed_all id changes) layers c
   effect_step layers c (ShowsText x) = shown_step (term_text k.words (view layers id.space) x) layers c
+
+  edit_step : (edit : Edit) (layers : List Layer) (c : Configuration) → IsStep k.statements (after_edit k.statements id edit layers c)
+  edit_step edit layers c = told_step (edit_tells layers (layer_of layers id.space) edit) (edited k.statements id.space edit) layers c
 
   answer_step : (layers : List Layer) (c : Configuration) (a : Answer) → IsStep k.statements (after_answer k id layers c a)
   answer_step layers c (Acts act) = effect_step layers c (act_effect (layer_of layers id.space) act)
+  answer_step layers c (Edits edit) = edit_step edit layers c
   answer_step layers c (RaisesKind kind) = raised_step (term_variable layers id.space) (with_raised kind id.space layers) c
   answer_step layers c (RaisesTerm x) = raised_step x layers c
+  answer_step layers c (Operates op space x) = settled_step k.statements (Some id) 1 c (omega arith)
   answer_step layers c (Rests ready) = settled_step k.statements (Some id) 1 c (omega arith)
 
   pub stepped_step : (c : Configuration) → IsStep k.statements (stepped k id c)
-  stepped_step c = answer_step (without_top id c.layers) c (stack_answer (sight k.statements c.layers id.space) (stack_of c.layers id))
+  stepped_step c = answer_step (without_top id c.layers) c (answer_in k.statements c.layers (states_of k.statements c.layers) id.space (stack_of c.layers id))
 
 -- a turn makes a step, or else the queue is empty
 pub turn_step : (k : Kernel) (c : Configuration) (id : Ident) (queue : List Ident) → IsStep k.statements (turn_of k c (id ∷ queue))

@@ -12,6 +12,7 @@ use Rattle.oz_semantics.specs.Runs.{left_by, opening, Ended, run}
 use Rattle.oz_semantics.specs.Search.{with_root, chosen_in, maker}
 use Rattle.oz_semantics.specs.declared.configuration.Configuration.{Configuration}
 use Rattle.oz_semantics.specs.declared.outcome.State.TheVariants.{Running}
+use Rattle.view_laws.specs.Trees.{is_ascending, names_of}
 
 -- each thread that can step stands in the queue
 abbrev pub IsQueued : List Statement → Configuration → Type 0
@@ -43,11 +44,11 @@ RestLaw =
     (k : Kernel) (space : List ℕ) (c : Configuration) (fuel : ℕ) (d : Configuration) (left : ℕ) → IsSettled k.statements c → run k space c fuel ≡ Ended d left
     → (goes_on k.statements d.layers space ≡ false) × IsSettled k.statements d
 
--- so the space does not run
+-- so the space does not run, where the layers stand in the order of names: a state goes by the layers behind it
 abbrev pub StateLaw : Type 0
 StateLaw =
     (k : Kernel) (space : List ℕ) (c : Configuration) (fuel : ℕ) (d : Configuration) (left : ℕ) → IsSettled k.statements c → run k space c fuel ≡ Ended d left
-    → state k.statements d.layers space ≡ Some Running → ⊥
+    → is_ascending (names_of d.layers) ≡ true → state k.statements d.layers space ≡ Some Running → ⊥
 
 -- and nothing of it can step in any node below a configuration in which it was just made
 abbrev pub NodesLaw : Type 0

@@ -46,6 +46,7 @@ fired_child l m f = ap (λ (n : Next). n.child) f.next
 pub fired_tree : FiredTree
 fired_tree layers after f tree = record {
   ordered = ap is_ascending (fired_names layers after f) ∙ tree.ordered;
+  begins = λ m c. let r = fired_of layers after f m (In-from_contains after m c) in still_begins r.0 m r.2 (tree.begins r.0 (contains-from_In layers r.0 r.1));
   given = λ m c top.
       let r = fired_of layers after f m (In-from_contains after m c) in
       let same : r.0.space ≡ m.space = sym r.2.space in
@@ -55,6 +56,9 @@ fired_tree layers after f tree = record {
   where
     kept : (p q : Layer) → Fires p q → p.next.child ≤ q.next.child
     kept p q g = omega (arith, fired_child p q g)
+
+    still_begins : (p q : Layer) → Fires p q → 1 ≤ p.next.child → 1 ≤ q.next.child
+    still_begins p q g h = omega (arith, fired_child p q g, h)
 
 -- Looking up
 
@@ -128,8 +132,15 @@ module _ (l m : Layer) (f : Fires l m) (numbered : IsNumbered l) where
   in_one n (inl h) = let p = old_below n h in omega (arith, p, next_after)
   in_one n (inr h) = let q = begun_at l.next.thread f.begun n h in omega (arith, q.below, next_after)
 
+  -- the numbers that were counted before, or come behind them
+  counted_one : (n : ℕ) → In n (map number_in l.threads) ⊎ In n (map number_in news) → 1 ≤ n
+  counted_one n (inl h) = let r = in_map number_in l.threads n h in subst (λ k. 1 ≤ k) r.2 (numbered.counted r.0 (contains-from_In l.threads r.0 r.1))
+  counted_one n (inr h) = let q = begun_at l.next.thread f.begun n h in omega (arith, q.from, numbered.begins)
+
   numbers_after : IsNumbered m
   numbers_after = record {
+    begins = omega (arith, next_after, numbered.begins);
+    counted = λ t c. counted_one t.number (In-cases t.number (map number_in l.threads) (map number_in news) (subst (In t.number) all_numbers (map_in number_in m.threads t (In-from_contains m.threads t c))));
     rising = numbers_rise;
     given = λ t c. in_one t.number (In-cases t.number (map number_in l.threads) (map number_in news) (subst (In t.number) all_numbers (map_in number_in m.threads t (In-from_contains m.threads t c))));
   }

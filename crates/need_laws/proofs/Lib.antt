@@ -1,3 +1,4 @@
 pub mod FireLaws
 pub mod AfterLaws
+pub mod StateLaws
 pub mod RoundLaws

@@ -1,5 +1,5 @@
 -- Rounds of triggers that are needed: how many there are, and which layers they leave as they are.
-use Rattle.std.proofs.Common.{◌≡◌, inl, inr, ℕ, zero, suc, ◌+◌, ◌≤◌, Bool, true, false, not, ◌&&◌, ◌||◌, cond, if◌then◌else◌, List, [], ◌∷◌, refl, sym, ap, ap₂, ◌∙◌, arith, Some, length, filter, map, flat_map}
+use Rattle.std.proofs.Common.{◌≡◌, inl, inr, ℕ, zero, suc, ◌+◌, ◌≤◌, Bool, true, false, not, ◌&&◌, ◌||◌, cond, if◌then◌else◌, List, [], ◌∷◌, refl, sym, ap, ap₂, ◌∙◌, arith, Some, length, filter, map}
 use Rattle.std.specs.List.{list_any, find, fold, sum_by}
 use Rattle.std.proofs.lemmas.Bool.{false≢true}
 use Rattle.std.proofs.lemmas.List.Sums.{sum_by-cons}
@@ -7,9 +7,9 @@ use Rattle.std.proofs.lemmas.List.Filters.{length-filter_both}
 use Rattle.oz_base.specs.Lists.{is_empty, list_eq}
 use Rattle.oz_language.specs.declared.kernel.Statement.{Statement}
 use Rattle.oz_semantics.specs.Store.{View}
+use Rattle.oz_base.specs.declared.names.Ident.{Ident}
 use Rattle.oz_semantics.specs.Configurations.{is_of, is_open, view}
-use Rattle.oz_semantics.specs.Sights.{waits_of}
-use Rattle.oz_semantics.specs.Readiness.{thread_ready}
+use Rattle.oz_semantics.specs.Spaces.{states_of, waited_in}
 use Rattle.oz_semantics.specs.Triggers.{is_needed, is_needed_in, beginning, fired, has_needed, fired_for}
 use Rattle.oz_semantics.specs.declared.configuration.Trigger.{Trigger}
 use Rattle.oz_semantics.specs.declared.configuration.Layer.{Layer}
@@ -20,6 +20,7 @@ use Rattle.view_laws.proofs.ListLaws.{filter_all, filter_none}
 use Rattle.need_laws.specs.Needs.{has_triggers, NoneThere, NoneLeft, UnneededStays}
 use Rattle.need_laws.proofs.FireLaws.{fires_fired, all_round}
 use Rattle.need_laws.proofs.AfterLaws.{fired_view}
+use Rattle.need_laws.proofs.StateLaws.{layer_waits, live_fired}
 
 -- Tests of which none passes
 
@@ -110,13 +111,13 @@ none_left statements layers = none_for statements (sum_by count layers) layers (
 
 -- A layer of which none is needed
 
--- it goes by what the layer's space sees
-abbrev needed_by : List Statement → Layer → View → Bool
-needed_by statements l v =
-    list_any (λ t. is_open l.status && is_needed v (flat_map waits_of (if is_open l.status then map (thread_ready (record { statements = statements; space = l.space; view = v })) l.threads else [])) t) l.triggers
+-- it goes by what the layer's space sees, and what its threads wait for
+abbrev needed_by : Layer → View → List Ident → Bool
+needed_by l v waited = list_any (λ t. is_open l.status && is_needed v waited t) l.triggers
 
-pub needed_same : (statements : List Statement) (layers after : List Layer) (l : Layer) → view after l.space ≡ view layers l.space → has_needed statements after l ≡ has_needed statements layers l
-needed_same statements layers after l e = ap (needed_by statements l) e
+pub needed_same : (statements : List Statement) (layers after : List Layer) (l : Layer) → view after l.space ≡ view layers l.space
+    → waited_in statements after (states_of statements after) l ≡ waited_in statements layers (states_of statements layers) l → has_needed statements after l ≡ has_needed statements layers l
+needed_same statements layers after l seen waited = ap₂ (needed_by l) seen waited
 
 unneeded_same : (statements : List Statement) (layers : List Layer) (l : Layer) → has_needed statements layers l ≡ false → fired statements layers l ≡ l
 unneeded_same statements layers l e =
@@ -140,10 +141,14 @@ stays_for : (statements : List Statement) (n : ℕ) (layers : List Layer) (space
 unfolding fired_for
 stays_for statements zero layers space l at e = at
 stays_for statements (suc n) layers space l at e =
+    let after : List Layer = map (fired statements layers) layers in
+    let seen : view after l.space ≡ view layers l.space = fired_view layers after l.space (all_round statements layers) in
+    let waited : waited_in statements after (states_of statements after) l ≡ waited_in statements layers (states_of statements layers) l =
+    layer_waits statements layers after (states_of statements layers) (states_of statements after) l seen (live_fired statements layers after (all_round statements layers)) in
     by (list_any (has_needed statements layers) layers)
-    (stays_for statements n (map (fired statements layers) layers) space l
+    (stays_for statements n after space l
     (found_map (fired statements layers) (λ k. (fires_fired statements layers k).space) space layers l at ∙ ap (λ (m : Layer). Some m) (unneeded_same statements layers l e))
-    (needed_same statements layers (map (fired statements layers) layers) l (fired_view layers (map (fired statements layers) layers) l.space (all_round statements layers)) ∙ e))
+    (needed_same statements layers after l seen waited ∙ e))
   where
     by : (b : Bool) → find (is_of space) (fired_for statements n (map (fired statements layers) layers)) ≡ Some l
         → find (is_of space) (if b then fired_for statements n (map (fired statements layers) layers) else layers) ≡ Some l

@@ -5,6 +5,7 @@ ghost use Rattle.environments.specs.Environments.{Environment, binding_all};
 ghost use Rattle.oz_semantics.specs.Names.{named};
 ghost use Rattle.oz_semantics.specs.Terms.{list_term, term_tells};
 ghost use Rattle.oz_semantics.specs.Configurations.{layer_of, layer_at};
+ghost use Rattle.oz_raise.specs.Nodes.{term_of};
 ghost use Rattle.oz_semantics.specs.Effects.{act_effect};
 ghost use Rattle.oz_semantics.specs.Steps.{without_top};
 ghost use Rattle.oz_semantics.specs.Answers as answers;
@@ -17,7 +18,7 @@ use builtins::{Act, Closure, Declaration};
 use environments::Environment;
 use oz_base::{Copies, Ident, Sequence, Shared, SpaceName};
 use oz_language::{Constant, Identifier};
-use oz_raise::{list_term, term_tells};
+use oz_raise::{Node, list_term, term_tells};
 use oz_semantics::{Procedure, Tell, Value};
 use space_core::{Given, Levels};
 use statements::frames_of;
@@ -72,6 +73,24 @@ fn declare(
     levels.declare(id, frames, names.len() as u64)
 }
 
+/// The variable is the term of these nodes.
+pub fn give_term(
+    alloc: Global,
+    levels: &mut Levels,
+    id: &Ident,
+    variable: &Ident,
+    nodes: &[Node],
+) -> Result<bool, AllocError>
+    requires { is_some (layer_at levels.old id.now.space) ≡ true }
+    ensures ok { IfOk result (IsDone id.now (act_effect (layer_of levels.old id.now.space) (answers.GivesTerm variable.now (term_of nodes.now))) levels.old levels.new) }
+    ensures err { OnErr result (levels.new ≡ levels.old) }
+{
+    let next = next_of(levels, &id.space);
+    let tells = term_tells(alloc, &id.space, next.variable, variable, nodes)?;
+    let count = nodes.len().saturating_sub(1) as u64;
+    levels.tell_by(alloc, id, &tells, Given::Variables(count))
+}
+
 /// The variable is the list of these.
 fn give_list(
     alloc: Global,
@@ -84,11 +103,8 @@ fn give_list(
     ensures ok { IfOk result (IsDone id.now (act_effect (layer_of levels.old id.now.space) (answers.GivesTerm variable.now (list_term items.now))) levels.old levels.new) }
     ensures err { OnErr result (levels.new ≡ levels.old) }
 {
-    let next = next_of(levels, &id.space);
     let nodes = list_term(alloc, items)?;
-    let tells = term_tells(alloc, &id.space, next.variable, variable, &nodes)?;
-    let count = nodes.len().saturating_sub(1) as u64;
-    levels.tell_by(alloc, id, &tells, Given::Variables(count))
+    give_term(alloc, levels, id, variable, &nodes)
 }
 
 /// A copy of the environment, with room for the new variables of a procedure that keeps it.

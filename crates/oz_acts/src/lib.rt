@@ -6,7 +6,7 @@ mod acts;
 mod numbers;
 mod objects;
 
-pub use acts::{act, is_quiet, started, take_off};
+pub use acts::{act, give_term, is_quiet, started, take_off};
 pub use numbers::next_of;
 
 #[cfg(test)]

@@ -9,7 +9,8 @@ use Rattle.oz_semantics.specs.Answers as answers
 use Rattle.oz_semantics.specs.Configurations.{layer_at, layer_of, stack_of}
 use Rattle.oz_semantics.specs.Changes.{changed_all}
 use Rattle.oz_semantics.specs.Effects.{declared_changes}
-use Rattle.oz_semantics.specs.Spaces.{sight}
+use Rattle.oz_semantics.specs.Spaces.{sight, states_of}
+use Rattle.oz_semantics.specs.Operations.{by_state}
 use Rattle.oz_semantics.specs.Statements.{stack_answer}
 use Rattle.oz_semantics.specs.Steps.{after_answer, after_effect, stepped, went_on, without_top}
 use Rattle.oz_semantics.specs.Settling.{Turned}
@@ -40,6 +41,6 @@ pub declaration_made : (k : Kernel) (id : Ident) (names : List Identifier) (body
     → ◌≡◌ {A = Turned} (stepped k id c) (went_on k.statements id 1 new c)
 declaration_made k id names body c d new there made =
     let act = answers.Declares d.frame.environment names body in
-    ap (after_answer k id (without_top id c.layers) c) (answers_so k.statements c.layers id names body d)
+    ap (λ a. after_answer k id (without_top id c.layers) c (by_state c.layers (sight k.statements c.layers id.space) (states_of k.statements c.layers) a)) (answers_so k.statements c.layers id names body d)
     ∙ ap (after_effect k id (without_top id c.layers) c) (effect_popped id c.layers act there)
     ∙ ap (λ (ls : List Layer). went_on k.statements id 1 ls c) (sym made)

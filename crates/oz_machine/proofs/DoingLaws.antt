@@ -14,8 +14,7 @@ use Rattle.oz_semantics.specs.Changes.{done}
 use Rattle.oz_semantics.specs.Exceptions.{new_term_tells}
 use Rattle.oz_semantics.specs.Triggers.{triggered}
 use Rattle.oz_semantics.specs.Settling.{Turned, inconsistent_spaces, settled, top_failed, top_is_inconsistent, requeued, without_inconsistent}
-use Rattle.oz_semantics.specs.Statements.{stack_answer}
-use Rattle.oz_semantics.specs.Spaces.{sight}
+use Rattle.oz_semantics.specs.Spaces.{states_of, answer_in}
 use Rattle.oz_semantics.specs.Store.{View, is_consistent}
 use Rattle.oz_semantics.specs.Steps.{after_effect, after_answer, went_on, raised_kind, without_top, stepped}
 use Rattle.oz_semantics.specs.declared.value.Tell.{Tell}
@@ -112,4 +111,4 @@ settled_cost statements mover cost c = by (top_is_inconsistent c.layers)
 -- a thread of a space that is not there can't step
 pub nowhere_rests : (k : Kernel) (id : Ident) (c : Configuration) → layer_at c.layers id.space ≡ None → ◌≡◌ {A = Turned} (stepped k id c) (settled k.statements (Some id) 1 c)
 nowhere_rests k id c e =
-    ap (λ (o : Option Layer). after_answer k id (without_top id c.layers) c (stack_answer (sight k.statements c.layers id.space) (frames_in (thread_at (unwrap_or o (new_layer id.space)).threads id.number)))) e
+    ap (λ (o : Option Layer). after_answer k id (without_top id c.layers) c (answer_in k.statements c.layers (states_of k.statements c.layers) id.space (frames_in (thread_at (unwrap_or o (new_layer id.space)).threads id.number)))) e

@@ -12,8 +12,8 @@ use Rattle.oz_semantics.specs.Names.{named}
 use Rattle.oz_semantics.specs.Configurations.{is_of, layer_at, layer_of, thread_at, frames_in, is_open, in_layer, with_frames, without_terminated, new_layer}
 use Rattle.oz_semantics.specs.Sights.{Sight, can_step}
 use Rattle.oz_semantics.specs.Statements.{stack_answer}
-use Rattle.oz_semantics.specs.Readiness.{answer_ready, thread_ready}
-use Rattle.oz_semantics.specs.Spaces.{sight}
+use Rattle.oz_semantics.specs.Readiness.{answer_ready}
+use Rattle.oz_semantics.specs.Spaces.{sight, states_of, thread_ready}
 use Rattle.oz_semantics.specs.Changes.{Change, Pushes, Spawns, Holds, AddsTrigger, changed_all}
 use Rattle.oz_semantics.specs.Answers.{Act, Passes, GoesOn, Declares, Starts, GivesValue, GivesTerm, GivesVariable, MakesProcedure, MakesName, MakesCell, Reads, Writes, Exchanges, MakesPort, Sends, Delays, Shows}
 use Rattle.oz_semantics.specs.Effects.{Makes, declared_changes, act_effect}
@@ -35,6 +35,8 @@ use Rattle.oz_base.specs.ListLaws.{list_eq-equivalence}
 use Rattle.oz_laws.proofs.SameLaws.{ident_eq-refl}
 use Rattle.view_laws.specs.Queues.{AreNew}
 use Rattle.view_laws.specs.Needs.{NoneNeeded}
+use Rattle.view_laws.specs.Spaceless.{has_spaces}
+use Rattle.view_laws.proofs.SpacelessLaws.{spaceless_ready, quiet_spaceless}
 use Rattle.oz_semantics.specs.declared.configuration.Status.{Status}
 use Rattle.view_laws.specs.Steps.{MadeOf}
 use Rattle.view_laws.proofs.NumberLaws.{step_new}
@@ -50,21 +52,22 @@ use Rattle.oz_acts.proofs.PlaceLaws.{layer_of_name}
 
 -- What the first statement of a thread can do
 
-holds_frames : (s : Sight) (o : Option Thread) → holds_of (λ (t : Thread). can_step (thread_ready s t)) o ≡ can_step (answer_ready (stack_answer s (frames_in o)))
-holds_frames s None = refl
-holds_frames s (Some t) = refl
+holds_frames : (statements : List Statement) (layers : List Layer) (space : List ℕ) (o : Option Thread) → has_spaces layers ≡ false
+    → holds_of (λ (t : Thread). can_step (thread_ready statements layers space t)) o ≡ can_step (answer_ready (stack_answer (sight statements layers space) (frames_in o)))
+holds_frames statements layers space None none = refl
+holds_frames statements layers space (Some t) none = ap can_step (spaceless_ready statements layers (states_of statements layers) space t none)
 
 -- in an open space this alone tells whether the thread is among those that can step
-able_alone : (statements : List Statement) (layers : List Layer) (id : Ident) → AreOrderly layers → is_open (layer_of layers id.space).status ≡ true
+able_alone : (statements : List Statement) (layers : List Layer) (id : Ident) → has_spaces layers ≡ false → AreOrderly layers → is_open (layer_of layers id.space).status ≡ true
     → is_among (runnable statements layers) id ≡ top_steps statements layers id
-able_alone statements layers id good opened =
+able_alone statements layers id none good opened =
     mover_alone statements layers id good
-    ∙ ap (λ (b : Bool). b && holds_of (λ (t : Thread). can_step (thread_ready (sight statements layers id.space) t)) (thread_at (layer_of layers id.space).threads id.number)) opened
-    ∙ holds_frames (sight statements layers id.space) (thread_at (layer_of layers id.space).threads id.number)
+    ∙ ap (λ (b : Bool). b && holds_of (λ (t : Thread). can_step (thread_ready statements layers id.space t)) (thread_at (layer_of layers id.space).threads id.number)) opened
+    ∙ holds_frames statements layers id.space (thread_at (layer_of layers id.space).threads id.number) none
 
-pub mover_joins : (statements : List Statement) (layers : List Layer) (id : Ident) → AreOrderly layers → is_open (layer_of layers id.space).status ≡ true
+pub mover_joins : (statements : List Statement) (layers : List Layer) (id : Ident) → has_spaces layers ≡ false → AreOrderly layers → is_open (layer_of layers id.space).status ≡ true
     → mover_in (Some id) (runnable statements layers) ≡ able_in statements layers id
-mover_joins statements layers id good opened = ap (λ (b : Bool). if b then id ∷ [] else []) (able_alone statements layers id good opened)
+mover_joins statements layers id none good opened = ap (λ (b : Bool). if b then id ∷ [] else []) (able_alone statements layers id none good opened)
 
 -- a thread without statements can do nothing
 pub empty_steps : (s : Sight) (frames : List Frame) → None ≡ first frames → false ≡ can_step (answer_ready (stack_answer s frames))
@@ -149,9 +152,9 @@ one_named space (t ∷ u ∷ ts) n e = absurd (cc)
 -- the name, the status and the threads of a layer decide which of its threads can step
 same_runnable : (statements : List Statement) (layers : List Layer) (a b : Layer) → a.space ≡ b.space → a.status ≡ b.status → a.threads ≡ b.threads → runnable_in statements layers a ≡ runnable_in statements layers b
 same_runnable statements layers a b space status threads =
-    ap (λ (k : Status). if is_open k then map (λ (t : Thread). named a.space t.number) (filter (λ t. can_step (thread_ready (sight statements layers a.space) t)) a.threads) else []) status
-    ∙ ap (λ s. if is_open b.status then map (λ (t : Thread). named s t.number) (filter (λ t. can_step (thread_ready (sight statements layers s) t)) a.threads) else []) space
-    ∙ ap (λ ts. if is_open b.status then map (λ (t : Thread). named b.space t.number) (filter (λ t. can_step (thread_ready (sight statements layers b.space) t)) ts) else []) threads
+    ap (λ (k : Status). if is_open k then map (λ (t : Thread). named a.space t.number) (filter (λ t. can_step (thread_ready statements layers a.space t)) a.threads) else []) status
+    ∙ ap (λ s. if is_open b.status then map (λ (t : Thread). named s t.number) (filter (λ t. can_step (thread_ready statements layers s t)) a.threads) else []) space
+    ∙ ap (λ ts. if is_open b.status then map (λ (t : Thread). named b.space t.number) (filter (λ t. can_step (thread_ready statements layers b.space t)) ts) else []) threads
 
 or_false : (a b : Bool) → (a || b) ≡ false → (a ≡ false) × (b ≡ false)
 or_false true b e = absurd (cc)
@@ -165,8 +168,16 @@ not_mover : (b : Bool) (id n : Ident) → ident_eq n id ≡ false → is_among (
 not_mover true id n e = ap (λ (c : Bool). c || false) e
 not_mover false id n e = refl
 
+-- no step without a tell makes a space a value, or ends that
+made_spaceless : (id : Ident) (layers result : List Layer) (before : Layer) (news : List Thread) → MadeOf id layers result before news → layer_at layers id.space ≡ Some before → has_spaces result ≡ false → has_spaces layers ≡ false
+made_spaceless id layers result before news made at none =
+    sym (ap has_spaces made.left ∙ quiet_spaceless (λ l. made.after) layers id.space (λ l e. made.steps.tells ∙ ap (λ (m : Layer). m.tells) (one l e))) ∙ none
+  where
+    one : (l : Layer) → layer_at layers id.space ≡ Some l → before ≡ l
+    one l e = let said : Some before ≡ Some l = sym at ∙ e in cc
+
 module _ (statements : List Statement) (id : Ident) (layers result : List Layer) (queue : List Ident) (shown : List (List ℕ)) (changes : List Change)
-    (head : IsHead statements id layers queue shown) (left : result ≡ in_layer id.space without_terminated (changed_all id changes (without_top id layers))) where
+    (head : IsHead statements id layers queue shown) (spaceless : has_spaces result ≡ false) (left : result ≡ in_layer id.space without_terminated (changed_all id changes (without_top id layers))) where
   abbrev before : Layer
   before = layer_of layers id.space
 
@@ -182,6 +193,9 @@ module _ (statements : List Statement) (id : Ident) (layers result : List Layer)
   made : MadeOf id layers result before news
   made = subst (λ ls. MadeOf id layers ls before news) (sym left) (changes_made id changes layers before there.layer there.thread)
 
+  spaceless_before : has_spaces layers ≡ false
+  spaceless_before = made_spaceless id layers result before news made there.layer spaceless
+
   good : AreOrderly result
   good = subst AreOrderly (sym left) (changes_orderly id changes layers (kept_layers statements (record c { queue = id ∷ queue }) head))
 
@@ -196,13 +210,13 @@ module _ (statements : List Statement) (id : Ident) (layers result : List Layer)
   able_news = runnable_in statements result (record before { threads = news })
 
   abbrev steps_there : Thread → Bool
-  steps_there t = can_step (thread_ready (sight statements result before.space) t)
+  steps_there t = can_step (thread_ready statements result before.space t)
 
   -- of the queue after the step these are what is neither of the rest nor the thread itself
   queue_is : queue_after ids (Some id) queue ≡ queue ++ mover_in (Some id) ids ++ able_news
   queue_is =
       ap (λ ls. queue_after (runnable statements ls) (Some id) queue) made.left
-      ∙ quiet_queue statements layers id queue before made.after news there.layer made.steps head.exact head.once new_ones
+      ∙ quiet_queue statements layers id queue before made.after news spaceless_before there.layer made.steps head.exact head.once new_ones
       ∙ ap (λ ls. queue ++ mover_in (Some id) (runnable statements ls) ++ runnable_in statements ls (record made.after { threads = news })) (sym made.left)
       ∙ ap (λ xs. queue ++ mover_in (Some id) ids ++ xs) (same_runnable statements result (record made.after { threads = news }) (record before { threads = news }) made.steps.space made.steps.status refl)
     where
@@ -227,7 +241,7 @@ module _ (statements : List Statement) (id : Ident) (layers result : List Layer)
       ∙ ap (λ b. b || is_among able_news n)
       (among_append queue (mover_in (Some id) ids) n ∙ ap (λ b. b || is_among (mover_in (Some id) ids) n) apart.1 ∙ not_mover (is_among ids id) id n apart.0) in
       let as_open : is_open (layer_of result n.space).status ≡ true = subst (λ s. is_open (layer_of result s).status ≡ true) (ap (λ (i : Ident). i.space) e) opened in
-      alone ∙ ap (λ (b : Bool). if b then n ∷ [] else []) (sym counted ∙ able_alone statements result n good as_open)
+      alone ∙ ap (λ (b : Bool). if b then n ∷ [] else []) (sym counted ∙ able_alone statements result n spaceless good as_open)
 
   news_join : (started : Option Ident) → names_in id.space news ≡ option_to_list started → able_news ≡ able_of statements result started
   news_join None e = ap (λ ts. runnable_in statements result (record before { threads = ts })) (none_named id.space news e) ∙ none_open (is_open before.status)
@@ -236,26 +250,26 @@ module _ (statements : List Statement) (id : Ident) (layers result : List Layer)
 -- a step that made changes
 pub quiet_turn : (statements : List Statement) (id : Ident) (layers old new : List Layer) (queue after : List Ident) (shown : List (List ℕ)) (changes : List Change) (started : Option Ident) (cost : ℕ)
     → IsHead statements id layers queue shown → old ≡ changed_all id changes (without_top id layers) → names_in id.space (news_of (layer_of layers id.space) changes) ≡ option_to_list started
-    → new ≡ in_layer id.space without_terminated old → NoneNeeded statements new → after ≡ (queue ++ able_in statements new id) ++ able_of statements new started
+    → new ≡ in_layer id.space without_terminated old → NoneNeeded statements new → has_spaces new ≡ false → after ≡ (queue ++ able_in statements new id) ++ able_of statements new started
     → ◌≡◌ {A = Turned} (went_on statements id cost old (record { layers = old; queue = queue; shown = shown })) (Moved cost, record { layers = new; queue = after; shown = shown })
-quiet_turn statements id layers old new queue after shown changes started cost head is names left none joined =
+quiet_turn statements id layers old new queue after shown changes started cost head is names left none spaceless joined =
     let result : new ≡ in_layer id.space without_terminated (changed_all id changes (without_top id layers)) = left ∙ ap (in_layer id.space without_terminated) is in
     let c : Configuration = record { layers = layers; queue = queue; shown = shown } in
     let same : queue ++ mover_in (Some id) (runnable statements new) ++ runnable_in statements new (record (layer_of layers id.space) { threads = news_of (layer_of layers id.space) changes }) ≡ after
     = ap (λ xs. queue ++ xs ++ runnable_in statements new (record (layer_of layers id.space) { threads = news_of (layer_of layers id.space) changes }))
-    (mover_joins statements new id (good statements id layers new queue shown changes head result) (opened statements id layers new queue shown changes head result))
-    ∙ ap (λ xs. queue ++ able_in statements new id ++ xs) (news_join statements id layers new queue shown changes head result started names)
+    (mover_joins statements new id spaceless (good statements id layers new queue shown changes head spaceless result) (opened statements id layers new queue shown changes head spaceless result))
+    ∙ ap (λ xs. queue ++ able_in statements new id ++ xs) (news_join statements id layers new queue shown changes head spaceless result started names)
     ∙ sym joined in
     ap (λ ls. went_on statements id cost ls (record c { layers = ls })) is
-    ∙ kept_changes statements c id queue changes cost head new result none
+    ∙ kept_changes statements c id queue changes cost head (spaceless_before statements id layers new queue shown changes head spaceless result) new result none
     ∙ ap (λ q. (Moved cost, record c { layers = new; queue = q })) same
 
 -- and one where it goes on with another stack
 pub unwound_turn : (statements : List Statement) (id : Ident) (layers old new : List Layer) (queue after : List Ident) (shown : List (List ℕ)) (frames : List Frame) (cost : ℕ)
     → IsHead statements id layers queue shown → old ≡ in_layer id.space (with_frames id.number (λ rest. frames)) (without_top id layers)
-    → new ≡ in_layer id.space without_terminated old → NoneNeeded statements new → after ≡ queue ++ able_in statements new id
+    → new ≡ in_layer id.space without_terminated old → NoneNeeded statements new → has_spaces new ≡ false → after ≡ queue ++ able_in statements new id
     → ◌≡◌ {A = Turned} (went_on statements id cost old (record { layers = old; queue = queue; shown = shown })) (Moved cost, record { layers = new; queue = after; shown = shown })
-unwound_turn statements id layers old new queue after shown frames cost head is left none joined =
+unwound_turn statements id layers old new queue after shown frames cost head is left none spaceless joined =
     let result : new ≡ in_layer id.space without_terminated (in_layer id.space (with_frames id.number (λ rest. frames)) (without_top id layers)) = left ∙ ap (in_layer id.space without_terminated) is in
     let c : Configuration = record { layers = layers; queue = queue; shown = shown } in
     let there = kept_head statements id queue c head in
@@ -263,9 +277,9 @@ unwound_turn statements id layers old new queue after shown frames cost head is 
     let made : MadeOf id layers new before [] = subst (λ ls. MadeOf id layers ls before []) (sym result) (stack_made id frames layers before there.layer there.thread) in
     let good : AreOrderly new = subst AreOrderly (sym result) (stack_orderly id frames layers (kept_layers statements (record c { queue = id ∷ queue }) head)) in
     let opened = made_open id layers new before [] made there.layer (subst (λ s. list_eq s id.space ≡ true) (sym (layer_of_name layers id.space)) (list_eq-equivalence.refl id.space)) there.opened in
-    let same : queue ++ mover_in (Some id) (runnable statements new) ≡ after = ap (λ xs. queue ++ xs) (mover_joins statements new id good opened) ∙ sym joined in
+    let same : queue ++ mover_in (Some id) (runnable statements new) ≡ after = ap (λ xs. queue ++ xs) (mover_joins statements new id spaceless good opened) ∙ sym joined in
     ap (λ ls. went_on statements id cost ls (record c { layers = ls })) is
-    ∙ kept_stack statements c id queue frames cost head new result none
+    ∙ kept_stack statements c id queue frames cost head (made_spaceless id layers new before [] made there.layer spaceless) new result none
     ∙ ap (λ q. (Moved cost, record c { layers = new; queue = q })) same
 
 -- Quiet acts

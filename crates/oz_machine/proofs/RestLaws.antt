@@ -1,5 +1,5 @@
 -- A statement that rests cannot step: it waits or offers.
-use Rattle.std.proofs.Common.{◌≡◌, ◌==◌, ℕ, ℤ, Bool, true, false, if◌then◌else◌, List, [], ◌∷◌, map, length, slice_get, Option, Some, None, Result, Ok, Err, refl}
+use Rattle.std.proofs.Common.{◌≡◌, ◌==◌, ◌&&◌, nat_le, ℕ, ℤ, pos, negsuc, Bool, true, false, if◌then◌else◌, List, [], ◌∷◌, map, length, slice_get, Option, Some, None, Result, Ok, Err, refl}
 use Rattle.oz_base.specs.Lists.{list_eq}
 use Rattle.oz_base.specs.declared.names.Ident.{Ident}
 use Rattle.oz_base.specs.declared.numbers.NumFault.{NumFault}
@@ -13,15 +13,15 @@ use Rattle.oz_language.specs.declared.kernel.Operation.{Operation}
 use Rattle.oz_language.specs.declared.kernel.Operation.TheVariants as operation
 use Rattle.oz_language.specs.declared.kernel.Statement.{Statement}
 use Rattle.oz_language.specs.declared.kernel.Statement.TheVariants as statement
-use Rattle.oz_semantics.specs.Names.{is_top}
+use Rattle.oz_semantics.specs.Names.{is_top, is_child_of}
 use Rattle.oz_semantics.specs.Store.{View, value_of}
-use Rattle.oz_semantics.specs.Values.{integer_in, constant_in, fields_of, cell_in, port_in, is_procedure}
+use Rattle.oz_semantics.specs.Values.{integer_in, constant_in, fields_of, cell_in, port_in, space_in, is_procedure}
 use Rattle.oz_semantics.specs.Entailment.{Equality, Entailed, Contradicted, Undecided, equality}
 use Rattle.oz_semantics.specs.Matching.{Match, Matches, Differs, MatchWaits, matched}
-use Rattle.oz_semantics.specs.Sights.{Sight, Readiness, can_step}
-use Rattle.oz_semantics.specs.Answers.{Act, Answer, Acts, RaisesKind, RaisesTerm, Rests, Reads, Writes, Exchanges, Sends, Delays, Shows, argument, given, of_kind}
+use Rattle.oz_semantics.specs.Sights.{Sight, Number, Readiness, Offers, can_step}
+use Rattle.oz_semantics.specs.Answers.{Act, Creates, Answer, Acts, Edits, RaisesKind, RaisesTerm, Operates, Rests, Reads, Writes, Exchanges, Sends, Delays, Shows, argument, given, of_kind}
 use Rattle.oz_semantics.specs.Readiness.{answer_ready}
-use Rattle.oz_semantics.specs.Builtins.{arguments_of, gives_number, with_integers, of_equality, label_in, arity_in, gives_field, field_at, own_act, on_cell, on_port, of_operation, answer, call_answer}
+use Rattle.oz_semantics.specs.Builtins.{arguments_of, gives_number, with_integers, of_equality, label_in, arity_in, gives_field, field_at, own_act, on_cell, on_port, choice_limit, offered, of_operation, answer, call_answer}
 use Rattle.oz_semantics.specs.Statements.{procedure_called, value_called, called, literal_branch, constant_branch, branch, clause, statement_answer, numbered_answer, code_answer, stack_answer}
 use Rattle.oz_semantics.specs.declared.configuration.Code.{Code}
 use Rattle.oz_semantics.specs.declared.configuration.Code.TheVariants as code
@@ -39,6 +39,8 @@ abbrev Stays : Answer → Type 0
 Stays (Acts act) = Unit {0}
 Stays (RaisesKind kind) = Unit {0}
 Stays (RaisesTerm x) = Unit {0}
+Stays (Edits edit) = Unit {0}
+Stays (Operates op space x) = Unit {0}
 Stays (Rests ready) = can_step ready ≡ false
 
 -- Built-ins
@@ -100,6 +102,10 @@ cell_stays s x act = given_stays x (value_of s.view x) _ (λ v. kind_stays (cell
 port_stays : (s : Sight) (x : Ident) (act : ℕ → Act) → Stays (on_port s x act)
 port_stays s x act = given_stays x (value_of s.view x) _ (λ v. kind_stays (port_in v) _ (own_stays s raise.GlobalPort act))
 
+offered_stays : (x : Ident) (i : ℤ) → Stays (offered x i)
+offered_stays x (pos n) = if_stays (nat_le 1 n && nat_le n choice_limit) (Rests (Offers (Number n x) [])) (RaisesKind raise.Domain) refl tt
+offered_stays x (negsuc n) = tt
+
 answer_stays : (s : Sight) (b : Builtin) (x : ℕ → Ident) → Stays (answer s b x)
 answer_stays s (builtin.Operation op) x = operation_stays s.view op (x 0) (x 1) (x 2)
 answer_stays s builtin.Label x = given_stays (x 0) (value_of s.view (x 0)) _ (λ v. kind_stays (label_in v) _ (λ l. tt))
@@ -115,6 +121,10 @@ answer_stays s builtin.Send x = port_stays s (x 0) (λ n. Sends n (x 1))
 answer_stays s builtin.Wait x = given_stays (x 0) (value_of s.view (x 0)) _ (λ v. tt)
 answer_stays s builtin.ByNeed x = given_stays (x 0) (value_of s.view (x 0)) _ (λ v. if_stays (is_procedure v) (Acts (Delays (x 0) (x 1))) (RaisesKind raise.BadKind) tt tt)
 answer_stays s builtin.Show x = if_stays (is_top s.space) (Acts (Shows (x 0))) (RaisesKind raise.GlobalIo) tt tt
+answer_stays s builtin.NewSpace x = given_stays (x 0) (value_of s.view (x 0)) _ (λ v. if_stays (is_procedure v) (Edits (Creates (x 0) (x 1))) (RaisesKind raise.BadKind) tt tt)
+answer_stays s builtin.Choose x = given_stays (x 0) (value_of s.view (x 0)) _ (λ v. kind_stays (integer_in v) _ (offered_stays (x 1)))
+answer_stays s (builtin.OnSpace op) x =
+    given_stays (x 0) (value_of s.view (x 0)) _ (λ v. kind_stays (space_in v) _ (λ child. if_stays (is_child_of s.space child) (Operates op child (x 1)) (RaisesKind raise.SpaceParent) tt tt))
 
 call_stays : (s : Sight) (b : Builtin) (xs : List Ident) → Stays (call_answer s b xs)
 call_stays s b xs = if_stays (length xs == arguments_of b) (answer s b (argument xs)) (RaisesKind raise.Arity) (answer_stays s b (argument xs)) tt
@@ -132,6 +142,7 @@ value_stays s xs (value.Record r) = tt
 value_stays s xs (value.Name n) = tt
 value_stays s xs (value.Cell c) = tt
 value_stays s xs (value.Port p) = tt
+value_stays s xs (value.Space space) = tt
 
 called_stays : (s : Sight) (x : Ident) (xs : List Ident) → Stays (called s x xs)
 called_stays s x xs = given_stays x (value_of s.view x) _ (value_stays s xs)
@@ -154,6 +165,7 @@ branch_stays environment accepted otherwise (value.Name n) = tt
 branch_stays environment accepted otherwise (value.Cell c) = tt
 branch_stays environment accepted otherwise (value.Port p) = tt
 branch_stays environment accepted otherwise (value.Builtin b) = tt
+branch_stays environment accepted otherwise (value.Space space) = tt
 
 clause_stays : (environment : Environment) (accepted otherwise : List ℕ) (m : Match) → Stays (clause environment accepted otherwise m)
 clause_stays environment accepted otherwise (Matches extended) = tt
@@ -191,6 +203,7 @@ numbered_stays s environment None = refl
 code_stays : (s : Sight) (environment : Environment) (c : Code) → Stays (code_answer s environment c)
 code_stays s environment (code.Statement n) = numbered_stays s environment (slice_get s.statements n)
 code_stays s environment (code.Call procedure argument) = called_stays s procedure (argument ∷ [])
+code_stays s environment (code.Bind x n) = tt
 code_stays s environment (code.Mark exception handler) = tt
 
 stack_stays : (s : Sight) (frames : List Frame) → Stays (stack_answer s frames)
@@ -206,3 +219,5 @@ rest_stays s frames ready e = by (stack_answer s frames) e (stack_stays s frames
     by (Acts act) e h = absurd (cc)
     by (RaisesKind kind) e h = absurd (cc)
     by (RaisesTerm x) e h = absurd (cc)
+    by (Edits edit) e h = absurd (cc)
+    by (Operates op space x) e h = absurd (cc)

@@ -1,6 +1,6 @@
 -- What follows a step that told a space something, where no space is below it.
 use Rattle.std.proofs.Common.{◌≡◌, inl, inr, ℕ, Bool, true, false, not, ◌||◌, cond, if◌then◌else◌, List, [], ◌∷◌, ◌++◌, refl, sym, ap, ap₂, subst, ◌∙◌, Option, Some, map, filter, drop}
-use Rattle.std.specs.Prelude.{unwrap_or}
+use Rattle.std.specs.Prelude.{unwrap_or, is_some}
 use Rattle.std.specs.List.{list_any, list_all, fold}
 use Rattle.std.proofs.lemmas.Bool.{false≢true, eqb-true}
 use Rattle.std.proofs.lemmas.List.{append-nil}
@@ -26,6 +26,8 @@ use Rattle.view_laws.proofs.ListLaws.{in_among, filter_none, found_in, map_in, i
 use Rattle.settle_laws.specs.Settles.{Settles}
 use Rattle.space_core.specs.Telling.{has_below}
 use Rattle.view_laws.specs.Needs.{NoneNeeded}
+use Rattle.view_laws.specs.Spaceless.{gives_space, has_spaces}
+use Rattle.view_laws.proofs.SpacelessLaws.{quiet_spaceless, untold_spaceless}
 use Rattle.turn_laws.specs.Telling.{IsAlone, others_of, staying}
 use Rattle.view_laws.proofs.QueueLaws.{can_from}
 use Rattle.view_laws.proofs.ChangeLaws.{edit_of, changed_by, edit_keeps}
@@ -163,27 +165,47 @@ module _ (statements : List Statement) (layers : List Layer) (id : Ident) (queue
 pub single_in : (id : Ident) (layers same : List Layer) → layers ≡ same → list_all (is_numbered id.number) (layer_of same id.space).threads ≡ true → list_all (is_numbered id.number) (layer_of layers id.space).threads ≡ true
 single_in id layers same e h = ap (λ (ls : List Layer). list_all (is_numbered id.number) (layer_of ls id.space).threads) e ∙ h
 
+-- What was told, where no space is a value then
+
+changes_spaceless : (id : Ident) (changes : List Change) (layers : List Layer) → has_spaces (changed_all id changes layers) ≡ has_spaces layers
+changes_spaceless id [] layers = refl
+changes_spaceless id (change ∷ changes) layers =
+    changes_spaceless id changes (changed id layers change)
+    ∙ ap has_spaces (changed_by id layers change)
+    ∙ quiet_spaceless (edit_of id.number change) layers id.space (λ l e. (edit_keeps id.number change).tells l)
+
+told_spaceless : (id : Ident) (ts : List Tell) (changes : List Change) (layers : List Layer) → IsOpenAt layers id.space
+    → has_spaces (in_layer id.space without_terminated (done id ts changes (without_top id layers))) ≡ false → (has_spaces layers ≡ false) × (list_any gives_space ts ≡ false)
+told_spaceless id ts changes layers h none =
+    let pops : Layer → Layer = with_frames id.number (λ (frames : List Frame). drop 1 frames) in
+    let popped = open_edit id.space pops layers (λ l. refl) (λ l. refl) h in
+    let after : has_spaces (in_layer id.space (telling ts) (without_top id layers)) ≡ false
+    = sym (quiet_spaceless without_terminated (done id ts changes (without_top id layers)) id.space (λ l e. refl) ∙ changes_spaceless id changes (in_layer id.space (telling ts) (without_top id layers))) ∙ none in
+    let untold = untold_spaceless (telling ts) (without_top id layers) id.space ts (λ l e. refl) (ap is_some popped.1) after in
+    (sym (quiet_spaceless pops layers id.space (λ l e. refl)) ∙ untold.0, untold.1)
+
 -- The step
 
 pub told_turn : (statements : List Statement) (id : Ident) (layers old new : List Layer) (queue after : List Ident) (shown : List (List ℕ)) (ts : List Tell) (changes : List Change) (cost : ℕ)
     → IsHead statements id layers queue shown → IsAlone layers id.space → is_consistent (view layers id.space ++ ts) ≡ true → old ≡ done id ts changes (without_top id layers)
-    → new ≡ in_layer id.space without_terminated old → NoneNeeded statements new → list_all (is_numbered id.number) (layer_of new id.space).threads ≡ true → after ≡ queue ++ able_in statements new id
+    → new ≡ in_layer id.space without_terminated old → NoneNeeded statements new → has_spaces new ≡ false → list_all (is_numbered id.number) (layer_of new id.space).threads ≡ true → after ≡ queue ++ able_in statements new id
     → ◌≡◌ {A = Turned} (went_on statements id cost old (record { layers = old; queue = queue; shown = shown })) (Moved cost, record { layers = new; queue = after; shown = shown })
-told_turn statements id layers old new queue after shown ts changes cost head alone fits is left none single joined =
+told_turn statements id layers old new queue after shown ts changes cost head alone fits is left none spaceless single joined =
     let result : new ≡ in_layer id.space without_terminated (done id ts changes (without_top id layers)) = left ∙ ap (in_layer id.space without_terminated) is in
     let c : Configuration = record { layers = layers; queue = queue; shown = shown } in
     let head_there = kept_head statements id queue c head in
     let good : AreOrderly new = subst AreOrderly (sym result) (done_orderly id ts changes layers (kept_layers statements (record c { queue = id ∷ queue }) head)) in
+    let untold = told_spaceless id ts changes layers (layer_of layers id.space, head_there.layer, head_there.opened) (sym (ap has_spaces result) ∙ spaceless) in
     let at : IsOpenAt new id.space = subst (λ ls. IsOpenAt ls id.space) (sym result) (open_done id ts changes layers (layer_of layers id.space, head_there.layer, head_there.opened)) in
     let there : layer_at new id.space ≡ Some (layer_of new id.space) = at.1 ∙ ap (λ (o : Option Layer). Some (unwrap_or o (new_layer id.space))) (sym at.1) in
     let opened : is_open (layer_of new id.space).status ≡ true = ap (λ (o : Option Layer). is_open (unwrap_or o (new_layer id.space)).status) at.1 ∙ at.2 in
     let same : staying statements new id queue ++ others_of (staying statements new id queue) (runnable_in statements new (layer_of new id.space)) ≡ after =
     ap (λ (ids : List Ident). staying statements new id queue ++ ids) (none_joins statements new id queue there single)
     ∙ append-nil (staying statements new id queue)
-    ∙ ap (λ xs. queue ++ xs) (mover_joins statements new id good opened)
+    ∙ ap (λ xs. queue ++ xs) (mover_joins statements new id spaceless good opened)
     ∙ sym joined in
     ap (λ ls. went_on statements id cost ls (record c { layers = ls })) is
-    ∙ proved.tell_queue statements c id queue ts changes cost head alone fits new result none
+    ∙ proved.tell_queue statements c id queue ts changes cost head untold.0 untold.1 alone fits new result none
     ∙ ap (λ q. (Moved cost, record c { layers = new; queue = q })) same
 
 -- Acts that tell

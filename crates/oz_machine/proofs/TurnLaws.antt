@@ -1,9 +1,10 @@
 -- What a thread answers, and turns within a fuel.
-use Rattle.std.proofs.Common.{◌≡◌, ◌∙◌, ◌<◌, ◌≤◌, ℕ, Bool, true, List, [], ◌∷◌, drop, Option, Some, None, refl, sym, ap, subst, arith}
+use Rattle.std.proofs.Common.{◌≡◌, ◌∙◌, ◌<◌, ◌≤◌, ℕ, Bool, true, false, List, [], ◌∷◌, drop, Option, Some, None, refl, sym, ap, subst, arith}
 use Rattle.std.specs.Prelude.{Result, Ok, Err, IfOk, if◌then◌else◌, unwrap_or}
 use Rattle.std.specs.declared.alloc.AllocError.{AllocError}
 use Rattle.oz_base.specs.Lists.{first}
-use Rattle.oz_semantics.specs.Sights.{Sight, Readiness, can_step}
+use Rattle.oz_semantics.specs.Sights.{Sight, States, Readiness, can_step}
+use Rattle.oz_semantics.specs.Operations.{by_state}
 use Rattle.oz_semantics.specs.Readiness.{answer_ready}
 use Rattle.oz_semantics.specs.Answers as answers
 use Rattle.oz_semantics.specs.Statements.{code_answer, stack_answer}
@@ -12,8 +13,10 @@ use Rattle.oz_semantics.specs.declared.configuration.Frame.{Frame}
 use Rattle.oz_semantics.specs.declared.configuration.Configuration.{Configuration}
 use Rattle.oz_semantics.specs.declared.outcome.Stepped.{Stepped}
 use Rattle.builtins.specs.Answers.{IsAnswer}
+use Rattle.operations.specs.Outcomes.{IsOutcome}
+use Rattle.operations.specs.declared.outcome.Outcome.{Outcome}
 use Rattle.builtins.specs.declared.answer.Answer.{Answer}
-use Rattle.builtins.specs.declared.answer.Answer.TheVariants.{Acts, RaisesKind, RaisesTerm, Rests}
+use Rattle.builtins.specs.declared.answer.Answer.TheVariants.{Acts, Edits, RaisesKind, RaisesTerm, Operates, Rests}
 use Rattle.oz_base.specs.declared.names.Ident.{Ident}
 use Rattle.oz_language.specs.declared.kernel.Kernel.{Kernel}
 use Rattle.oz_language.specs.declared.kernel.Statement.{Statement}
@@ -25,9 +28,9 @@ use Rattle.oz_machine.specs.declared.course.Due.TheVariants.{Nobody}
 use Rattle.oz_machine.specs.declared.course.Course.{Course}
 use Rattle.oz_machine.specs.Courses.{config_of, stepping}
 use Rattle.oz_semantics.specs.Configurations.{frames_in, layer_at, new_layer, stack_of, thread_at}
-use Rattle.oz_semantics.specs.Spaces.{sight}
+use Rattle.oz_semantics.specs.Spaces.{sight, states_of, answer_in}
 use Rattle.oz_semantics.specs.declared.configuration.Layer.{Layer}
-use Rattle.oz_machine.specs.Quiet.{able_in, IsHeadAnswer}
+use Rattle.oz_machine.specs.Quiet.{able_in, operates, waits, IsHeadAnswer}
 use Rattle.oz_machine.specs.Turns.{cost_of, IsTurn}
 use Rattle.oz_machine.proofs.DoingLaws.{course_view, headed}
 use Rattle.oz_machine.proofs.RestLaws.{rest_stays}
@@ -45,6 +48,15 @@ top_answers s (other ∷ frames) frame e = let same : other ≡ frame = cc in su
 pub ok_answer : (r : Result Answer AllocError) (a b : answers.Answer) → a ≡ b → IfOk r (IsAnswer b) → IfOk r (IsAnswer a)
 ok_answer (Ok answer) a b e h = subst (λ (x : answers.Answer). IsAnswer x answer) (sym e) h
 ok_answer (Err fault) a b e h = h
+
+-- by states as good as those of all spaces
+pub ok_outcome : (r : Result Outcome AllocError) (statements : List Statement) (layers : List Layer) (one : States) (l : Layer) (space : List ℕ) (frames : List Frame) (top : Option Frame)
+    → IfOk r (λ o. (fs : List Frame) → first fs ≡ top → IsOutcome (answer_in statements layers one l.space fs) o) → l.space ≡ space → first frames ≡ top
+    → answer_in statements layers one space frames ≡ answer_in statements layers (states_of statements layers) space frames
+    → IfOk r (IsOutcome (answer_in statements layers (states_of statements layers) space frames))
+ok_outcome (Ok o) statements layers one l space frames top h name is same =
+    subst (λ (a : answers.Answer). IsOutcome a o) (ap (λ (s : List ℕ). answer_in statements layers one s frames) name ∙ same) (h frames is)
+ok_outcome (Err fault) statements layers one l space frames top h name is same = h
 
 -- The head of the queue, where nobody is due
 
@@ -78,11 +90,13 @@ ok_turned r t u fuel old new e h = subst (λ (x : Turned). IfOk r (IsTurn x fuel
 -- What a made answer tells
 
 -- whether a thread can step
-pub answer_steps : (a : answers.Answer) (answer : Answer) → IsAnswer a answer → (answer ≡ Rests → ⊥) → can_step (answer_ready a) ≡ true
+pub answer_steps : (a : answers.Answer) (answer : Answer) → IsAnswer a answer → waits answer ≡ false → can_step (answer_ready a) ≡ true
 answer_steps a (Acts what) h other = ap (λ (b : answers.Answer). can_step (answer_ready b)) h
 answer_steps a (RaisesKind kind) h other = ap (λ (b : answers.Answer). can_step (answer_ready b)) h
 answer_steps a (RaisesTerm x) h other = ap (λ (b : answers.Answer). can_step (answer_ready b)) h
-answer_steps a Rests h other = absurd (other refl)
+answer_steps a (Edits edit) h other = ap (λ (b : answers.Answer). can_step (answer_ready b)) h
+answer_steps a (Operates op space x) h other = absurd (cc)
+answer_steps a Rests h other = absurd (cc)
 
 -- a thread of a space that is not there rests
 pub nowhere_answers : (statements : List Statement) (layers : List Layer) (id : Ident) → layer_at layers id.space ≡ None
@@ -97,14 +111,37 @@ alone_answer statements layers queue id answer e h other head =
     let same : id ≡ other = (let said : Some id ≡ Some other = sym (ap first e) ∙ head in cc) in
     subst (λ (i : Ident). IsAnswer (stack_answer (sight statements layers i.space) (stack_of layers i)) answer) same h
 
+-- by an answer that waits, none can step
+waiting_stays : (s : Sight) (frames : List Frame) (answer : Answer) → IsAnswer (stack_answer s frames) answer → waits answer ≡ true → can_step (answer_ready (stack_answer s frames)) ≡ false
+waiting_stays s frames Rests h e = rest_stays s frames h.0 h.1
+waiting_stays s frames (Operates op space x) h e = ap (λ (b : answers.Answer). can_step (answer_ready b)) h
+waiting_stays s frames (Acts act) h e = absurd (cc)
+waiting_stays s frames (Edits edit) h e = absurd (cc)
+waiting_stays s frames (RaisesKind kind) h e = absurd (cc)
+waiting_stays s frames (RaisesTerm x) h e = absurd (cc)
+
+-- by any but an operation, the states of spaces are of no use
+pub unresolved : (layers : List Layer) (s : Sight) (states : States) (a : answers.Answer) (answer : Answer) → IsAnswer a answer → operates answer ≡ false → by_state layers s states a ≡ a
+unresolved layers s states a (Acts act) h e = ap (by_state layers s states) h ∙ sym h
+unresolved layers s states a (Edits edit) h e = ap (by_state layers s states) h ∙ sym h
+unresolved layers s states a (RaisesKind kind) h e = ap (by_state layers s states) h ∙ sym h
+unresolved layers s states a (RaisesTerm x) h e = ap (by_state layers s states) h ∙ sym h
+unresolved layers s states a (Operates op space x) h e = absurd (cc)
+unresolved layers s states a Rests h e = ap (by_state layers s states) h.1 ∙ sym h.1
+
+-- so the step goes by it
+pub answered_so : (k : Kernel) (id : Ident) (layers : List Layer) (answer : Answer) → IsAnswer (stack_answer (sight k.statements layers id.space) (stack_of layers id)) answer → operates answer ≡ false
+    → IsAnswer (answer_in k.statements layers (states_of k.statements layers) id.space (stack_of layers id)) answer
+answered_so k id layers answer h e =
+    subst (λ (a : answers.Answer). IsAnswer a answer) (sym (unresolved layers (sight k.statements layers id.space) (states_of k.statements layers) (stack_answer (sight k.statements layers id.space) (stack_of layers id)) answer h e)) h
+
 -- which joins
-pub alone_joins : (statements : List Statement) (layers : List Layer) (id : Ident) (answer : Answer) → IsAnswer (stack_answer (sight statements layers id.space) (stack_of layers id)) answer → (answer ≡ Rests → ⊥)
+pub alone_joins : (statements : List Statement) (layers : List Layer) (id : Ident) (answer : Answer) → IsAnswer (stack_answer (sight statements layers id.space) (stack_of layers id)) answer → waits answer ≡ false
     → id ∷ [] ≡ able_in statements layers id
 alone_joins statements layers id answer h other = sym (ap (λ (b : Bool). if b then id ∷ [] else []) (answer_steps (stack_answer (sight statements layers id.space) (stack_of layers id)) answer h other))
 
 -- and where it rests, nothing joins
-pub resting_joins : (statements : List Statement) (layers : List Layer) (id : Ident) (answer : Answer) → IsAnswer (stack_answer (sight statements layers id.space) (stack_of layers id)) answer → answer ≡ Rests
+pub resting_joins : (statements : List Statement) (layers : List Layer) (id : Ident) (answer : Answer) → IsAnswer (stack_answer (sight statements layers id.space) (stack_of layers id)) answer → waits answer ≡ true
     → [] ≡ able_in statements layers id
 resting_joins statements layers id answer h e =
-    let rests : IsAnswer (stack_answer (sight statements layers id.space) (stack_of layers id)) Rests = subst (IsAnswer (stack_answer (sight statements layers id.space) (stack_of layers id))) e h in
-    sym (ap (λ (b : Bool). if b then id ∷ [] else []) (rest_stays (sight statements layers id.space) (stack_of layers id) rests.0 rests.1))
+    sym (ap (λ (b : Bool). if b then id ∷ [] else []) (waiting_stays (sight statements layers id.space) (stack_of layers id) answer h e))

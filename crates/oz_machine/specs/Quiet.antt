@@ -17,7 +17,7 @@ use Rattle.oz_semantics.specs.declared.configuration.Thread.{Thread}
 use Rattle.oz_semantics.specs.declared.configuration.Layer.{Layer}
 use Rattle.builtins.specs.Answers.{act_of, IsAnswer}
 use Rattle.builtins.specs.declared.answer.Answer.{Answer}
-use Rattle.builtins.specs.declared.answer.Answer.TheVariants.{Acts, RaisesKind, RaisesTerm, Rests}
+use Rattle.builtins.specs.declared.answer.Answer.TheVariants.{Acts, Edits, RaisesKind, RaisesTerm, Operates, Rests}
 use Rattle.view_laws.specs.Steps.{spawned_from}
 use Rattle.turn_laws.specs.Kept.{IsKept}
 use Rattle.oz_acts.specs.Doings.{is_shown}
@@ -66,7 +66,27 @@ abbrev pub shows : Answer → Bool
 shows (Acts act) = is_shown (act_of act)
 shows (RaisesKind kind) = false
 shows (RaisesTerm x) = false
+shows (Edits edit) = false
+shows (Operates op space x) = false
 shows Rests = false
+
+-- an answer that goes by the state of a space
+abbrev pub operates : Answer → Bool
+operates (Operates op space x) = true
+operates (Acts act) = false
+operates (Edits edit) = false
+operates (RaisesKind kind) = false
+operates (RaisesTerm x) = false
+operates Rests = false
+
+-- an answer by which alone a thread can't step: it rests, or goes by the state of a space
+abbrev pub waits : Answer → Bool
+waits Rests = true
+waits (Operates op space x) = true
+waits (Acts act) = false
+waits (Edits edit) = false
+waits (RaisesKind kind) = false
+waits (RaisesTerm x) = false
 
 -- the threads that changes start in a space with this layer
 abbrev pub news_of : Layer → List Change → List Thread

@@ -16,7 +16,7 @@ fn statement_of<'a>(statements: &'a [Statement], frame: &Frame) -> Option<&'a St
 {
     match &frame.code {
         Code::Statement(number) => statements.get(*number as usize),
-        Code::Call { .. } | Code::Mark { .. } => None,
+        Code::Call { .. } | Code::Bind { .. } | Code::Mark { .. } => None,
     }
 }
 

@@ -4,6 +4,7 @@
 
 mod course;
 mod declarations;
+mod editing;
 mod following;
 mod machine;
 mod opening;

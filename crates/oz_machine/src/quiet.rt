@@ -34,7 +34,7 @@ pub fn go_on_quietly(
     ensures cost { result ≡ Moved cost }
 {
     course.levels.drop_terminated(&mover.space);
-    if course.levels.has_triggers() {
+    if !course.levels.is_plain() {
         course.levels.consistent();
         return follow(cost, course);
     }
@@ -52,7 +52,7 @@ pub fn go_on_unwound(mover: &Ident, course: &mut Course) -> Stepped
     ensures cost { result ≡ Moved 1 }
 {
     course.levels.drop_terminated(&mover.space);
-    if course.levels.has_triggers() {
+    if !course.levels.is_plain() {
         course.levels.consistent();
         return follow(1, course);
     }

@@ -21,6 +21,7 @@ fn is_script(value: Option<&Value>) -> bool
         | Some(Value::Record(_))
         | Some(Value::Cell(_))
         | Some(Value::Port(_))
+        | Some(Value::Space(_))
         | None => false,
     }
 }

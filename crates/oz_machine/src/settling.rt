@@ -7,15 +7,16 @@ ghost use Rattle.oz_semantics.specs.Statements.{stack_answer};
 ghost use Rattle.builtins.specs.Answers.{IsAnswer};
 ghost use Rattle.oz_machine.specs.declared.course.Due.TheVariants.{Nobody};
 ghost use Rattle.oz_machine.specs.Courses.{asked, config_of, layers_after};
-ghost use Rattle.oz_machine.specs.Quiet.{top_steps, able_in, IsHeadAnswer};
+ghost use Rattle.oz_machine.specs.Quiet.{top_steps, able_in, waits, IsHeadAnswer};
 
 use crate::course::{Course, Due};
 use crate::declarations::declares;
 use builtins::Answer;
 use oz_base::{Copies, Ident};
 use oz_language::Statement;
-use oz_threads::{Queue, is_step, runnable};
+use oz_threads::{Queue, is_step};
 use space_core::Levels;
+use stability::runnable;
 use statements::{answer, ready};
 use std::alloc::{AllocError, Global};
 
@@ -136,6 +137,16 @@ fn join_both(
     queue.push_both(alloc, first, second)
 }
 
+/// Whether by this answer alone a thread can't step: it rests, or goes by the state of a space.
+fn waits(answer: &Answer) -> bool
+    ensures { result ≡ waits answer.now }
+{
+    match answer {
+        Answer::Rests | Answer::Operates { .. } => true,
+        Answer::Acts(_) | Answer::Edits(_) | Answer::RaisesKind(_) | Answer::RaisesTerm(_) => false,
+    }
+}
+
 /// A thread joins the queue, in which no other is, if it can step. Its answer is left in `answered`, but that of a declaration.
 fn join_alone(
     alloc: Global,
@@ -155,7 +166,7 @@ fn join_alone(
         return queue.push(id.copied(alloc)?);
     }
     let answer = answered.insert(thread_answer(alloc, statements, levels, id)?);
-    if let Answer::Rests = answer {
+    if waits(answer) {
         return Ok(());
     }
     queue.push(id.copied(alloc)?)?;

@@ -95,8 +95,10 @@ pub fn state_text(
         State::Raised(exception) => {
             variable_text(alloc, words, levels.store_at(place), exception, fuel)
         }
-        State::Running | State::Suspended | State::Failed | State::Alternatives(_) => {
-            Ok(nothing(alloc))
-        }
+        State::Running
+        | State::Suspended
+        | State::Failed
+        | State::Merged
+        | State::Alternatives(_) => Ok(nothing(alloc)),
     }
 }

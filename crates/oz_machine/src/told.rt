@@ -48,7 +48,7 @@ pub fn go_on_told(mover: &Ident, cost: u64, course: &mut Course) -> Stepped
 {
     course.levels.drop_terminated(&mover.space);
     course.levels.consistent();
-    if course.levels.has_triggers() {
+    if !course.levels.is_plain() {
         return follow(cost, course);
     }
     if !is_single(&course.levels, mover) {

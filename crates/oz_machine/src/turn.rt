@@ -7,29 +7,38 @@ ghost use Rattle.oz_semantics.specs.Configurations.{is_of, layer_at, stack_of};
 ghost use Rattle.oz_semantics.specs.Answers as answers;
 ghost use Rattle.oz_semantics.specs.Steps.{without_top, after_answer, shown_by, stepped};
 ghost use Rattle.oz_semantics.specs.Schedule.{turn};
-ghost use Rattle.builtins.specs.Answers.{act_of, IsAnswer};
+ghost use Rattle.oz_semantics.specs.Settling.{settled};
+ghost use Rattle.oz_semantics.specs.Spaces.{sight, states_of, answer_in};
+ghost use Rattle.oz_semantics.specs.Statements.{stack_answer};
+ghost use Rattle.oz_raise.specs.Nodes.{term_of};
+ghost use Rattle.operations.specs.Outcomes.{IsOutcome};
+ghost use Rattle.builtins.specs.Answers.{act_of, edit_of, IsAnswer};
 ghost use Rattle.builtins.specs.declared.answer.Act;
 ghost use Rattle.builtins.specs.declared.answer.Answer;
 ghost use Rattle.space_core.specs.Telling.{has_below};
 ghost use Rattle.oz_machine.specs.declared.course.Due.TheVariants.{Nobody};
 ghost use Rattle.oz_machine.specs.Courses.{config_of, stepping, Keeps};
 ghost use Rattle.oz_acts.specs.Doings.{is_quiet, is_shown};
-ghost use Rattle.oz_machine.specs.Quiet.{IsDeclaration, IsHeadAnswer, KeepsHead, shows};
+ghost use Rattle.oz_machine.specs.Quiet.{IsDeclaration, IsHeadAnswer, KeepsHead, operates, shows};
 ghost use Rattle.oz_machine.specs.Turns.{cost_of, CostsWithin, HasNotEnded, IsTurn};
 
 use crate::course::Course;
 use crate::declarations::declaration;
+use crate::editing::edit;
 use crate::following::{follow, go_on};
 use crate::quiet::go_on_quietly;
 use crate::raising::{raise, raise_kind};
 use crate::settling::{settle, top_answer};
 use crate::told::go_on_told;
-use builtins::{Act, Answer};
-use oz_acts::{act, is_quiet, started, take_off};
+use builtins::{Act, Answer, Edit};
+use operations::Outcome;
+use oz_acts::{act, give_term, is_quiet, started, take_off};
 use oz_base::{Copies, Ident, Sequence};
-use oz_language::{Identifier, Kernel};
+use oz_language::{Identifier, Kernel, Statement};
+use oz_raise::Node;
 use oz_semantics::{RaiseKind, Stepped};
 use space_core::Levels;
+use stability::{answer_in, states_of};
 use std::alloc::{AllocError, Global};
 use term_text::{Text, term_text};
 
@@ -80,6 +89,58 @@ fn make_act(
     Ok(go_on(id, 1, course))
 }
 
+/// The thread changes the tree of spaces.
+fn make_edit(
+    alloc: Global,
+    kernel: &Kernel,
+    id: &Ident,
+    what: &Edit,
+    course: &mut Course,
+) -> Result<Stepped, AllocError>
+    requires head { first course.old.queue ≡ Some id.now }
+    requires there { is_some (layer_at course.old.levels id.now.space) ≡ true }
+    ensures turn { IfOk result (λ stepped. after_answer kernel.now id.now (without_top id.now course.old.levels) (stepping course.old) (answers.Edits (edit_of what.now)) ≡ (stepped, config_of kernel.now.statements course.new)) }
+    ensures cost { IfOk result (λ stepped. cost_of stepped ≡ 1) }
+    ensures err { OnErr result (course.new ≡ course.old) }
+{
+    if !edit(alloc, &mut course.levels, id, what)? {
+        return raise_kind(alloc, id, RaiseKind::FailureTell, course);
+    }
+    Ok(go_on(id, 1, course))
+}
+
+/// The thread's variable is the term of these nodes.
+fn make_term(
+    alloc: Global,
+    kernel: &Kernel,
+    id: &Ident,
+    variable: &Ident,
+    nodes: &[Node],
+    course: &mut Course,
+) -> Result<Stepped, AllocError>
+    requires head { first course.old.queue ≡ Some id.now }
+    requires there { is_some (layer_at course.old.levels id.now.space) ≡ true }
+    ensures turn { IfOk result (λ stepped. after_answer kernel.now id.now (without_top id.now course.old.levels) (stepping course.old) (answers.Acts (answers.GivesTerm variable.now (term_of nodes.now))) ≡ (stepped, config_of kernel.now.statements course.new)) }
+    ensures cost { IfOk result (λ stepped. cost_of stepped ≡ 1) }
+    ensures err { OnErr result (course.new ≡ course.old) }
+{
+    if !give_term(alloc, &mut course.levels, id, variable, nodes)? {
+        return raise_kind(alloc, id, RaiseKind::FailureTell, course);
+    }
+    course.levels.consistent();
+    Ok(go_on(id, 1, course))
+}
+
+/// The thread at the head of the queue can't step yet.
+fn rest(course: &mut Course) -> Stepped
+    ensures turn { (statements : List Statement) (mover : Ident) → first course.old.queue ≡ Some mover
+        → settled statements (Some mover) 1 (stepping course.old) ≡ (result, config_of statements course.new) }
+    ensures cost { cost_of result ≡ 1 }
+{
+    course.levels.consistent();
+    follow(1, course)
+}
+
 /// The thread steps as its statement answered, which shows nothing. The answer is of no use afterwards.
 fn make_step(
     alloc: Global,
@@ -98,10 +159,9 @@ fn make_step(
     ensures err { OnErr result (course.new ≡ course.old) }
 {
     match answer {
-        Answer::Rests => {
-            course.levels.consistent();
-            Ok(follow(1, course))
-        }
+        Answer::Rests => Ok(rest(course)),
+        Answer::Operates { .. } => Ok(rest(course)),
+        Answer::Edits(edit) => make_edit(alloc, kernel, id, edit, course),
         Answer::Acts(what) => make_act(alloc, kernel, id, what, kept, course),
         Answer::RaisesKind(kind) => raise_kind(alloc, id, *kind, course),
         Answer::RaisesTerm(exception) => raise(alloc, id, exception.copied(alloc)?, kept, course),
@@ -186,7 +246,11 @@ fn shown(answer: &Answer) -> Option<&Ident>
 {
     match answer {
         Answer::Acts(what) => shown_by(what),
-        Answer::RaisesKind(_) | Answer::RaisesTerm(_) | Answer::Rests => None,
+        Answer::Edits(_)
+        | Answer::RaisesKind(_)
+        | Answer::RaisesTerm(_)
+        | Answer::Operates { .. }
+        | Answer::Rests => None,
     }
 }
 
@@ -241,6 +305,103 @@ fn declare(
     Ok(go_on(id, 1, course))
 }
 
+/// Whether an answer goes by the state of a space.
+fn operates(answer: &Answer) -> bool
+    ensures { result ≡ operates answer.now }
+{
+    match answer {
+        Answer::Operates { .. } => true,
+        Answer::Acts(_)
+        | Answer::Edits(_)
+        | Answer::RaisesKind(_)
+        | Answer::RaisesTerm(_)
+        | Answer::Rests => false,
+    }
+}
+
+/// The thread steps as its statement answered by the states of the spaces in its own.
+fn step_outcome(
+    alloc: Global,
+    kernel: &Kernel,
+    place: usize,
+    id: &Ident,
+    outcome: Outcome,
+    kept: bool,
+    course: &mut Course,
+    fuel: u64,
+) -> Result<Option<Stepped>, AllocError>
+    requires within { place < length course.old.levels }
+    requires place { Some place ≡ position (is_of id.now.space) course.old.levels }
+    requires head { first course.old.queue ≡ Some id.now }
+    requires kept { KeepsHead kernel.now.statements id.now kept course.old }
+    requires fuel { 1 ≤ fuel }
+    ensures turn { (a : answers.Answer) → IsOutcome a outcome → IfOk result (IsTurn (after_answer kernel.now id.now (without_top id.now course.old.levels) (stepping course.old) a) fuel (config_of kernel.now.statements course.old) (config_of kernel.now.statements course.new)) }
+    ensures cost { IfOk result (λ turned. IfSome turned (CostsWithin fuel)) }
+    ensures err { OnErr result (course.new ≡ course.old) }
+{
+    match outcome {
+        Outcome::Answers(answer) => {
+            let mut answer = answer;
+            step_as(alloc, kernel, place, id, &mut answer, kept, course, fuel)
+        }
+        Outcome::GivesTerm { variable, nodes } => Ok(Some(make_term(
+            alloc,
+            kernel,
+            id,
+            &variable,
+            nodes.as_slice(),
+            course,
+        )?)),
+    }
+}
+
+/// What the statement on top of a thread's stack answers, by the states of the spaces in its own.
+fn outcome(
+    alloc: Global,
+    statements: &[Statement],
+    levels: &Levels,
+    place: usize,
+    id: &Ident,
+) -> Result<Outcome, AllocError>
+    requires within { place < length levels.now }
+    requires place { Some place ≡ position (is_of id.now.space) levels.now }
+    ensures { IfOk result (IsOutcome (answer_in statements.now levels.now (states_of statements.now levels.now) id.now.space (stack_of levels.now id.now))) }
+{
+    let states = states_of(alloc, statements, levels)?;
+    answer_in(
+        alloc,
+        statements,
+        levels,
+        &states,
+        place,
+        levels.top_frame(id),
+    )
+}
+
+/// A step of the thread at the head of the queue, whose statement goes by the states of the spaces in its own.
+fn step_operating(
+    alloc: Global,
+    kernel: &Kernel,
+    place: usize,
+    id: &Ident,
+    kept: bool,
+    course: &mut Course,
+    fuel: u64,
+) -> Result<Option<Stepped>, AllocError>
+    requires within { place < length course.old.levels }
+    requires place { Some place ≡ position (is_of id.now.space) course.old.levels }
+    requires head { first course.old.queue ≡ Some id.now }
+    requires kept { KeepsHead kernel.now.statements id.now kept course.old }
+    requires fuel { 1 ≤ fuel }
+    ensures turn { IfOk result (IsTurn (stepped kernel.now id.now (stepping course.old)) fuel (config_of kernel.now.statements course.old) (config_of kernel.now.statements course.new)) }
+    ensures cost { IfOk result (λ turned. IfSome turned (CostsWithin fuel)) }
+    ensures err { OnErr result (course.new ≡ course.old) }
+{
+    let statements = kernel.statements.as_slice();
+    let outcome = outcome(alloc, statements, &course.levels, place, id)?;
+    step_outcome(alloc, kernel, place, id, outcome, kept, course, fuel)
+}
+
 /// A step of the thread at the head of the queue, whose answer is made now.
 fn step_answering(
     alloc: Global,
@@ -262,6 +423,9 @@ fn step_answering(
 {
     let statements = kernel.statements.as_slice();
     let mut answer = top_answer(alloc, statements, &course.levels, place, id)?;
+    if operates(&answer) {
+        return step_operating(alloc, kernel, place, id, kept, course, fuel);
+    }
     step_as(alloc, kernel, place, id, &mut answer, kept, course, fuel)
 }
 
@@ -290,6 +454,33 @@ fn step_anew(
     }
 }
 
+/// A step of the thread at the head of the queue, whose answer was made already.
+fn step_answered(
+    alloc: Global,
+    kernel: &Kernel,
+    place: usize,
+    id: &Ident,
+    answer: &mut Answer,
+    kept: bool,
+    course: &mut Course,
+    fuel: u64,
+) -> Result<Option<Stepped>, AllocError>
+    requires within { place < length course.old.levels }
+    requires place { Some place ≡ position (is_of id.now.space) course.old.levels }
+    requires head { first course.old.queue ≡ Some id.now }
+    requires answered { IsAnswer (stack_answer (sight kernel.now.statements course.old.levels id.now.space) (stack_of course.old.levels id.now)) answer.old }
+    requires kept { KeepsHead kernel.now.statements id.now kept course.old }
+    requires fuel { 1 ≤ fuel }
+    ensures turn { IfOk result (IsTurn (stepped kernel.now id.now (stepping course.old)) fuel (config_of kernel.now.statements course.old) (config_of kernel.now.statements course.new)) }
+    ensures cost { IfOk result (λ turned. IfSome turned (CostsWithin fuel)) }
+    ensures err { OnErr result (course.new ≡ course.old) }
+{
+    if operates(answer) {
+        return step_operating(alloc, kernel, place, id, kept, course, fuel);
+    }
+    step_as(alloc, kernel, place, id, answer, kept, course, fuel)
+}
+
 /// A step of the thread at the head of the queue. Its answer was made already, or it is made now. None exactly where the step costs more
 /// than the fuel: it is not made, and nothing changes.
 fn step_of(
@@ -314,7 +505,7 @@ fn step_of(
         return Ok(Some(follow(1, course)));
     };
     match answered {
-        Some(answer) => step_as(alloc, kernel, place, id, answer, kept, course, fuel),
+        Some(answer) => step_answered(alloc, kernel, place, id, answer, kept, course, fuel),
         None => step_anew(alloc, kernel, place, id, kept, course, fuel),
     }
 }

@@ -20,7 +20,8 @@ fn is_failure_label(value: &Value) -> bool
         | Value::Procedure(_)
         | Value::Builtin(_)
         | Value::Cell(_)
-        | Value::Port(_) => false,
+        | Value::Port(_)
+        | Value::Space(_) => false,
     }
 }
 

@@ -58,6 +58,28 @@ fn makes_those_of_a_child_that_uses_what_is_another_spaces(rt: HostRuntime) -> R
     Ok(())
 }
 
+/// `error(kernel(X))`, where X is the word with this number.
+fn is_kernel(nodes: &[Node], what: u32) -> bool {
+    nodes.len() == 3
+        && width_at(nodes, 0) == Some(1)
+        && width_at(nodes, 1) == Some(1)
+        && atom_at(nodes, 2) == Some(what)
+}
+
+#[test]
+fn makes_those_of_spaces(rt: HostRuntime) -> Result<(), Fail> {
+    let alloc = rt.alloc();
+    let failed = term(alloc, RaiseKind::FailureSpace)?;
+    assert_eq!(rt; failed.len(), 2);
+    assert_eq!(rt; atom_at(&failed, 1), Some(30));
+    assert!(rt; is_kernel(&term(alloc, RaiseKind::Domain)?, 41));
+    assert!(rt; is_kernel(&term(alloc, RaiseKind::SpaceParent)?, 42));
+    assert!(rt; is_kernel(&term(alloc, RaiseKind::SpaceChoice)?, 43));
+    assert!(rt; is_kernel(&term(alloc, RaiseKind::SpaceMerged)?, 44));
+    assert!(rt; is_kernel(&term(alloc, RaiseKind::SpaceRaised)?, 45));
+    Ok(())
+}
+
 #[test]
 fn tells_a_list_of_two(rt: HostRuntime) -> Result<(), Fail> {
     let alloc = rt.alloc();

@@ -12,6 +12,8 @@ pub const FAIL: u32 = 28;
 
 pub const TOP: u32 = 29;
 
+pub const SPACE: u32 = 30;
+
 pub const ERROR: u32 = 31;
 
 pub const KERNEL: u32 = 32;
@@ -31,6 +33,16 @@ pub const FEATURE: u32 = 38;
 pub const BOOLEAN: u32 = 39;
 
 pub const NO_ELSE: u32 = 40;
+
+pub const DOMAIN: u32 = 41;
+
+pub const SPACE_PARENT: u32 = 42;
+
+pub const SPACE_CHOICE: u32 = 43;
+
+pub const SPACE_MERGED: u32 = 44;
+
+pub const SPACE_RAISED: u32 = 45;
 
 pub const GLOBAL_STATE: u32 = 46;
 

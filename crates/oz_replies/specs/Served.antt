@@ -15,8 +15,7 @@ unserved_tokens =
 -- whether the text binds them itself or not
 abbrev pub unserved_names : List (List ℕ)
 unserved_names =
-    codes "NewSpace" ∷ codes "Ask" ∷ codes "Choose" ∷ codes "Commit" ∷ codes "Clone" ∷ codes "Inject" ∷ codes "Merge" ∷ codes "FD"
-    ∷ []
+    codes "FD" ∷ []
 
 abbrev pub is_unserved : List ℕ → Sort → Bool
 is_unserved bytes sort.Var = list_any (list_eq bytes) unserved_names

@@ -1,4 +1,4 @@
--- What a statement answers: it can't step yet, it raises an exception, or it acts.
+-- What a statement answers: it can't step yet, it raises an exception, or it acts. An operation on a space goes by the state of that.
 use Rattle.std.specs.Prelude.{ℕ, List, [], ◌∷◌, slice_get, unwrap_or, Option, Some, None}
 use Rattle.oz_base.specs.declared.names.Ident.{Ident}
 use Rattle.environments.specs.Environments.{Environment, nowhere}
@@ -7,6 +7,7 @@ use Rattle.oz_language.specs.declared.kernel.Identifier.{Identifier}
 use Rattle.oz_semantics.specs.Store.{View, value_of}
 use Rattle.oz_semantics.specs.Terms.{Term}
 use Rattle.oz_semantics.specs.Sights.{Readiness, Waits}
+use Rattle.oz_semantics.specs.declared.value.SpaceOperation.{SpaceOperation}
 use Rattle.oz_semantics.specs.declared.value.Value.{Value}
 use Rattle.oz_semantics.specs.declared.value.Value.TheVariants as value
 use Rattle.oz_semantics.specs.declared.configuration.Frame.{Frame}
@@ -50,13 +51,29 @@ pub data Act : Type 0 where
   -- the text of x is shown
   Shows : Ident → Act
 
+-- What a step does with the spaces in the thread's own
+pub data Edit : Type 0 where
+  -- x is a new one, in which the procedure is applied to the root variable
+  Creates : Ident → Ident → Edit
+  -- the space goes on with the alternative of this number
+  Commits : List ℕ → ℕ → Edit
+  -- x is a copy of it
+  Copies : List ℕ → Ident → Edit
+  -- in it the procedure is applied to the root variable
+  Injects : List ℕ → Ident → Edit
+  -- it becomes a part of the thread's space, and x is its root variable
+  TakesIn : List ℕ → Ident → Edit
+
 pub data Answer : Type 0 where
   -- a step
   Acts : Act → Answer
+  Edits : Edit → Answer
   -- a step too: an exception of the machine
   RaisesKind : RaiseKind → Answer
   -- and the exception that is the term of x
   RaisesTerm : Ident → Answer
+  -- an operation on a space in the thread's own, with its other argument: what it answers goes by the state of that space
+  Operates : SpaceOperation → List ℕ → Ident → Answer
   -- it can't step yet
   Rests : Readiness → Answer
 

@@ -36,6 +36,7 @@ abbrev pub raise_term : RaiseKind → Term
 raise_term raise.FailureTell = failure (codes "tell")
 raise_term raise.FailureFail = failure (codes "fail")
 raise_term raise.FailureTop = failure (codes "top")
+raise_term raise.FailureSpace = failure (codes "space")
 raise_term raise.Overflow = kernel_error (codes "overflow")
 raise_term raise.DivZero = kernel_error (codes "div0")
 raise_term raise.BadKind = kernel_error (codes "type")
@@ -44,6 +45,11 @@ raise_term raise.Arity = kernel_error (codes "arity")
 raise_term raise.Feature = kernel_error (codes "feature")
 raise_term raise.Boolean = kernel_error (codes "boolean")
 raise_term raise.NoElse = kernel_error (codes "noElse")
+raise_term raise.Domain = kernel_error (codes "domain")
+raise_term raise.SpaceParent = kernel_error (codes "spaceParent")
+raise_term raise.SpaceChoice = kernel_error (codes "spaceChoice")
+raise_term raise.SpaceMerged = kernel_error (codes "spaceMerged")
+raise_term raise.SpaceRaised = kernel_error (codes "spaceRaised")
 raise_term raise.GlobalCell = global_error (codes "cell")
 raise_term raise.GlobalPort = global_error (codes "port")
 raise_term raise.GlobalIo = global_error (codes "io")
@@ -69,6 +75,7 @@ abbrev pub unwound_at : Ident → Environment → Code → List Frame → Option
 unwound_at x environment (code.Mark exception handler) rest below = Some (frames_of (binding exception x environment) handler ++ rest)
 unwound_at x environment (code.Statement n) rest below = below
 unwound_at x environment (code.Call procedure argument) rest below = below
+unwound_at x environment (code.Bind y n) rest below = below
 
 -- the stack that the exception x leaves of a stack, where that has a mark
 abbrev pub unwound : Ident → List Frame → Option (List Frame)

@@ -9,8 +9,7 @@ use Rattle.oz_semantics.specs.Names.{is_top, named}
 use Rattle.oz_semantics.specs.Store.{is_consistent}
 use Rattle.oz_semantics.specs.Configurations.{is_open, layer_of, view, in_layer, ending, failed}
 use Rattle.oz_semantics.specs.Sights.{can_step}
-use Rattle.oz_semantics.specs.Readiness.{thread_ready}
-use Rattle.oz_semantics.specs.Spaces.{sight}
+use Rattle.oz_semantics.specs.Spaces.{thread_ready}
 use Rattle.oz_semantics.specs.Exceptions.{raise_term, with_term}
 use Rattle.oz_semantics.specs.Triggers.{triggered}
 use Rattle.oz_semantics.specs.declared.configuration.Thread.{Thread}
@@ -46,6 +45,7 @@ abbrev pub may_fail : Status → Bool
 may_fail status.Open = true
 may_fail status.Failed = false
 may_fail (status.Raised x) = true
+may_fail status.Merged = false
 
 abbrev pub is_inconsistent : List Layer → Layer → Bool
 is_inconsistent layers l = may_fail l.status && not (is_consistent (view layers l.space))
@@ -71,7 +71,7 @@ top_failed cost c = top_ended cost (term_variable c.layers []) (with_raised Fail
 abbrev pub runnable_in : List Statement → List Layer → Layer → List Ident
 runnable_in statements layers l =
     if is_open l.status
-    then map (λ (t : Thread). named l.space t.number) (filter (λ t. can_step (thread_ready (sight statements layers l.space) t)) l.threads)
+    then map (λ (t : Thread). named l.space t.number) (filter (λ t. can_step (thread_ready statements layers l.space t)) l.threads)
     else []
 
 -- all threads that can step, by name

@@ -1,8 +1,9 @@
--- Finite terms of integers, literals and records (CTM 2.3), as they are told to a space.
-use Rattle.std.specs.Prelude.{ℕ, ◌+◌, pos, List, [], ◌∷◌, length, map}
+-- Finite terms of integers, literals and records (CTM 2.3), as they are told to a space, and read from what it sees.
+use Rattle.std.specs.Prelude.{ℕ, zero, suc, ◌+◌, pos, List, [], ◌∷◌, ◌++◌, length, map, Option, Some, None, option_map}
 use Rattle.std.specs.List.{range_with_len}
 use Rattle.oz_base.specs.declared.names.Ident.{Ident}
 use Rattle.oz_semantics.specs.Names.{named}
+use Rattle.oz_semantics.specs.Store.{View, value_of}
 use Rattle.oz_language.specs.Wording.{given_atom, nil_word, bar_word}
 use Rattle.oz_language.specs.declared.token.Literal.{Literal}
 use Rattle.oz_language.specs.declared.token.Literal.TheVariants.{Atom}
@@ -65,3 +66,31 @@ term_tells space n x (node ∷ nodes) = Is x (node_value space n node) ∷ level
 abbrev pub nodes_inside : Term → ℕ
 nodes_inside [] = 0
 nodes_inside (node ∷ nodes) = length nodes
+
+-- Read
+
+abbrev pub with_node : Node → Option Term → Option Term
+with_node node rest = option_map (λ nodes. node ∷ nodes) rest
+
+-- a value, and then what follows with its fields
+abbrev pub read_value : (List Ident → Option Term) → Option Value → Option Term
+read_value next (Some (value.Constant c)) = with_node (leaf c) (next [])
+read_value next (Some (value.Record r)) = with_node (branch r.label r.features) (next r.fields)
+read_value next (Some (value.Name n)) = None
+read_value next (Some (value.Procedure p)) = None
+read_value next (Some (value.Builtin b)) = None
+read_value next (Some (value.Cell c)) = None
+read_value next (Some (value.Port p)) = None
+read_value next (Some (value.Space s)) = None
+read_value next None = None
+
+-- the terms of these variables, level by level, where they have at most so many nodes and nothing else than such values; a term that
+-- comes back to itself has more nodes than any number
+unfoldable pub read_terms : View → ℕ → List Ident → Option Term
+read_terms view n [] = Some []
+read_terms view zero (x ∷ xs) = None
+read_terms view (suc n) (x ∷ xs) = read_value (λ fields. read_terms view n (xs ++ fields)) (value_of view x)
+
+-- the term of x, where it has at most so many nodes
+abbrev pub read_term : View → ℕ → Ident → Option Term
+read_term view n x = read_terms view n (x ∷ [])

@@ -5,7 +5,7 @@ use Rattle.oz_base.specs.declared.names.Ident.{Ident}
 use Rattle.oz_language.specs.declared.kernel.Statement.{Statement}
 use Rattle.oz_semantics.specs.Store.{View, same, is_determined}
 use Rattle.oz_semantics.specs.Configurations.{is_open, view, spawning, applying}
-use Rattle.oz_semantics.specs.Spaces.{waited_in}
+use Rattle.oz_semantics.specs.Spaces.{states_of, waited_in}
 use Rattle.oz_semantics.specs.declared.configuration.Trigger.{Trigger}
 use Rattle.oz_semantics.specs.declared.configuration.Layer.{Layer}
 
@@ -14,7 +14,7 @@ abbrev pub is_needed : View → List Ident → Trigger → Bool
 is_needed view waited t = is_determined view t.variable || list_any (same view t.variable) waited
 
 abbrev pub is_needed_in : List Statement → List Layer → Layer → Trigger → Bool
-is_needed_in statements layers l t = is_open l.status && is_needed (view layers l.space) (waited_in statements layers l) t
+is_needed_in statements layers l t = is_open l.status && is_needed (view layers l.space) (waited_in statements layers (states_of statements layers) l) t
 
 -- the trigger's thread, which applies its procedure to its variable
 abbrev pub beginning : Layer → Trigger → Layer

@@ -1,6 +1,6 @@
 //! Values, and what a space is told of variables (CTM 2.2, 2.3).
 use environments::Environment;
-use oz_base::{Copies, Ident, Sequence, Shared};
+use oz_base::{Copies, Ident, Sequence, Shared, SpaceName};
 use oz_language::{Constant, Identifier, Literal, Operation};
 use std::alloc::{AllocError, Global};
 
@@ -52,10 +52,32 @@ pub enum Builtin {
     ByNeed,
     /// `Show`, of one parameter: writes the text of a term as a line.
     Show,
+    /// `NewSpace`, of two parameters: a computation space in which a procedure is applied to the root variable.
+    NewSpace,
+    /// `Choose`, of two parameters: offers so many alternatives, and waits for the number of one of them.
+    Choose,
+    /// What is done to a computation space.
+    OnSpace(SpaceOperation),
+}
+
+/// An operation on a computation space, each of two parameters: the space, and another.
+#[derive(Clone, Copy, Debug, PartialEq, Eq)]
+pub enum SpaceOperation {
+    /// `Ask`: its state.
+    Ask,
+    /// `Commit`: it goes on with the alternative of this number.
+    Commit,
+    /// `Clone`: a copy of it.
+    Clone,
+    /// `Inject`: a procedure is applied to its root variable.
+    Inject,
+    /// `Merge`: its root variable, as it becomes a part of the space that it is in.
+    Merge,
 }
 
 /// A value of the language. Copies of a record and of a procedure share it. Names, cells and ports are told apart by the space that made
-/// them and a number in it; what a cell contains, and where the stream of a port ends, stands in the layer of that space.
+/// them and a number in it; what a cell contains, and where the stream of a port ends, stands in the layer of that space. A computation
+/// space is told apart by its name.
 #[derive(Drop)]
 pub enum Value {
     Constant(Constant),
@@ -65,6 +87,7 @@ pub enum Value {
     Builtin(Builtin),
     Cell(Ident),
     Port(Ident),
+    Space(SpaceName),
 }
 
 impl Copies for Value {
@@ -77,6 +100,7 @@ impl Copies for Value {
             Value::Builtin(builtin) => Ok(Value::Builtin(*builtin)),
             Value::Cell(cell) => Ok(Value::Cell(cell.copied(alloc)?)),
             Value::Port(port) => Ok(Value::Port(port.copied(alloc)?)),
+            Value::Space(space) => Ok(Value::Space(space.copied(alloc)?)),
         }
     }
 }

@@ -1,4 +1,5 @@
-//! The threads of the machine: which of them can step, and the queue in which these wait for their turn.
+//! The threads of the machine: which of them can step by what their space sees alone, and the queue in which those that can step wait for
+//! their turn.
 #![tactic(auto)]
 
 mod members;
@@ -6,7 +7,7 @@ mod queue;
 mod readiness;
 
 pub use queue::Queue;
-pub use readiness::{can_step, is_step, ready_where, runnable, steps_where, thread_ready};
+pub use readiness::{is_step, ready_on_top, ready_where, steps_where};
 
 #[cfg(test)]
 mod tests;

@@ -1,9 +1,9 @@
 use super::*;
 use oz_base::{Copies, Ident, SpaceName};
 use oz_semantics::Thread;
-use space_core::Levels;
 use std::alloc::{AllocError, Global};
 use std::test::Fail;
+use term_store::Store;
 
 fn of_top(number: u64) -> Ident {
     Ident {
@@ -91,20 +91,12 @@ fn is_in_order_with_many_threads(rt: HostRuntime) -> Result<(), Fail> {
 }
 
 #[test]
-fn has_no_thread_in_a_new_top(rt: HostRuntime) -> Result<(), Fail> {
-    let levels = Levels::new(rt.alloc())?;
-    let ids = runnable(rt.alloc(), &[], &levels)?;
-    assert_eq!(rt; ids.len(), 0);
-    Ok(())
-}
-
-#[test]
 fn waits_without_statements(rt: HostRuntime) -> Result<(), Fail> {
-    let levels = Levels::new(rt.alloc())?;
+    let store = Store::new(rt.alloc());
     let thread = Thread {
         number: 1,
         frames: oz_base::Stack::new(rt.alloc()),
     };
-    assert!(rt; !can_step(rt.alloc(), &[], &levels, 0, &thread)?);
+    assert!(rt; !steps_where(rt.alloc(), &[], &SpaceName::top(), &store, &thread)?);
     Ok(())
 }

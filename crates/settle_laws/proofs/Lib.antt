@@ -1,5 +1,6 @@
 pub mod ListEdits
 pub mod EditLaws
+pub mod FitLaws
 pub mod SettleLaws
 pub mod TellLaws
 pub mod SoundLaws

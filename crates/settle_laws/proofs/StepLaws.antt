@@ -5,15 +5,14 @@ use Rattle.oz_language.specs.declared.kernel.Kernel.{Kernel}
 use Rattle.oz_semantics.specs.Names.{is_top}
 use Rattle.oz_semantics.specs.Store.{is_consistent}
 use Rattle.oz_semantics.specs.Configurations.{layer_of, stack_of, view, in_layer, with_frames, without_terminated, telling, failed, raised_by, ending}
-use Rattle.oz_semantics.specs.Answers.{Answer, Acts, RaisesKind, RaisesTerm, Rests}
-use Rattle.oz_semantics.specs.Statements.{stack_answer}
-use Rattle.oz_semantics.specs.Spaces.{sight}
-use Rattle.oz_semantics.specs.Changes.{Change, changed, changed_all, done}
+use Rattle.oz_semantics.specs.Answers.{Edit, Answer, Acts, Edits, RaisesKind, RaisesTerm, Operates, Rests}
+use Rattle.oz_semantics.specs.Spaces.{states_of, answer_in}
+use Rattle.oz_semantics.specs.Changes.{Change, changed, changed_all}
 use Rattle.oz_semantics.specs.Effects.{Effect, Makes, Tells, ShowsText, act_effect}
 use Rattle.oz_semantics.specs.Exceptions.{is_failure, raise_term, with_term, unwound}
 use Rattle.oz_semantics.specs.Texts.{Printed, term_text}
 use Rattle.oz_semantics.specs.Settling.{Turned, settled, term_variable, with_raised, top_ended, without_inconsistent}
-use Rattle.oz_semantics.specs.Steps.{went_on, ended_by, uncaught, raised_to, raised, raised_kind, told, after_effect, after_answer, without_top, stepped}
+use Rattle.oz_semantics.specs.Steps.{went_on, ended_by, uncaught, raised_to, raised, raised_kind, told, after_effect, edit_tells, edited, after_edit, after_answer, without_top, stepped}
 use Rattle.oz_semantics.specs.declared.value.Tell.{Tell}
 use Rattle.oz_semantics.specs.declared.configuration.Frame.{Frame}
 use Rattle.oz_semantics.specs.declared.configuration.Layer.{Layer}
@@ -22,10 +21,12 @@ use Rattle.oz_semantics.specs.declared.outcome.RaiseKind.{RaiseKind}
 use Rattle.oz_semantics.specs.declared.outcome.RaiseKind.TheVariants.{FailureTell}
 use Rattle.view_laws.specs.Sights.{IsEnd}
 use Rattle.view_laws.proofs.ChangeLaws.{edit_of, changed_by, edit_keeps}
+use Rattle.settle_laws.proofs.FitLaws.{FitsIn, AnswerFits, answer_fits, fits_kept}
 
 -- What is so of all that follows a step, and of each end of the top, is so of each step: from layers that are good, where each edit of a step keeps them so
 module _ (Good : List Layer → Type 0) (Holds : Turned → Type 0) (k : Kernel)
     (edits : (space : List ℕ) (f : Layer → Layer) (layers : List Layer) → ((l : Layer) → ((f l).space ≡ l.space) × (l.next.child ≤ (f l).next.child)) → Good layers → Good (in_layer space f layers))
+    (changed_tree : (parent : List ℕ) (edit : Edit) (layers : List Layer) → FitsIn layers parent edit → Good layers → Good (edited k.statements parent edit layers))
     (ended : (space : List ℕ) (how : Layer → Layer) (layers : List Layer) → IsEnd how → Good layers → Good (ending space how layers))
     (follows : (mover : Option Ident) (cost : ℕ) (c : Configuration) → Good c.layers → 1 ≤ cost → Holds (settled k.statements mover cost c))
     (ends : (x : Ident) (layers : List Layer) (c : Configuration) → Good layers → Holds (top_ended 1 x (without_inconsistent layers) c)) where
@@ -73,36 +74,47 @@ module _ (Good : List Layer → Type 0) (Holds : Turned → Type 0) (k : Kernel)
       changed_good id changes (changed id layers change)
       (subst Good (sym (changed_by id layers change)) (edits id.space (edit_of id.number change) layers (λ l. (kept.space l, omega (arith, kept.children l))) good))
 
-  told_holds : (id : Ident) (ts : List Tell) (changes : List Change) (layers : List Layer) (c : Configuration) → Good layers → Holds (told k.statements id ts changes layers c)
-  told_holds id ts changes layers c good = by (is_consistent (view layers id.space ++ ts))
+  -- where the change leaves good layers, once the space was told
+  told_holds : (id : Ident) (ts : List Tell) (change : List Layer → List Layer) (layers : List Layer) (c : Configuration) → Good layers
+      → (Good (in_layer id.space (telling ts) layers) → Good (change (in_layer id.space (telling ts) layers))) → Holds (told k.statements id ts change layers c)
+  told_holds id ts change layers c good leaves = by (is_consistent (view layers id.space ++ ts))
     where
-      by : (b : Bool) → Holds (if b then went_on k.statements id 1 (done id ts changes layers) c else raised_kind k.statements id FailureTell layers c)
-      by true =
-          went_holds id 1 (done id ts changes layers) c
-          (changed_good id changes (in_layer id.space (telling ts) layers) (edits id.space (telling ts) layers (λ l. (refl, omega arith)) good)) one
+      by : (b : Bool) → Holds (if b then went_on k.statements id 1 (change (in_layer id.space (telling ts) layers)) c else raised_kind k.statements id FailureTell layers c)
+      by true = went_holds id 1 (change (in_layer id.space (telling ts) layers)) c (leaves (edits id.space (telling ts) layers (λ l. (refl, omega arith)) good)) one
       by false = kind_holds id FailureTell layers c good
 
   effect_holds : (id : Ident) (layers : List Layer) (c : Configuration) (effect : Effect) → Good layers → Holds (after_effect k id layers c effect)
   effect_holds id layers c (Makes changes) good = went_holds id 1 (changed_all id changes layers) c (changed_good id changes layers good) one
-  effect_holds id layers c (Tells ts changes) good = told_holds id ts changes layers c good
+  effect_holds id layers c (Tells ts changes) good = told_holds id ts (changed_all id changes) layers c good (changed_good id changes (in_layer id.space (telling ts) layers))
   effect_holds id layers c (ShowsText x) good =
       let printed : Printed = term_text k.words (view layers id.space) x in
       went_holds id (1 + printed.nodes) layers (record c { shown = c.shown ++ printed.bytes ∷ [] }) good (omega arith)
 
-  answer_holds : (id : Ident) (layers : List Layer) (c : Configuration) (answer : Answer) → Good layers → Good c.layers → Holds (after_answer k id layers c answer)
-  answer_holds id layers c (Acts act) good first = effect_holds id layers c (act_effect (layer_of layers id.space) act) good
-  answer_holds id layers c (RaisesKind kind) good first = kind_holds id kind layers c good
-  answer_holds id layers c (RaisesTerm x) good first = raised_holds id x layers c good
-  answer_holds id layers c (Rests ready) good first = follows (Some id) 1 c first one
+  edit_holds : (id : Ident) (edit : Edit) (layers : List Layer) (c : Configuration) → FitsIn layers id.space edit → Good layers → Holds (after_edit k.statements id edit layers c)
+  edit_holds id edit layers c fits good =
+      let ts : List Tell = edit_tells layers (layer_of layers id.space) edit in
+      told_holds id ts (edited k.statements id.space edit) layers c good
+      (changed_tree id.space edit (in_layer id.space (telling ts) layers) (fits_kept id.space (telling ts) layers id.space edit (λ l. refl) fits))
+
+  -- of a thread that takes its statement off its stack
+  answer_holds : (id : Ident) (c : Configuration) (answer : Answer) → AnswerFits c.layers id.space answer → Good (without_top id c.layers) → Good c.layers
+      → Holds (after_answer k id (without_top id c.layers) c answer)
+  answer_holds id c (Acts act) fits good first = effect_holds id (without_top id c.layers) c (act_effect (layer_of (without_top id c.layers) id.space) act) good
+  answer_holds id c (Edits edit) fits good first =
+      edit_holds id edit (without_top id c.layers) c (fits_kept id.space (with_frames id.number (λ frames. drop 1 frames)) c.layers id.space edit (λ l. refl) fits) good
+  answer_holds id c (RaisesKind kind) fits good first = kind_holds id kind (without_top id c.layers) c good
+  answer_holds id c (RaisesTerm x) fits good first = raised_holds id x (without_top id c.layers) c good
+  answer_holds id c (Operates op space x) fits good first = follows (Some id) 1 c first one
+  answer_holds id c (Rests ready) fits good first = follows (Some id) 1 c first one
 
   pub step_holds : (id : Ident) (c : Configuration) → Good c.layers → Holds (stepped k id c)
   step_holds id c good =
-      answer_holds id (without_top id c.layers) c (stack_answer (sight k.statements c.layers id.space) (stack_of c.layers id))
+      answer_holds id c (answer_in k.statements c.layers (states_of k.statements c.layers) id.space (stack_of c.layers id)) (answer_fits k.statements c.layers id)
       (edits id.space (with_frames id.number (λ frames. drop 1 frames)) c.layers (λ l. (refl, omega arith)) good) good
 
 -- So it is of what asks nothing of the layers
 pub each_step : (Holds : Turned → Type 0) (k : Kernel) → ((mover : Option Ident) (cost : ℕ) (c : Configuration) → 1 ≤ cost → Holds (settled k.statements mover cost c))
     → ((x : Ident) (layers : List Layer) (c : Configuration) → Holds (top_ended 1 x layers c)) → (id : Ident) (c : Configuration) → Holds (stepped k id c)
 each_step Holds k follows ends id c =
-    step_holds (λ (layers : List Layer). Unit {0}) Holds k (λ space f layers h good. tt) (λ space how layers h good. tt) (λ mover cost d good h. follows mover cost d h)
+    step_holds (λ (layers : List Layer). Unit {0}) Holds k (λ space f layers h good. tt) (λ parent edit layers fits good. tt) (λ space how layers h good. tt) (λ mover cost d good h. follows mover cost d h)
     (λ x layers d good. ends x (without_inconsistent layers) d) id c tt

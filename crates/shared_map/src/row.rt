@@ -1,7 +1,9 @@
 //! The values of a leaf.
-ghost use Rattle.std.specs.Prelude.{◌≡◌, ◌<◌, ◌/◌, ◌%◌, cond, IfOk, OnOk, option_copied};
+ghost use Rattle.std.specs.Prelude.{◌≡◌, ◌<◌, ◌/◌, ◌%◌, true, cond, IfOk, OnOk, option_copied, option_map};
 ghost use Rattle.shared_map.specs.Lookup.{choice, four_at, row_at, nothing, placed};
+ghost use Rattle.shared_map.specs.Changes.{changed_at};
 
+use crate::Change;
 use oz_base::Copies;
 use std::alloc::{AllocError, Global};
 use std::mem;
@@ -168,5 +170,89 @@ impl<V: Copies> Row<V> {
         self.b.copy_to(alloc, &mut to.b)?;
         self.c.copy_to(alloc, &mut to.c)?;
         self.d.copy_to(alloc, &mut to.d)
+    }
+}
+
+fn changed_value<V, C: Change<V>>(
+    alloc: Global,
+    change: &C,
+    value: &Option<V>,
+) -> Result<Option<V>, AllocError>
+    ensures { IfOk result (λ after. after ≡ option_map (C.changed change.now) value.now) }
+{
+    match value {
+        None => Ok(None),
+        Some(value) => Ok(Some(change.changed(alloc, value)?)),
+    }
+}
+
+fn keeps_value<V, C: Change<V>>(change: &C, value: &Option<V>) -> bool
+    ensures { result ≡ true → option_map (C.changed change.now) value.now ≡ value.now }
+{
+    match value {
+        None => true,
+        Some(value) => change.keeps(value),
+    }
+}
+
+impl<V> Four<V> {
+    fn is_kept<C: Change<V>>(&self, change: &C) -> bool
+        ensures { result ≡ true → changed_at (C.changed change.now) (four_at self.now) ≡ four_at self.now }
+    {
+        if !keeps_value(change, &self.a) {
+            return false;
+        }
+        if !keeps_value(change, &self.b) {
+            return false;
+        }
+        if !keeps_value(change, &self.c) {
+            return false;
+        }
+        keeps_value(change, &self.d)
+    }
+}
+
+impl<V> Row<V> {
+    /// Whether no value gives way to another.
+    pub fn is_kept<C: Change<V>>(&self, change: &C) -> bool
+        ensures { result ≡ true → changed_at (C.changed change.now) (row_at self.now) ≡ row_at self.now }
+    {
+        if !self.a.is_kept(change) {
+            return false;
+        }
+        if !self.b.is_kept(change) {
+            return false;
+        }
+        if !self.c.is_kept(change) {
+            return false;
+        }
+        self.d.is_kept(change)
+    }
+}
+
+impl<V: Drop> Four<V> {
+    fn changed<C: Change<V>>(&self, alloc: Global, change: &C) -> Result<Self, AllocError>
+        ensures { IfOk result (λ after. four_at after ≡ changed_at (C.changed change.now) (four_at self.now)) }
+    {
+        Ok(Four {
+            a: changed_value(alloc, change, &self.a)?,
+            b: changed_value(alloc, change, &self.b)?,
+            c: changed_value(alloc, change, &self.c)?,
+            d: changed_value(alloc, change, &self.d)?,
+        })
+    }
+}
+
+impl<V: Drop> Row<V> {
+    /// A row in which each value gives way to another.
+    pub fn changed<C: Change<V>>(&self, alloc: Global, change: &C) -> Result<Self, AllocError>
+        ensures { IfOk result (λ after. row_at after ≡ changed_at (C.changed change.now) (row_at self.now)) }
+    {
+        Ok(Row {
+            a: self.a.changed(alloc, change)?,
+            b: self.b.changed(alloc, change)?,
+            c: self.c.changed(alloc, change)?,
+            d: self.d.changed(alloc, change)?,
+        })
     }
 }

@@ -61,14 +61,14 @@ pub read_set : (levels : List Level) (place : ℕ) (m l : Level) → place < len
 read_set levels place m l within e = e ∙ get_or-set_same levels place m l within
 
 pub gives_quietly : (given : Given) (l : Level) → IsQuiet (giving given) l (after_giving given l)
-gives_quietly Nothing l = record { becomes = refl; space = refl; store = refl; told_from = refl; touched = refl; traced = refl; variables = omega arith; children = omega arith }
-gives_quietly (Variables n) l = record { becomes = refl; space = refl; store = refl; told_from = refl; touched = refl; traced = refl; variables = omega arith; children = omega arith }
-gives_quietly Procedure l = record { becomes = refl; space = refl; store = refl; told_from = refl; touched = refl; traced = refl; variables = omega arith; children = omega arith }
-gives_quietly Name l = record { becomes = refl; space = refl; store = refl; told_from = refl; touched = refl; traced = refl; variables = omega arith; children = omega arith }
-gives_quietly (Cell content) l = record { becomes = refl; space = refl; store = refl; told_from = refl; touched = refl; traced = refl; variables = omega arith; children = omega arith }
-gives_quietly (Content n content) l = record { becomes = refl; space = refl; store = refl; told_from = refl; touched = refl; traced = refl; variables = omega arith; children = omega arith }
-gives_quietly (Port stream) l = record { becomes = refl; space = refl; store = refl; told_from = refl; touched = refl; traced = refl; variables = omega arith; children = omega arith }
-gives_quietly (End n end) l = record { becomes = refl; space = refl; store = refl; told_from = refl; touched = refl; traced = refl; variables = omega arith; children = omega arith }
+gives_quietly Nothing l = record { becomes = refl; space = refl; store = refl; told_from = refl; touched = refl; traced = refl; knows = refl; variables = omega arith; children = omega arith }
+gives_quietly (Variables n) l = record { becomes = refl; space = refl; store = refl; told_from = refl; touched = refl; traced = refl; knows = refl; variables = omega arith; children = omega arith }
+gives_quietly Procedure l = record { becomes = refl; space = refl; store = refl; told_from = refl; touched = refl; traced = refl; knows = refl; variables = omega arith; children = omega arith }
+gives_quietly Name l = record { becomes = refl; space = refl; store = refl; told_from = refl; touched = refl; traced = refl; knows = refl; variables = omega arith; children = omega arith }
+gives_quietly (Cell content) l = record { becomes = refl; space = refl; store = refl; told_from = refl; touched = refl; traced = refl; knows = refl; variables = omega arith; children = omega arith }
+gives_quietly (Content n content) l = record { becomes = refl; space = refl; store = refl; told_from = refl; touched = refl; traced = refl; knows = refl; variables = omega arith; children = omega arith }
+gives_quietly (Port stream) l = record { becomes = refl; space = refl; store = refl; told_from = refl; touched = refl; traced = refl; knows = refl; variables = omega arith; children = omega arith }
+gives_quietly (End n end) l = record { becomes = refl; space = refl; store = refl; told_from = refl; touched = refl; traced = refl; knows = refl; variables = omega arith; children = omega arith }
 
 -- A space gives something out and is told more
 module _ (levels : List Level) (id : Ident) (place : ℕ) (s : IsSound levels) (h : PlaceIn levels id.space place)

@@ -22,6 +22,7 @@ quiet_twice f g l m n p q = record {
   told_from = q.told_from ∙ p.told_from;
   touched = q.touched ∙ p.touched;
   traced = q.traced ∙ p.traced;
+  knows = q.knows ∙ p.knows;
   variables = let a = p.variables in let b = q.variables in omega (arith, a, b);
   children = let a = p.children in let b = q.children in omega (arith, a, b);
 }
@@ -35,6 +36,7 @@ quiet_as f g l m q e = record {
   told_from = q.told_from;
   touched = q.touched;
   traced = q.traced;
+  knows = q.knows;
   variables = q.variables;
   children = q.children;
 }
@@ -57,6 +59,7 @@ quiet_same l m q = λ i. record {
   objects = record { cells = (q.becomes i).cells; ports = (q.becomes i).ports };
   numbers = record { variable = (q.becomes i).next.variable; procedure = (q.becomes i).next.procedure; name = (q.becomes i).next.name; child = (q.becomes i).next.child };
   traced = q.traced i;
+  knows_space = q.knows i;
 }
 
 module _ (n : ℕ) (handler : List Frame) (l l1 : Level) (q : IsQuiet (with_frames n (λ stack. handler ++ stack)) l l1) where

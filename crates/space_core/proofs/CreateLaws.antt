@@ -1,6 +1,6 @@
 -- What is kept of the spaces fits their layers where a space is created.
 use Rattle.std.proofs.Common.{◌≡◌, inl, inr, ℕ, ◌+◌, nat_eq, Bool, true, false, ◌&&◌, if◌then◌else◌, cond, List, [], ◌∷◌, ◌++◌, flat_map, length, slice_set, slice_index_or, refl, sym, ap, ap₂, subst, ◌∙◌, arith, Contains, Option, Some, unwrap_or}
-use Rattle.std.specs.List.{list_all, find}
+use Rattle.std.specs.List.{list_any, list_all, find}
 use Rattle.oz_base.specs.Lists.{list_eq, edit_first, put_before}
 use Rattle.oz_base.specs.declared.names.Ident.{Ident}
 use Rattle.oz_semantics.specs.Names.{parent_of, space_lt, child_name}
@@ -11,6 +11,7 @@ use Rattle.oz_semantics.specs.declared.value.Tell.{Tell}
 use Rattle.oz_semantics.specs.declared.configuration.Layer.{Layer}
 use Rattle.oz_laws.proofs.SameLaws.{In, In-from_contains, contains-from_In}
 use Rattle.view_laws.specs.Trees.{IsTree}
+use Rattle.view_laws.specs.Spaceless.{gives_space}
 use Rattle.view_laws.proofs.Members.{decide}
 use Rattle.view_laws.proofs.NameLaws.{equal_names, above_parent}
 use Rattle.view_laws.proofs.SightLaws.{creation_unseen, space_of}
@@ -159,6 +160,7 @@ module _ (levels : List Level) (s : IsSound levels) (parent : List ℕ) (place :
     touches = λ t n.
         subst (λ (ts : List Tell). Traces name (seen_above after name) ts m.touched) (sym no_tells)
         (subst (Traces name (seen_above after name) []) (sym child.bare.touched) (traces_nothing name (seen_above after name)));
+    known = λ k. ap (list_any gives_space) no_tells;
   })
 
   fits_new : (n : Level) → Contains news n → Fits after n
@@ -176,7 +178,7 @@ module _ (levels : List Level) (s : IsSound levels) (parent : List ℕ) (place :
     fits_counted : Fits after counted
     fits_counted =
         subst (Fits after) (sym is)
-        (fits_alike after l2 (record l2 { numbers = record l2.numbers { child = count } }) (record { space = refl; store = refl; told_from = refl; touched = refl; traced = refl })
+        (fits_alike after l2 (record l2 { numbers = record l2.numbers { child = count } }) (record { space = refl; store = refl; told_from = refl; touched = refl; traced = refl; knows = refl })
         (fits_new l2 (place_member news parent place2 x2 h2 l2 e2)))
 
     pub create_shows : shown_all (slice_set news place2 counted) ≡ created parent procedure (shown_all levels)

@@ -1,6 +1,6 @@
 -- What is kept of the spaces fits their layers where a space ends.
 use Rattle.std.proofs.Common.{◌≡◌, inl, inr, ℕ, Bool, true, false, not, List, [], ◌∷◌, ◌++◌, filter, flat_map, length, drop, slice_set, slice_index_or, refl, sym, ap, ap₂, subst, ◌∙◌, arith, Contains}
-use Rattle.std.specs.List.{list_all}
+use Rattle.std.specs.List.{list_any, list_all}
 use Rattle.std.proofs.lemmas.Bool.{false≢true}
 use Rattle.std.proofs.lemmas.List.{append-nil}
 use Rattle.std.proofs.Math.Seq.{drop-length}
@@ -11,6 +11,7 @@ use Rattle.oz_semantics.specs.declared.value.Tell.{Tell}
 use Rattle.oz_semantics.specs.declared.configuration.Layer.{Layer}
 use Rattle.oz_laws.proofs.SameLaws.{In-from_contains, contains-from_In}
 use Rattle.view_laws.specs.Trees.{IsTree}
+use Rattle.view_laws.specs.Spaceless.{gives_space}
 use Rattle.view_laws.proofs.Members.{decide, not_both, some_of}
 use Rattle.view_laws.proofs.NameLaws.{below_itself, properly_trans}
 use Rattle.view_laws.proofs.ListLaws.{in_filter}
@@ -114,4 +115,5 @@ module _ (levels : List Level) (space : List ℕ) (place : ℕ) (x : Layer) (h :
     touches = λ t n.
         subst (λ (ts : List Tell). Traces space (seen_above (shown_all levels) space) ts m.touched) (sym no_tells)
         (subst (Traces space (seen_above (shown_all levels) space) []) (sym f.bare.touched) (traces_nothing space (seen_above (shown_all levels) space)));
+    known = λ k. ap (list_any gives_space) no_tells;
   })

@@ -1,6 +1,6 @@
 -- What becomes of the spaces below one that was told more is what is left where those fail that see what is inconsistent.
 use Rattle.std.proofs.Common.{◌≡◌, inl, inr, ℕ, zero, suc, true, false, not, List, [], ◌∷◌, ◌++◌, length, drop, slice_get, refl, sym, ap, ap₂, subst, ◌∙◌, arith, Contains, Some, filter, flat_map}
-use Rattle.std.specs.List.{list_all}
+use Rattle.std.specs.List.{list_any, list_all}
 use Rattle.std.proofs.lemmas.Bool.{false≢true}
 use Rattle.std.proofs.lemmas.List.{append-nil}
 use Rattle.std.proofs.Math.Seq.{drop-length, drop-append_seam}
@@ -14,6 +14,7 @@ use Rattle.oz_semantics.specs.declared.configuration.Layer.{Layer}
 use Rattle.oz_laws.proofs.SameLaws.{In, In-from_contains, contains-from_In, and-right}
 use Rattle.settle_laws.proofs.SoundLaws.{left_tree}
 use Rattle.view_laws.specs.Trees.{IsTree}
+use Rattle.view_laws.specs.Spaceless.{gives_space}
 use Rattle.view_laws.proofs.Members.{decide, not_both, and_both, some_of, by_some, In-cases}
 use Rattle.view_laws.proofs.ListLaws.{map_in, in_map, in_filter, filter_in}
 use Rattle.view_laws.proofs.NameLaws.{below_itself, properly, properly_trans}
@@ -97,6 +98,7 @@ module _ (space : List ℕ) (levels : List Level) (stale : IsStale space levels)
       touches = λ t n.
           subst (λ (us : List Tell). Traces l.space us (shown (seeing seen l)).tells seen.touched) (sees ∙ sym (above_is layers l.space inner))
           (subst (λ (us : List Tell). Traces l.space above us seen.touched) (sym (tells_same seen h)) h.touches);
+      known = λ k. ap (list_any gives_space) (tells_same seen h) ∙ stale.known l c k under;
     }
 
     under_right : (fate : Fate) → IsUnder above l fate → IsFate space layers l fate
@@ -225,6 +227,7 @@ module _ (space : List ℕ) (layers : List Layer) (tree : IsTree layers) (below 
         home = λ t. ap (λ (ts : List Tell). list_all (is_home left l.space) (flat_map named_by ts)) none;
         touches = λ t k.
             subst (λ (ts : List Tell). Traces l.space (seen_above left l.space) ts []) (sym none) (traces_nothing l.space (seen_above left l.space));
+        known = λ k. ap (list_any gives_space) none;
       }
 
   -- All of them

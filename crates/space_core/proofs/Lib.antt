@@ -8,11 +8,15 @@ pub mod AnswerLaws
 pub mod TellLaws
 pub mod AnyLaws
 pub mod OuterLaws
+pub mod PlainLaws
 pub mod ToldLaws
 pub mod BeginLaws
 pub mod ParentLaws
 pub mod EndLaws
 pub mod CreateLaws
+pub mod CreateSettles
+pub mod SpaceEditLaws
+pub mod RenamedLaws
 pub mod SilentLaws
 pub mod TreeAnswers
 pub mod StackLaws
@@ -25,3 +29,8 @@ pub mod DeclareLaws
 pub mod AdvanceLaws
 pub mod ThroughLaws
 pub mod CatchLaws
+pub mod AnewLaws
+pub mod GraftLoose
+pub mod CopyTold
+pub mod MergeLists
+pub mod MergeTold

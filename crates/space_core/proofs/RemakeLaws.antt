@@ -208,6 +208,10 @@ module _ (levels : List Level) (space : List ℕ) (place : ℕ) (x : Layer) (h :
       | inr k ↦ all_home layers after n.space (flat_map named_by (shown n).tells) (after_homes levels space place x h l m e (telling ts) shows told.space told.numbers s n.space)
           ((s.fits n (elsewhere_in levels place n k)).home t)
     ]);
+    known = λ n c t u. elim (set_member levels place seeing_level n within c) [
+      | inl k ↦ absurd (not_both _ u (subst (λ (j : Level). is_properly_below space j.space ≡ false) (sym k) (subst (λ (p : List ℕ). is_properly_below space p ≡ false) (sym name) (not_under_itself space))))
+      | inr k ↦ (s.fits n (elsewhere_in levels place n k)).known t
+    ];
   }
 
   module _ (fates : List Fate) (are : AreFates space seen_levels fates) where

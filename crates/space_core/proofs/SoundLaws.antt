@@ -58,11 +58,12 @@ pub record IsAlike (old new : Level) : Type 0 where
   pub told_from : new.told_from ≡ old.told_from
   pub touched : new.touched ≡ old.touched
   pub traced : new.traced ≡ old.traced
+  pub knows : new.knows_space ≡ old.knows_space
 
 pub fits_alike : (layers : List Layer) (l m : Level) → IsAlike l m → Fits layers l → Fits layers m
 fits_alike layers l m e f =
     let l' : Level = record l { status = m.status; threads = m.threads; triggers = m.triggers; objects = m.objects; numbers = m.numbers } in
-    let f' : Fits layers l' = record { seen = f.seen; from = f.from; consistent = f.consistent; home = f.home; touches = f.touches } in
+    let f' : Fits layers l' = record { seen = f.seen; from = f.from; consistent = f.consistent; home = f.home; touches = f.touches; known = f.known } in
     let same : l' ≡ m = λ i. record {
       space = sym e.space i;
       status = m.status;
@@ -74,6 +75,7 @@ fits_alike layers l m e f =
       objects = m.objects;
       numbers = m.numbers;
       traced = sym e.traced i;
+      knows_space = sym e.knows i;
     } in
     subst (Fits layers) same f'
 
@@ -91,6 +93,7 @@ fits_after before after l v a h f = record {
   consistent = f.consistent;
   home = λ t. all_home before after l.space (flat_map named_by (shown l).tells) h (f.home t);
   touches = λ t n. subst (λ (ts : List Tell). Traces l.space ts (shown l).tells l.touched) (sym a) (f.touches t n);
+  known = f.known;
 }
 
 pub above_same : (before after : List Layer) (space : List ℕ) → (is_top space ≡ false → view after (parent_of space) ≡ view before (parent_of space)) → seen_above after space ≡ seen_above before space
@@ -182,7 +185,7 @@ module _ (levels : List Level) (space : List ℕ) (place : ℕ) (x : Layer) (h :
           tree = subst IsTree (sym shows) (change_tree space change layers (λ k at. (keeps_space k at, keeps_children k at)) s.tree);
           fits = λ n c. subst (λ (ls : List Layer). Fits ls n) (sym shows) (elim (set_member levels place m n (place_within levels space place x h) c) [
             | inl k ↦ subst (Fits after) (sym k)
-                (fits_alike after l m (record { space = q.space; store = q.store; told_from = q.told_from; touched = q.touched; traced = q.traced }) (fits_quietly l (s.fits l (place_member levels space place x h l e))))
+                (fits_alike after l m (record { space = q.space; store = q.store; told_from = q.told_from; touched = q.touched; traced = q.traced; knows = q.knows }) (fits_quietly l (s.fits l (place_member levels space place x h l e))))
             | inr k ↦ fits_quietly n (s.fits n (elsewhere_in levels place n k))
           ]);
         };

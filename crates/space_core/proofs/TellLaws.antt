@@ -3,7 +3,7 @@ use Rattle.std.proofs.Common.{◌≡◌, ◌≢◌, ◌⊎◌, inl, inr, ℕ, �
 use Rattle.std.specs.List.{list_any, list_all, flat_map, find}
 use Rattle.std.proofs.lemmas.Bool.{false≢true}
 use Rattle.std.proofs.lemmas.List.{append-nil, length-map, get_or-map, drop-append-le}
-use Rattle.std.proofs.lemmas.List.Folds.{list_all-append}
+use Rattle.std.proofs.lemmas.List.Folds.{list_all-append, list_any-append}
 use Rattle.std.proofs.lemmas.Grind.{flat_map-append}
 use Rattle.oz_base.specs.Lists.{list_eq}
 use Rattle.oz_base.specs.declared.names.Ident.{Ident}
@@ -15,10 +15,12 @@ use Rattle.oz_semantics.specs.declared.configuration.Layer.{Layer}
 use Rattle.oz_laws.proofs.SameLaws.{In, In-from_contains, and-left, and-right}
 use Rattle.view_laws.specs.Sights.{KeepsSpace, is_led}
 use Rattle.view_laws.specs.Trees.{IsTree, is_ascending, names_of}
+use Rattle.view_laws.specs.Spaceless.{gives_space}
 use Rattle.view_laws.proofs.Members.{decide, not_both, and_both, by_some}
 use Rattle.view_laws.proofs.NameLaws.{equal_names, names_equal, not_above_parent, properly_by}
 use Rattle.view_laws.proofs.SightLaws.{of_space, space_of, change_unseen, later_silent, view_splits, parent_above}
 use Rattle.view_laws.proofs.TreeLaws.{one_of_name, trees_lead, change_tree}
+use Rattle.view_laws.proofs.SpacelessLaws.{or_false, left_false, right_false}
 use Rattle.space_core.specs.Places.{IsFirst}
 use Rattle.space_core.specs.Shown.{next_with, shown, shown_all, seen_above, is_home, Traces, Fits, IsSound}
 use Rattle.space_core.specs.Telling.{IsToldMore, has_below}
@@ -29,7 +31,7 @@ use Rattle.space_core.proofs.MemberLaws.{IsElsewhere, elsewhere_in, set_member, 
 use Rattle.space_core.proofs.TraceLaws.{traces_twice}
 use Rattle.space_core.proofs.SoundLaws.{Edited, KeepsHomes, shown_member, place_within, place_member, read_shown, all_home, set_shown, fits_after, above_same, homes_kept, changed_grown}
 
-none_of : {A : Type 0} (p : A → Bool) (xs : List A) → list_any p xs ≡ false → (x : A) → Contains xs x → p x ≡ false
+pub none_of : {A : Type 0} (p : A → Bool) (xs : List A) → list_any p xs ≡ false → (x : A) → Contains xs x → p x ≡ false
 none_of p xs e x h = elim (decide (p x)) [ inl k ↦ absurd (not_both _ (by_some p xs x h k) e) | inr k ↦ k ]
 
 -- Two layers of one name stand at one place
@@ -185,6 +187,7 @@ pub record FitsAt (layers : List Layer) (space : List ℕ) (l : Level) : Type 0 
   pub consistent : is_consistent l.store ≡ true
   pub home : l.traced ≡ true → list_all (is_home layers space) (flat_map named_by (shown l).tells) ≡ true
   pub touches : l.traced ≡ true → is_top space ≡ false → Traces space (seen_above layers space) (shown l).tells l.touched
+  pub known : l.knows_space ≡ false → list_any gives_space (shown l).tells ≡ false
 
 pub fits_at : (layers : List Layer) (space : List ℕ) (l : Level) → space ≡ l.space → FitsAt layers space l → Fits layers l
 fits_at layers space l e f = record {
@@ -193,6 +196,7 @@ fits_at layers space l e f = record {
   consistent = f.consistent;
   home = subst (λ (s : List ℕ). l.traced ≡ true → list_all (is_home layers s) (flat_map named_by (shown l).tells) ≡ true) e f.home;
   touches = subst (λ (s : List ℕ). l.traced ≡ true → is_top s ≡ false → Traces s (seen_above layers s) (shown l).tells l.touched) e f.touches;
+  known = f.known;
 }
 
 pub at_fits : (layers : List Layer) (space : List ℕ) (l : Level) → l.space ≡ space → Fits layers l → FitsAt layers space l
@@ -202,6 +206,7 @@ at_fits layers space l e f = record {
   consistent = f.consistent;
   home = subst (λ (s : List ℕ). l.traced ≡ true → list_all (is_home layers s) (flat_map named_by (shown l).tells) ≡ true) e f.home;
   touches = subst (λ (s : List ℕ). l.traced ≡ true → is_top s ≡ false → Traces s (seen_above layers s) (shown l).tells l.touched) e f.touches;
+  known = f.known;
 }
 
 -- What fits what its parent sees, where its layer is one of the tree's
@@ -211,6 +216,7 @@ pub record FitsAbove (layers : List Layer) (space : List ℕ) (m : Level) : Type
   pub consistent : is_consistent m.store ≡ true
   pub home : m.traced ≡ true → list_all (is_home layers space) (flat_map named_by (shown m).tells) ≡ true
   pub touches : m.traced ≡ true → is_top space ≡ false → Traces space (seen_above layers space) (shown m).tells m.touched
+  pub known : m.knows_space ≡ false → list_any gives_space (shown m).tells ≡ false
 
 module _ (levels : List Level) (space : List ℕ) (place : ℕ) (x : Layer) (h : IsFirst (is_of space) (shown_all levels) place x) (l m : Level) (e : l ≡ slice_index_or levels place l)
     (change : Layer → Layer) (becomes : shown m ≡ change (shown l)) (names : m.space ≡ l.space) (numbers : m.numbers ≡ l.numbers) (s : IsSound levels) where
@@ -223,6 +229,7 @@ module _ (levels : List Level) (space : List ℕ) (place : ℕ) (x : Layer) (h :
         home = λ t. all_home (shown_all levels) (in_layer space change (shown_all levels)) space (flat_map named_by (shown m).tells)
             (after_homes levels space place x h l m e change becomes names numbers s space) (f.home t);
         touches = λ t n. subst (λ (ts : List Tell). Traces space ts (shown m).tells m.touched) (sym (own_above levels space place x h l m e change becomes names numbers s)) (f.touches t n);
+        known = f.known;
       })
 
   pub edit_above : has_below (shown_all levels) space ≡ false → FitsAbove (shown_all levels) space m → Edited levels (slice_set levels place m) space change
@@ -258,6 +265,9 @@ module _ (levels : List Level) (space : List ℕ) (place : ℕ) (x : Layer) (h :
       ∙ list_all-append (is_home (shown_all levels) space) (flat_map named_by (shown l).tells) (flat_map named_by ts)
       ∙ and_both _ _ (fitted.home t) (all_flat (is_home (shown_all levels) space) named_by ts ∙ homes k)
 
+  none_told : l.knows_space ≡ false → list_any gives_space ts ≡ false → list_any gives_space (shown m).tells ≡ false
+  none_told k n = ap (list_any gives_space) more_tells ∙ list_any-append gives_space (shown l).tells ts ∙ or_false _ _ (fitted.known k) n
+
   tell_above : FitsAbove (shown_all levels) space m
   tell_above = record {
     store = told.store ∙ ap (λ (us : List Tell). us ++ ts) parts ∙ append_assoc (seen_above (shown_all levels) space) (shown l).tells ts ∙ ap (λ (us : List Tell). seen_above (shown_all levels) space ++ us) (sym more_tells);
@@ -270,6 +280,7 @@ module _ (levels : List Level) (space : List ℕ) (place : ℕ) (x : Layer) (h :
         (subst (λ (xs : List Ident). Traces space (seen_above (shown_all levels) space) ((shown l).tells ++ ts) xs) (sym k.noted)
         (traces_twice space (seen_above (shown_all levels) space) (shown l).tells ts l.touched k.more (fitted.touches (told.traced t).0 n)
         (subst (λ (s : List ℕ). Traces s (seen_above (shown_all levels) space ++ (shown l).tells) ts k.more) own_name (subst (λ (us : List Tell). Traces l.space us ts k.more) parts k.traces))));
+    known = λ k. let parted = sym told.knows ∙ k in none_told (left_false _ _ parted) (right_false _ _ parted);
   }
 
   pub tell_fits : Fits (in_layer space (telling ts) (shown_all levels)) m

@@ -59,16 +59,16 @@ position_none n (t ∷ ts) f =
 abbrev none : Thread
 none = record { number = 0; frames = [] }
 
-module _ (next : ℕ) (ts : List Thread) (a : Ascends 0 next ts) (n : ℕ) where
+module _ (next : ℕ) (ts : List Thread) (a : Ascends 1 next ts) (n : ℕ) where
   numbers_rise : IsNonDecreasingBy (λ t. ordering_index (nat_cmp t.number n)) ts
   numbers_rise i j d le within =
       let up : (get_or ts i d).number ≤ (get_or ts j d).number =
-      grind (arith, ordered 0 next ts a i j d, λ (same : i ≡ j). ap (λ k. (get_or ts k d).number) same) in
+      grind (arith, ordered 1 next ts a i j d, λ (same : i ≡ j). ap (λ k. (get_or ts k d).number) same) in
       grind (arith, nat_tests)
 
   -- what a search by halves finds is the first thread of the number
   pub searched : (r : Result ℕ ℕ) → IsSearchInRange r (length ts) → IsBinarySearchResult (λ t. nat_cmp t.number n) ts r → result_ok r ≡ position (is_numbered n) ts
-  searched (Ok i) within equal = sym (position_at 0 next n ts a i none within (ranked _ n _ (sym (equal none))))
+  searched (Ok i) within equal = sym (position_at 1 next n ts a i none within (ranked _ n _ (sym (equal none))))
   searched (Err i) within parted = sym (position_none n ts (λ j d h e. elim (cases_lt j i) [
     | inl l ↦ (let less : (get_or ts j d).number < n = ranked _ n _ (sym ((parted numbers_rise).0 j d (omega arith) l)) in omega (arith, less, e))
     | inr g ↦ (let more : n < (get_or ts j d).number = ranked _ n _ (sym ((parted numbers_rise).1 j d g h)) in omega (arith, more, e))
@@ -78,7 +78,7 @@ module _ (next : ℕ) (ts : List Thread) (a : Ascends 0 next ts) (n : ℕ) where
 pub found_in_kept : (threads now : List Thread) (next : ℕ) (ended : Bool) (value : Running) → now ≡ threads → record { list = threads; next = next } ≡ value → IsKept threads next ended → (n : ℕ) (r : Result ℕ ℕ) → IsSearchInRange r (length now)
     → IsBinarySearchResult (λ (t : Thread). nat_cmp t.number n) now r → (at : Option ℕ) → at ≡ result_ok r → at ≡ position (is_numbered n) value.list
 found_in_kept threads now next ended value seen viewed k n r within result at e =
-    e ∙ searched next now (subst (Ascends 0 next) (sym seen) k.ascends) n r within result ∙ ap (position (is_numbered n)) (seen ∙ ap (λ (v : Running). v.list) viewed)
+    e ∙ searched next now (subst (Ascends 1 next) (sym seen) k.ascends) n r within result ∙ ap (position (is_numbered n)) (seen ∙ ap (λ (v : Running). v.list) viewed)
 
 -- What edits leave
 
@@ -146,7 +146,7 @@ module _ (ts : List Thread) (next : ℕ) (ended : Bool) (k : IsKept ts next ende
   -- it went on before, and does so still
   kept_at : (now : Bool) → (now ≡ false → (ended ≡ false) × (goes_on t ≡ true → goes_on u ≡ true)) → IsKept (slice_set ts place u) next now
   kept_at now h = record {
-    ascends = ascends_set 0 next ts k.ascends place t u e n;
+    ascends = ascends_set 1 next ts k.ascends place t u e n;
     going = λ w. let a = h w in let all = k.going a.0 in all_set goes_on ts place u all (a.1 (all_at goes_on ts place t all within e));
   }
 
@@ -168,13 +168,21 @@ module _ (ts : List Thread) (next : ℕ) (ended : Bool) (k : IsKept ts next ende
   pub kept_ended : IsKept (slice_set ts place u) next true
   kept_ended = kept_at true (λ w. cc)
 
+ascends_bound : (low high : ℕ) (ts : List Thread) → Ascends low high ts → low ≤ high
+ascends_bound low high [] a = a
+ascends_bound low high (t ∷ ts) a = let r = ascends_bound (t.number + 1) high ts a.1 in omega (arith, r, a.0)
+
+-- where none is left
+pub kept_none : (ts : List Thread) (next : ℕ) (ended : Bool) → IsKept ts next ended → IsKept [] next false
+kept_none ts next ended k = record { ascends = ascends_bound 1 next ts k.ascends; going = λ e. refl }
+
 pub kept_filtered : (ts : List Thread) (next : ℕ) (ended : Bool) → IsKept ts next ended → IsKept (filter goes_on ts) next false
-kept_filtered ts next ended k = record { ascends = ascends_filter goes_on 0 next ts k.ascends; going = λ e. all_filtered goes_on ts }
+kept_filtered ts next ended k = record { ascends = ascends_filter goes_on 1 next ts k.ascends; going = λ e. all_filtered goes_on ts }
 
 -- a new thread stands behind the others
 pub kept_more : (ts more : List Thread) (next after : ℕ) (ended : Bool) → IsKept ts next ended → (t : Thread) → t.number ≡ next → more ≡ ts ++ t ∷ [] → after ≡ next + 1 → (ends : Bool) → ends ≡ is_empty t.frames → IsKept more after (ended || ends)
 kept_more ts more next after ended k t e m n ends s = record {
-  ascends = subst (λ (us : List Thread). Ascends 0 after us) (sym m) (subst (λ a. Ascends 0 a (ts ++ t ∷ [])) (sym n) (ascends_more 0 next ts t e k.ascends));
+  ascends = subst (λ (us : List Thread). Ascends 1 after us) (sym m) (subst (λ a. Ascends 1 a (ts ++ t ∷ [])) (sym n) (ascends_more 1 next ts t e k.ascends));
   going = λ w.
       let a = noted_or ended ends w in
       ap (list_all goes_on) m ∙ list_all-append goes_on ts (t ∷ []) ∙ and_both _ _ (k.going a.0) (and_both _ _ (ap not (sym s ∙ a.1)) refl);

@@ -1,11 +1,13 @@
 -- What comes of a tell that the spaces below see too, step by step.
 use Rattle.std.proofs.Common.{◌≡◌, ◌⊎◌, inl, inr, ℕ, zero, suc, ◌+◌, ◌<◌, ◌≤◌, Bool, true, false, List, [], ◌∷◌, ◌++◌, length, filter, slice_get, slice_set, slice_index_or, refl, sym, ap, ap₂, subst, ◌∙◌, arith, Some, Result, Ok, Err, length-append}
-use Rattle.std.specs.Prelude.{OnErr, IfOk}
+use Rattle.std.specs.Prelude.{◌||◌, OnErr, IfOk}
+use Rattle.std.specs.List.{list_any}
 use Rattle.std.proofs.lemmas.List.{length-set, set-set, get_or_default}
 use Rattle.std.proofs.lemmas.Option.{get_or_from_slice_get}
 use Rattle.oz_base.specs.declared.names.Ident.{Ident}
 use Rattle.oz_semantics.specs.Names.{is_top}
 use Rattle.oz_semantics.specs.declared.value.Tell.{Tell}
+use Rattle.view_laws.specs.Spaceless.{gives_space}
 use Rattle.term_store.specs.Telling.{IsTold}
 use Rattle.space_core.specs.Fates.{IsChosen, IsFate, IsStale, EachFate, AreFates, settled}
 use Rattle.space_core.specs.Shown.{shown_all, is_other}
@@ -73,7 +75,7 @@ module _ (levels : List Level) (place : ℕ) (within : place < length levels) (b
 
 -- What was told, and then noted
 
-pub told_marked : (home : Bool) (ts : List Tell) (l k m : Level) (store : List Tell) (noted : List Ident) → k ≡ record l { store = store } → IsTold l.store ts store [] noted true → IsMarked home noted k m
+pub told_marked : (home : Bool) (ts : List Tell) (l k m : Level) (store : List Tell) (noted : List Ident) → k ≡ record l { store = store } → IsTold l.store ts store [] noted true → IsMarked home ts noted k m
     → IsToldMore home ts l m
 told_marked home ts l k m store noted e t q =
     let kept : k.space ≡ l.space = ap (λ (n : Level). n.space) e in
@@ -94,6 +96,7 @@ told_marked home ts l k m store noted e t q =
             ∙ ap₂ (λ (xs ys : List Ident). xs ++ ys) (ap (λ (n : Level). n.touched) e) (ap₂ (λ (s : List ℕ) (xs : List Ident). filter (is_other s) xs) kept t.2.noted);
         traces = record { all = t.2.more; touches = t.2.touches; others = refl };
       };
+      knows = q.knows ∙ ap (λ (n : Level). n.knows_space || list_any gives_space ts) e;
     }
 
 module _ (levels : List Level) (place : ℕ) (within : place < length levels) (store : List Tell) (put : List Level) (fates : List Fate) (p : IsStoreAt place store levels put fates) where
@@ -103,7 +106,7 @@ module _ (levels : List Level) (place : ℕ) (within : place < length levels) (s
   pub put_within : place < length put
   put_within = omega (arith, within, ap length p.left, length-set levels place (record p.before { store = store }))
 
-  pub told_below : (home : Bool) (ts : List Tell) (noted : List Ident) (l k m : Level) → l ≡ slice_index_or levels place l → IsTold l.store ts store [] noted true → k ≡ slice_index_or put place k → IsMarked home noted k m
+  pub told_below : (home : Bool) (ts : List Tell) (noted : List Ident) (l k m : Level) → l ≡ slice_index_or levels place l → IsTold l.store ts store [] noted true → k ≡ slice_index_or put place k → IsMarked home ts noted k m
       → (news : List Level) → news ≡ settled fates (slice_set put place m) → ToldThrough place home ts levels news
   told_below home ts noted l k m r t rk q news e =
       let same : k ≡ record p.before { store = store } = read_set levels place (record p.before { store = store }) k within (subst (λ (ls : List Level). k ≡ slice_index_or ls place k) p.left rk) in

@@ -42,6 +42,7 @@ fallen tells l =
       triggers = [];
       objects = record { cells = []; ports = [] };
       traced = true;
+      knows_space = false;
     }
 
 -- a child in which a thread applies the procedure to the root variable

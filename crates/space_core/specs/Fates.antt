@@ -8,6 +8,7 @@ use Rattle.oz_semantics.specs.Settling.{may_fail, inconsistent_spaces}
 use Rattle.oz_semantics.specs.declared.value.Tell.{Tell}
 use Rattle.oz_semantics.specs.declared.configuration.Layer.{Layer}
 use Rattle.view_laws.specs.Trees.{IsTree}
+use Rattle.view_laws.specs.Spaceless.{gives_space}
 use Rattle.space_core.specs.Ending.{fallen}
 use Rattle.space_core.specs.Shown.{shown, shown_all, is_home, Traces, Fits}
 use Rattle.space_core.specs.declared.fates.Fate.{Fate}
@@ -111,6 +112,7 @@ pub record IsStale (space : List ℕ) (levels : List Level) : Type 0 where
   pub seen : (l : Level) → Contains levels l → is_properly_below space l.space ≡ false → l.store ≡ view (shown_all levels) l.space
   pub consistent : (l : Level) → Contains levels l → is_properly_below space l.space ≡ false → is_consistent l.store ≡ true
   pub home : (l : Level) → Contains levels l → l.traced ≡ true → is_properly_below space l.space ≡ true → list_all (is_home (shown_all levels) l.space) (flat_map named_by (shown l).tells) ≡ true
+  pub known : (l : Level) → Contains levels l → l.knows_space ≡ false → is_properly_below space l.space ≡ true → list_any gives_space (shown l).tells ≡ false
 
 -- what becomes of each of these spaces is right
 abbrev pub EachFate : List ℕ → List Level → List Fate → List Layer → Type 0

@@ -1,5 +1,6 @@
 pub mod Levels
 pub mod Places
+pub mod Plain
 pub mod Threads
 pub mod Shown
 pub mod Stacks
@@ -12,3 +13,7 @@ pub mod Ending
 pub mod Fates
 pub mod Advances
 pub mod Firing
+pub mod SpaceEdits
+pub mod Anew
+pub mod Renamed
+pub mod Merging

@@ -11,6 +11,7 @@ use Rattle.oz_semantics.specs.declared.configuration.Layer.{Layer}
 use Rattle.oz_semantics.specs.declared.configuration.Next.{Next}
 use Rattle.oz_laws.specs.Touched.{Touches}
 use Rattle.view_laws.specs.Trees.{IsTree}
+use Rattle.view_laws.specs.Spaceless.{gives_space}
 use Rattle.space_core.specs.declared.level.Level.{Level}
 use Rattle.space_core.specs.declared.level.Numbers.{Numbers}
 
@@ -78,6 +79,8 @@ pub record Fits (layers : List Layer) (l : Level) : Type 0 where
   pub home : l.traced ≡ true → list_all (is_home layers l.space) (flat_map named_by (shown l).tells) ≡ true
   -- and of what it touches, the variables of other spaces were noted
   pub touches : l.traced ≡ true → is_top l.space ≡ false → Traces l.space (seen_above layers l.space) (shown l).tells l.touched
+  -- where it is not noted that it was told of a space, it was told of none
+  pub known : l.knows_space ≡ false → list_any gives_space (shown l).tells ≡ false
 
 -- The layers are those of a tree, and what is kept of each space fits them
 pub record IsSound (levels : List Level) : Type 0 where
@@ -92,6 +95,7 @@ pub record IsQuiet (change : Layer → Layer) (old new : Level) : Type 0 where
   pub told_from : new.told_from ≡ old.told_from
   pub touched : new.touched ≡ old.touched
   pub traced : new.traced ≡ old.traced
+  pub knows : new.knows_space ≡ old.knows_space
   pub variables : old.numbers.variable ≤ new.numbers.variable
   pub children : old.numbers.child ≤ new.numbers.child
 

@@ -1,5 +1,5 @@
 -- What is kept of a space that is told more.
-use Rattle.std.specs.Prelude.{ℕ, ◌≡◌, ◌⊎◌, Bool, true, false, List, ◌++◌, filter, is_some, slice_index_or, slice_set}
+use Rattle.std.specs.Prelude.{ℕ, ◌≡◌, ◌⊎◌, ◌||◌, Bool, true, false, List, ◌++◌, filter, is_some, slice_index_or, slice_set}
 use Rattle.std.specs.List.{list_any, list_all}
 use Rattle.oz_base.specs.declared.names.Ident.{Ident}
 use Rattle.oz_semantics.specs.Names.{is_properly_below, is_top}
@@ -8,6 +8,7 @@ use Rattle.oz_semantics.specs.Configurations.{thread_at, with_frames}
 use Rattle.oz_semantics.specs.declared.value.Tell.{Tell}
 use Rattle.oz_semantics.specs.declared.configuration.Frame.{Frame}
 use Rattle.oz_semantics.specs.declared.configuration.Layer.{Layer}
+use Rattle.view_laws.specs.Spaceless.{gives_space}
 use Rattle.space_core.specs.Fates.{AreFates, settled}
 use Rattle.space_core.specs.Giving.{after_giving}
 use Rattle.space_core.specs.Shown.{shown_all, is_home, is_other, Traces, IsQuiet}
@@ -25,9 +26,9 @@ pub record IsNoted (ts : List Tell) (old new : Level) : Type 0 where
   pub noted : new.touched ≡ old.touched ++ more
   pub traces : Traces old.space old.store ts more
 
--- it was told something of which home says whether the variables are those of the space or of spaces above it, and of these variables
--- those of other spaces were noted
-pub record IsMarked (home : Bool) (noted : List Ident) (old new : Level) : Type 0 where
+-- it was told this, of which home says whether the variables are those of the space or of spaces above it, and of these variables those
+-- of other spaces were noted
+pub record IsMarked (home : Bool) (ts : List Tell) (noted : List Ident) (old new : Level) : Type 0 where
   pub store : new.store ≡ old.store
   pub space : new.space ≡ old.space
   pub status : new.status ≡ old.status
@@ -38,6 +39,7 @@ pub record IsMarked (home : Bool) (noted : List Ident) (old new : Level) : Type 
   pub numbers : new.numbers ≡ old.numbers
   pub traced : new.traced ≡ true → (old.traced ≡ true) × (home ≡ true)
   pub notes : new.traced ≡ true → is_top old.space ≡ false → new.touched ≡ old.touched ++ filter (is_other old.space) noted
+  pub knows : new.knows_space ≡ (old.knows_space || list_any gives_space ts)
 
 -- the store was told this; home says whether the variables are those of the space or of spaces above it
 pub record IsToldMore (home : Bool) (ts : List Tell) (old new : Level) : Type 0 where
@@ -52,6 +54,7 @@ pub record IsToldMore (home : Bool) (ts : List Tell) (old new : Level) : Type 0 
   pub numbers : new.numbers ≡ old.numbers
   pub traced : new.traced ≡ true → (old.traced ≡ true) × (home ≡ true)
   pub notes : new.traced ≡ true → is_top old.space ≡ false → IsNoted ts old new
+  pub knows : new.knows_space ≡ (old.knows_space || list_any gives_space ts)
 
 -- it was told this; or that is inconsistent with what the space sees
 abbrev pub IsLevelTold : Bool → List Tell → Level → Level → Bool → Type 0

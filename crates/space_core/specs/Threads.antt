@@ -20,9 +20,9 @@ Ascends low high (t ∷ ts) = (low ≤ t.number) × Ascends (t.number + 1) high 
 abbrev pub goes_on : Thread → Bool
 goes_on t = not (is_empty t.frames)
 
--- The numbers ascend, each less than the next one, and all threads have statements where it is not noted that one may have ended
+-- The numbers ascend from 1 on, each less than the next one, and all threads have statements where it is not noted that one may have ended
 pub record IsKept (threads : List Thread) (next : ℕ) (ended : Bool) : Type 0 where
-  pub ascends : Ascends 0 next threads
+  pub ascends : Ascends 1 next threads
   pub going : ended ≡ false → list_all goes_on threads ≡ true
 
 -- a thread's stack, changed

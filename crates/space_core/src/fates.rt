@@ -36,7 +36,7 @@ pub enum Fate {
 }
 
 /// What a store was told from a place on.
-fn told_from(alloc: Global, store: &Store, from: u64) -> Result<Vec<Tell>, AllocError>
+pub fn told_from(alloc: Global, store: &Store, from: u64) -> Result<Vec<Tell>, AllocError>
     ensures { IfOk result (λ tells. tells.items ≡ drop from store.now) }
 {
     let mut tells = Vec::new(alloc);
@@ -73,12 +73,13 @@ fn may_fail(status: &Status) -> bool
 {
     match status {
         Status::Open | Status::Raised(_) => true,
-        Status::Failed => false,
+        Status::Failed | Status::Merged => false,
     }
 }
 
 /// What becomes of a space that sees what is inconsistent, under a parent that sees this. It refuses where the space has failed
-/// before, and was told something since then: it would be left with what is inconsistent. No thread is left in it that could tell it.
+/// or become a part of another one before, and was told something since then: it would be left with what is inconsistent. No thread is
+/// left in it that could tell it.
 fn fall(alloc: Global, above: &Store, level: &Level) -> Result<Fate, AllocError>
     requires { IsSeenUnder above.now level.now None }
     ensures { IfOk result (IsUnder above.now level.now) }

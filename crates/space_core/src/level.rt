@@ -40,6 +40,8 @@ pub struct Level {
     /// was noted.
     /// So it is in the runs of programs.
     pub traced: bool,
+    /// Whether it was told of a space as a value. Where it is not set, it was not.
+    pub knows_space: bool,
 }
 
 impl Level {
@@ -70,6 +72,7 @@ impl Copies for Level {
             objects: self.objects.copied(alloc)?,
             numbers: self.numbers,
             traced: self.traced,
+            knows_space: self.knows_space,
         })
     }
 }
@@ -94,5 +97,6 @@ pub fn top_level(alloc: Global) -> Level
             child: 1,
         },
         traced: true,
+        knows_space: false,
     }
 }

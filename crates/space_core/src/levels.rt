@@ -1,5 +1,5 @@
 //! The layers.
-ghost use Rattle.std.specs.Prelude.{◌≡◌, ◌<◌, ◌∷◌, [], Some, true, length, drop, slice_get, position, is_some, IfOk, OnOk, OnErr, option_copied};
+ghost use Rattle.std.specs.Prelude.{◌≡◌, ◌<◌, ◌∷◌, [], Some, true, false, length, drop, slice_get, position, is_some, IfOk, OnOk, OnErr, option_copied};
 ghost use Rattle.oz_base.specs.Lists.{first};
 ghost use Rattle.oz_semantics.specs.Names.{parent_of};
 ghost use Rattle.oz_semantics.specs.Configurations.{is_of, layer_at, layer_of, view, ancestor_variables, stack_of, new_layer, next_child, in_layer, with_frames, without_terminated, giving_out, spawning, failed, raised_by, ending};
@@ -12,24 +12,35 @@ ghost use Rattle.oz_semantics.specs.Steps.{without_top};
 ghost use Rattle.oz_semantics.specs.declared.configuration.Frame.{Frame};
 ghost use Rattle.space_core.specs.Levels.{OfLayer, IsToldTo, replacing};
 ghost use Rattle.space_core.specs.Telling.{has_below};
+ghost use Rattle.oz_semantics.specs.Answers.{Copies, TakesIn};
+ghost use Rattle.edit_laws.specs.Edits.{HasChild};
+ghost use Rattle.space_core.specs.SpaceEdits.{IsEdited};
 ghost use Rattle.need_laws.specs.Needs.{has_triggers};
+ghost use Rattle.view_laws.specs.Spaceless.{has_spaces};
+ghost use Rattle.view_laws.specs.Trees.{IsTree};
 ghost use Rattle.space_core.specs.Advances.{given_out, IsAdvanced, IsCaught, IsRaised};
 ghost use Rattle.space_core.specs.Firing.{firing, at_place};
 ghost use Rattle.space_core.specs.Shown.{seen_above};
 
 use crate::advances::{tell_at, tell_under};
+use crate::copying::{count_told, next_name};
 use crate::firing::{fire, has_triggers};
 use crate::given::Given;
 use crate::homes::{all_home, has_below};
 use crate::level::{Level, top_level};
 use crate::looking::{level_place, level_position};
-use crate::remaking::tell_through;
+use crate::merging::{join_told, merge_away, merge_tells, merging};
+use crate::plain::{are_plain, has_spaces};
+use crate::remaking::{remake, tell_through};
+use crate::renaming::add_all_renamed;
+use crate::spaces::space_tell;
 use crate::stacks::Landing;
-use crate::tree::{self, add_level, child_count, child_of, drop_below, store_above};
+use crate::tree::{self, add_level, child_count, child_of, drop_below, is_child, store_above};
 use crate::{edits, silence};
 use oz_base::{Copies, Ident, SpaceName, copies_of};
 use oz_language::Identifier;
 use oz_semantics::{Frame, Next, Status, Tell, Thread, Trigger};
+use renamings::Renaming;
 use std::alloc::{AllocError, Global};
 use std::marker::Model;
 use term_store::Store;
@@ -187,6 +198,19 @@ impl Levels {
         ensures { result ≡ has_below self.now space.now }
     {
         has_below(self.levels.as_slice(), space)
+    }
+
+    /// Whether a space is there, and a child of it.
+    pub fn has_child(&self, parent: &SpaceName, child: &SpaceName) -> bool
+        ensures { result ≡ true → HasChild self.now parent.now child.now }
+    {
+        if !is_child(parent, child) {
+            return false;
+        }
+        match self.place(parent) {
+            None => false,
+            Some(_) => self.place(child).is_some(),
+        }
     }
 
     /// Takes the statement off the top of a thread's stack.
@@ -390,6 +414,21 @@ impl Levels {
         has_triggers(self.levels.as_slice())
     }
 
+    /// Whether it is noted of a space that it was told of a space as a value. Where it is not, no space is a value.
+    pub fn has_spaces(&self) -> bool
+        ensures { result ≡ false → has_spaces self.now ≡ false }
+    {
+        has_spaces(self.levels.as_slice())
+    }
+
+    /// Whether no space has by-need computations that have not begun, and it is noted of none that it was told of a space as a value.
+    pub fn is_plain(&self) -> bool
+        ensures triggers { result ≡ true → has_triggers self.now ≡ false }
+        ensures spaces { result ≡ true → has_spaces self.now ≡ false }
+    {
+        are_plain(self.levels.as_slice())
+    }
+
     /// The by-need computations of the space at a place that have not begun, in the order in which they came.
     pub fn triggers_at(&self, place: usize) -> &[Trigger]
         requires { place < length self.now }
@@ -497,6 +536,88 @@ impl Levels {
         Ok(true)
     }
 
+    /// The statement on top of a thread's stack is taken off, its space is told that the variable is a new child of it, which is a copy of
+    /// another child, and each space below fails that then sees what is inconsistent. False exactly where that is inconsistent with what
+    /// the space sees: then nothing changes. Where it is refused, nothing changes either.
+    ///
+    /// It takes the time and memory of the threads of all spaces, and of what the spaces below the thread's were told themselves.
+    pub fn copy_told(
+        &mut self,
+        alloc: Global,
+        id: &Ident,
+        child: &SpaceName,
+        variable: Ident,
+    ) -> Result<bool, AllocError>
+        requires { HasChild self.old id.now.space child.now }
+        ensures told { IfOk result (IsEdited id.now (Copies child.now variable) self.old self.new) }
+        ensures err { OnErr result (self.new ≡ self.old) }
+    {
+        let Some(place) = level_place(self.levels.as_slice(), &id.space) else {
+            return Err(AllocError);
+        };
+        let mut levels = copies_of(alloc, self.levels.as_slice())?;
+        let copy = next_name(alloc, &self.levels[place])?;
+        let tells = space_tell(alloc, variable, copy.copied(alloc)?)?;
+        if !count_told(alloc, &mut levels, place, id.number, tells.as_slice())? {
+            return Ok(false);
+        }
+        let by = Renaming::Move {
+            from: child.copied(alloc)?,
+            to: copy,
+        };
+        add_all_renamed(alloc, &by, &mut levels, self.levels.as_slice())?;
+        remake(alloc, &mut levels, place, &id.space)?;
+        self.levels = levels;
+        Ok(true)
+    }
+
+    /// The statement on top of a thread's stack is taken off, a child of its space becomes a part of the space, which is told what the
+    /// child was told and that the variable is the former root variable of the child, and each space below fails that then sees what
+    /// is inconsistent. False exactly where what is told is inconsistent with what the space sees: then nothing changes. Where it is
+    /// refused, nothing changes either.
+    pub fn take_in(
+        &mut self,
+        alloc: Global,
+        id: &Ident,
+        child: &SpaceName,
+        variable: Ident,
+    ) -> Result<bool, AllocError>
+        requires { HasChild self.old id.now.space child.now }
+        ensures told { IfOk result (IsEdited id.now (TakesIn child.now variable) self.old self.new) }
+        ensures err { OnErr result (self.new ≡ self.old) }
+    {
+        let Some(place) = level_place(self.levels.as_slice(), &id.space) else {
+            return Err(AllocError);
+        };
+        let Some(inner) = level_place(self.levels.as_slice(), child) else {
+            return Err(AllocError);
+        };
+        let level = &self.levels[inner];
+        let by = merging(alloc, level, &self.levels[place])?;
+        let tells = merge_tells(alloc, &by, level, variable)?;
+        let mut levels = copies_of(alloc, self.levels.as_slice())?;
+        if !join_told(
+            alloc,
+            &by,
+            &mut levels,
+            place,
+            id.number,
+            level,
+            tells.as_slice(),
+        )? {
+            return Ok(false);
+        }
+        drop_below(&mut levels, child);
+        let Some(left) = level_place(levels.as_slice(), child) else {
+            return Err(AllocError);
+        };
+        merge_away(alloc, &mut levels[left]);
+        add_all_renamed(alloc, &by, &mut levels, self.levels.as_slice())?;
+        remake(alloc, &mut levels, place, &id.space)?;
+        self.levels = levels;
+        Ok(true)
+    }
+
     /// A store of what the parent of a space sees. The top has none. It refuses for want of memory, or where there is no parent.
     pub fn store_above(&self, alloc: Global, space: &SpaceName) -> Result<Store, AllocError>
         ensures { IfOk result (λ store. store ≡ seen_above self.now space.now) }
@@ -516,6 +637,13 @@ impl Levels {
             return;
         };
         tree::fail(alloc, &mut self.levels[place], above);
+    }
+
+    /// The layers are those of a tree of spaces. Nothing: it holds a law.
+    pub fn is_tree(&self)
+        ensures { IsTree self.now }
+    {
+        let _ = &self.levels;
     }
 
     /// What each space that may fail sees is consistent. Nothing: it holds a law.

@@ -3,6 +3,7 @@
 #![tactic(auto)]
 
 mod advances;
+mod copying;
 mod declarations;
 mod edits;
 mod fates;
@@ -12,8 +13,12 @@ mod homes;
 mod level;
 mod levels;
 mod looking;
+mod merging;
+mod plain;
 mod remaking;
+mod renaming;
 mod silence;
+mod spaces;
 mod stacks;
 mod telling;
 mod threads;

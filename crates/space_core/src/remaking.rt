@@ -1,5 +1,6 @@
 //! Tells that the spaces below see too.
-ghost use Rattle.std.specs.Prelude.{◌≡◌, ◌<◌, ◌≤◌, length, slice_index_or, IfOk, OnErr};
+ghost use Rattle.std.specs.Prelude.{◌≡◌, ◌<◌, ◌≤◌, length, slice_index_or, IfOk, OnOk, OnErr};
+ghost use Rattle.space_core.specs.Anew.{IsAnew};
 ghost use Rattle.space_core.specs.Fates.{seeing, turned, settled};
 ghost use Rattle.space_core.specs.Telling.{IsToldThrough, IsStoreAt};
 ghost use Rattle.space_core.specs.declared.level.Level.{Level};
@@ -9,7 +10,7 @@ use crate::homes::has_below;
 use crate::level::Level;
 use crate::telling::{self, note};
 use crate::tree::fail;
-use oz_base::Copies;
+use oz_base::{Copies, SpaceName};
 use oz_semantics::Tell;
 use std::alloc::{AllocError, Global};
 use std::mem;
@@ -49,6 +50,22 @@ fn settle(alloc: Global, levels: &mut Vec<Level>, mut fates: Vec<Fate>)
         let place = fates.len();
         turn(alloc, levels, place, fate);
     }
+}
+
+/// The stores of all spaces below the one at a place are made anew, by what the space itself sees and by what they were told. Those that
+/// then see what is inconsistent fail. Where it is refused, nothing changes.
+pub fn remake(
+    alloc: Global,
+    levels: &mut Vec<Level>,
+    place: usize,
+    space: &SpaceName,
+) -> Result<(), AllocError>
+    ensures ok { OnOk result (IsAnew space.now levels.old.items levels.new.items) }
+    ensures err { OnErr result (levels.new.items ≡ levels.old.items) }
+{
+    let fates = fates_below(alloc, levels.as_slice(), place, space)?;
+    settle(alloc, levels, fates);
+    Ok(())
 }
 
 /// The space sees what is in the store. What it saw before.
@@ -99,7 +116,7 @@ fn tell_all(
         return Ok(false);
     }
     let fates = put_store(alloc, levels, place, store)?;
-    note(&mut levels[place], home, noted);
+    note(&mut levels[place], home, tells, noted);
     settle(alloc, levels, fates);
     Ok(true)
 }

@@ -46,7 +46,7 @@ fn handler_of(
             let frames = frames_of(alloc, &environment, handler.get().as_slice())?;
             Ok(Some(Sequence::from_vec(frames)))
         }
-        Code::Statement(_) | Code::Call { .. } => Ok(None),
+        Code::Statement(_) | Code::Call { .. } | Code::Bind { .. } => Ok(None),
     }
 }
 

@@ -1,11 +1,13 @@
 //! Tells of one space.
 ghost use Rattle.std.specs.Prelude.{◌≡◌, filter, IfOk, OnErr};
+ghost use Rattle.std.specs.List.{list_any};
+ghost use Rattle.view_laws.specs.Spaceless.{gives_space};
 ghost use Rattle.space_core.specs.Shown.{is_other};
 ghost use Rattle.space_core.specs.Telling.{IsMarked, IsLevelTold};
 
 use crate::level::Level;
 use oz_base::{Ident, SpaceName, same_space};
-use oz_semantics::Tell;
+use oz_semantics::{Tell, Value};
 use std::alloc::{AllocError, Global};
 
 /// Whether a variable is not the space's own.
@@ -22,16 +24,33 @@ pub fn drop_own(space: &SpaceName, variables: &mut Vec<Ident>)
     variables.retain(|variable| is_other(space, variable));
 }
 
-/// Notes these of the variables that are touched by what the space was told, of which it is known whether all variables are those of the
-/// space and of spaces above it.
+/// Whether a variable is a space.
+fn gives_space(tell: &Tell) -> bool
+    ensures { result ≡ gives_space tell.now }
+{
+    match tell {
+        Tell::Is { variable: _, value } => matches!(value, Value::Space(_)),
+        Tell::Equal { .. } => false,
+    }
+}
+
+fn any_gives_space(tells: &[Tell]) -> bool
+    ensures { result ≡ list_any gives_space tells.now }
+{
+    tells.iter().any(gives_space)
+}
+
+/// Notes what the space was told, and these of the variables that are touched by it, of which it is known whether all variables are those
+/// of the space and of spaces above it.
 ///
 /// Where there is no memory to note them, the space is not traced any more.
-pub fn note(level: &mut Level, home: bool, mut noted: Vec<Ident>)
-    ensures { IsMarked home noted.items level.old level.new }
+pub fn note(level: &mut Level, home: bool, tells: &[Tell], mut noted: Vec<Ident>)
+    ensures { IsMarked home tells.now noted.items level.old level.new }
 {
     drop_own(&level.space, &mut noted);
     let kept = level.space.is_top() || level.touched.append(noted).is_ok();
     level.traced = level.traced && home && kept;
+    level.knows_space = level.knows_space || any_gives_space(tells);
 }
 
 /// Tells a space more, of which it is known whether all variables are those of the space and of spaces above it. False exactly where
@@ -51,6 +70,6 @@ pub fn tell(
     if !level.store.tell(alloc, tells, &mut noted)? {
         return Ok(false);
     }
-    note(level, home, noted);
+    note(level, home, tells, noted);
     Ok(true)
 }

@@ -42,7 +42,7 @@ fn many(alloc: Global) -> Result<Levels, AllocError> {
 fn statement(levels: &Levels, number: u32) -> Option<u32> {
     match &levels.top_frame(&of_top(number))?.code {
         Code::Statement(statement) => Some(*statement),
-        Code::Call { .. } | Code::Mark { .. } => None,
+        Code::Call { .. } | Code::Bind { .. } | Code::Mark { .. } => None,
     }
 }
 
@@ -205,7 +205,7 @@ fn applied(levels: &Levels, number: u32) -> Option<(u64, u64)> {
             procedure,
             argument,
         } => Some((procedure.number, argument.number)),
-        Code::Statement(_) | Code::Mark { .. } => None,
+        Code::Statement(_) | Code::Bind { .. } | Code::Mark { .. } => None,
     }
 }
 
@@ -302,5 +302,111 @@ fn spaces_below_see_what_a_space_is_told(rt: HostRuntime) -> Result<(), Fail> {
     assert!(rt; tell_space(alloc, &mut levels, &top, &[is_integer(3, 2)])?);
     assert!(rt; has_failed(&levels, &child));
     assert_eq!(rt; levels.len(), 2);
+    Ok(())
+}
+
+/// A variable of the top is a space.
+fn is_space(variable: u32, space: SpaceName) -> Tell {
+    Tell::Is {
+        variable: of_top(variable),
+        value: Value::Space(space),
+    }
+}
+
+#[test]
+fn a_space_that_is_told_is_known_until_that_fails(rt: HostRuntime) -> Result<(), Fail> {
+    let alloc = rt.alloc();
+    let top = SpaceName::top();
+    let mut levels = Levels::new(alloc)?;
+    let child = new_child(alloc, &mut levels, &top)?;
+    assert!(rt; tell_space(alloc, &mut levels, &top, &[is_integer(1, 1)])?);
+    assert!(rt; !levels.has_spaces() && levels.is_plain());
+    let told = &[is_integer(3, 1), is_space(2, child.copied(alloc)?)];
+    assert!(rt; tell_space(alloc, &mut levels, &child, told)?);
+    assert!(rt; levels.has_spaces() && !levels.is_plain());
+    assert!(rt; levels.copied(alloc)?.has_spaces());
+    assert!(rt; tell_space(alloc, &mut levels, &top, &[is_integer(4, 1)])?);
+    assert!(rt; levels.has_spaces());
+    assert!(rt; tell_space(alloc, &mut levels, &top, &[is_integer(2, 1)])?);
+    assert!(rt; has_failed(&levels, &child));
+    assert!(rt; !levels.has_spaces() && levels.is_plain());
+    Ok(())
+}
+
+#[test]
+fn what_waits_to_be_needed_is_not_plain(rt: HostRuntime) -> Result<(), Fail> {
+    let levels = with_triggers(rt.alloc())?;
+    assert!(rt; !levels.has_spaces() && !levels.is_plain());
+    Ok(())
+}
+
+/// A thread of the top copies a child of it. It refuses where that is no child.
+fn copy_child(
+    alloc: Global,
+    levels: &mut Levels,
+    child: &SpaceName,
+    variable: u32,
+) -> Result<bool, AllocError> {
+    let id = of_top(1);
+    if !levels.has_child(&id.space, child) {
+        return Err(AllocError);
+    }
+    levels.copy_told(alloc, &id, child, of_top(variable))
+}
+
+/// A thread of the top takes in a child of it. It refuses where that is no child.
+fn take_child(
+    alloc: Global,
+    levels: &mut Levels,
+    child: &SpaceName,
+    variable: u32,
+) -> Result<bool, AllocError> {
+    let id = of_top(1);
+    if !levels.has_child(&id.space, child) {
+        return Err(AllocError);
+    }
+    levels.take_in(alloc, &id, child, of_top(variable))
+}
+
+/// Whether a space is there, and became a part of another one.
+fn has_merged(levels: &Levels, space: &SpaceName) -> bool {
+    match levels.place(space) {
+        Some(place) if place < levels.len() => { matches!(levels.status_at(place), Status::Merged) }
+        _ => false,
+    }
+}
+
+#[test]
+fn a_copy_sees_what_the_child_was_told(rt: HostRuntime) -> Result<(), Fail> {
+    let alloc = rt.alloc();
+    let top = SpaceName::top();
+    let mut levels = Levels::new(alloc)?;
+    let child = new_child(alloc, &mut levels, &top)?;
+    let _grandchild = new_child(alloc, &mut levels, &child)?;
+    assert!(rt; tell_space(alloc, &mut levels, &child, &[is_integer(3, 1)])?);
+    assert!(rt; copy_child(alloc, &mut levels, &child, 5)?);
+    let copy = top.child(alloc, 2)?;
+    assert_eq!(rt; levels.len(), 5);
+    assert!(rt; sees(&levels, &copy, 3) && sees(&levels, &copy, 5));
+    assert!(rt; sees(&levels, &child, 5) && !sees(&levels, &top, 3));
+    assert!(rt; !copy_child(alloc, &mut levels, &child, 5)?);
+    assert_eq!(rt; levels.len(), 5);
+    Ok(())
+}
+
+#[test]
+fn a_merged_child_tells_its_parent(rt: HostRuntime) -> Result<(), Fail> {
+    let alloc = rt.alloc();
+    let top = SpaceName::top();
+    let mut levels = Levels::new(alloc)?;
+    let child = new_child(alloc, &mut levels, &top)?;
+    let grandchild = new_child(alloc, &mut levels, &child)?;
+    assert!(rt; tell_space(alloc, &mut levels, &child, &[is_integer(3, 1)])?);
+    assert!(rt; tell_space(alloc, &mut levels, &grandchild, &[is_integer(4, 1)])?);
+    assert!(rt; take_child(alloc, &mut levels, &child, 5)?);
+    let moved = top.child(alloc, 2)?;
+    assert!(rt; sees(&levels, &top, 3) && has_merged(&levels, &child));
+    assert!(rt; sees(&levels, &moved, 3) && sees(&levels, &moved, 4));
+    assert_eq!(rt; levels.len(), 3);
     Ok(())
 }

@@ -1,10 +1,13 @@
 //! The threads of one space.
-ghost use Rattle.std.specs.Prelude.{◌≡◌, ◌<◌, ◌≤◌, ◌+◌, ◌++◌, List, [], drop, length, map, filter, slice_index_or, slice_set, IfOk, OnOk, OnErr, MatchOption, option_copied};
+ghost use Rattle.std.specs.Prelude.{◌≡◌, ◌<◌, ◌≤◌, ◌+◌, ◌-◌, ◌++◌, List, [], drop, length, map, filter, slice_index_or, slice_set, IfOk, OnOk, OnErr, MatchOption, option_copied};
 ghost use Rattle.oz_base.specs.Lists.{first, is_empty};
 ghost use Rattle.std.specs.List.{range_with_len};
 ghost use Rattle.oz_semantics.specs.Names.{named};
 ghost use Rattle.oz_semantics.specs.Configurations.{is_numbered, thread_at, frames_in};
 ghost use Rattle.oz_semantics.specs.declared.configuration.Thread.{Thread};
+ghost use Rattle.oz_semantics.specs.Renamings.{renamed_thread};
+ghost use Rattle.renamed_terms.specs.Meanings.{renaming_of};
+ghost use Rattle.space_core.specs.Merging.{raised_by, with_joined};
 ghost use Rattle.space_core.specs.Levels.{replacing};
 ghost use Rattle.space_core.specs.Places.{IsAbsent, IsFirst};
 ghost use Rattle.space_core.specs.Stacks.{IsLanding, cut_out, declared_on};
@@ -15,6 +18,8 @@ use crate::stacks::{Landing, nearest_mark};
 use oz_base::{Copies, Ident, Sequence, SpaceName, Stack};
 use oz_language::Identifier;
 use oz_semantics::{Frame, Thread};
+use renamed_terms::Renamed;
+use renamings::Renaming;
 use std::alloc::{AllocError, Global};
 use std::marker::Model;
 use std::mem;
@@ -244,6 +249,35 @@ impl Threads {
     }
 }
 
+impl Threads {
+    /// The same under other names. They keep their numbers.
+    pub fn renamed(&self, alloc: Global, by: &Renaming) -> Result<Threads, AllocError>
+        ensures { IfOk result (λ after. after ≡ record self.now { list = map (renamed_thread (renaming_of by.now)) self.now.list }) }
+    {
+        Ok(Threads {
+            threads: self.threads.renamed(alloc, by)?,
+            next: self.next,
+            ended: self.ended,
+        })
+    }
+
+    /// The threads of another space come to these, under other names and with numbers behind those that were given out. It refuses for
+    /// want of memory, and numbers above 2^64 - 1: then no thread may be left.
+    pub fn join(&mut self, alloc: Global, by: &Renaming, other: &Threads) -> Result<(), AllocError>
+        ensures { OnOk result (self.new ≡ with_joined (renaming_of by.now) other.now self.old) }
+    {
+        let raise = one_before(self.next)?;
+        let next = sum(self.next, one_before(other.next)?)?;
+        let more = raised_all(alloc, by, other.as_slice(), raise)?;
+        let mut threads = mem::replace(&mut self.threads, Sequence::new(alloc));
+        threads.append(more)?;
+        self.threads = threads;
+        self.next = next;
+        self.ended |= other.ended;
+        Ok(())
+    }
+}
+
 impl Copies for Threads {
     fn copied(&self, alloc: Global) -> Result<Self, AllocError> {
         Ok(Threads {
@@ -283,4 +317,49 @@ fn new_thread(alloc: Global, number: u64, frames: Vec<Frame>) -> Result<Thread, 
         number,
         frames: stack,
     })
+}
+
+/// The number before one.
+fn one_before(number: u64) -> Result<u64, AllocError>
+    ensures { IfOk result (λ before. before ≡ number - 1) }
+{
+    if number == 0 {
+        return Err(AllocError);
+    }
+    Ok(number - 1)
+}
+
+fn sum(number: u64, more: u64) -> Result<u64, AllocError>
+    ensures { IfOk result (λ sum. sum ≡ number + more) }
+{
+    match number.checked_add(more) {
+        Some(sum) => Ok(sum),
+        None => Err(AllocError),
+    }
+}
+
+/// A thread under other names and with a greater number.
+fn raised(alloc: Global, by: &Renaming, thread: &Thread, raise: u64) -> Result<Thread, AllocError>
+    ensures { IfOk result (λ after. after ≡ raised_by raise (renamed_thread (renaming_of by.now) thread.now)) }
+{
+    Ok(Thread {
+        number: sum(thread.number, raise)?,
+        frames: thread.frames.renamed(alloc, by)?,
+    })
+}
+
+/// Threads under other names and with greater numbers.
+fn raised_all(
+    alloc: Global,
+    by: &Renaming,
+    threads: &[Thread],
+    raise: u64,
+) -> Result<Vec<Thread>, AllocError>
+    ensures { IfOk result (λ after. after.items ≡ map (raised_by raise) (map (renamed_thread (renaming_of by.now)) threads.now)) }
+{
+    let mut after = Vec::new(alloc);
+    for thread in threads {
+        after.push(raised(alloc, by, thread, raise)?)?;
+    }
+    Ok(after)
 }

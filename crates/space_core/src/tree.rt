@@ -1,8 +1,8 @@
 //! Spaces that end and begin.
-ghost use Rattle.std.specs.Prelude.{◌≡◌, ◌∷◌, [], ◌+◌, ◌-◌, length, take, not, filter, IfOk, OnOk, OnErr, MatchOption, position};
+ghost use Rattle.std.specs.Prelude.{◌≡◌, true, ◌∷◌, [], ◌+◌, ◌-◌, length, take, not, filter, IfOk, OnOk, OnErr, MatchOption, position};
 ghost use Rattle.std.specs.List.{find};
 ghost use Rattle.oz_base.specs.Lists.{list_eq};
-ghost use Rattle.oz_semantics.specs.Names.{is_properly_below, parent_of, space_lt, root_of};
+ghost use Rattle.oz_semantics.specs.Names.{is_properly_below, is_child_of, parent_of, space_lt, root_of};
 ghost use Rattle.oz_semantics.specs.Configurations.{raised_by, applying, next_child};
 ghost use Rattle.oz_semantics.specs.declared.configuration.Layer.{Layer};
 ghost use Rattle.space_core.specs.Ending.{IsAbove, IsFailure, IsChild, IsAdded, fallen};
@@ -42,6 +42,13 @@ pub fn is_parent(level: &Level, space: &SpaceName) -> bool
     ensures { result ≡ list_eq level.now.space (parent_of space.now) }
 {
     is_front(level.space.as_slice(), space.as_slice())
+}
+
+/// Whether a space is a child of another one.
+pub fn is_child(parent: &SpaceName, child: &SpaceName) -> bool
+    ensures { result ≡ true → is_child_of parent.now child.now ≡ true }
+{
+    !child.is_top() && is_front(parent.as_slice(), child.as_slice())
 }
 
 fn parent_position(levels: &[Level], space: &SpaceName) -> Option<usize>
@@ -91,6 +98,7 @@ pub fn fail(alloc: Global, level: &mut Level, store: Store)
     level.triggers = Sequence::new(alloc);
     level.objects = Objects::new();
     level.traced = true;
+    level.knows_space = false;
 }
 
 /// The space is ended by the exception that is the variable's term.
@@ -103,7 +111,11 @@ pub fn raise(alloc: Global, level: &mut Level, exception: Ident)
 }
 
 /// `{P X}` of the procedure and the space's root variable.
-fn starting_frame(alloc: Global, space: &SpaceName, procedure: Ident) -> Result<Frame, AllocError>
+pub fn starting_frame(
+    alloc: Global,
+    space: &SpaceName,
+    procedure: Ident,
+) -> Result<Frame, AllocError>
     ensures { IfOk result (λ frame. frame ≡ applying procedure (root_of space.now)) }
 {
     Ok(Frame {
@@ -158,6 +170,7 @@ fn child_level(
             child: 1,
         },
         traced: true,
+        knows_space: false,
     })
 }
 

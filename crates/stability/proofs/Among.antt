@@ -1,20 +1,14 @@
 -- Tests of layers and of threads, place by place.
-use Rattle.std.proofs.Common.{◌≡◌, ℕ, ◌+◌, ◌<◌, ◌&&◌, ◌||◌, Bool, true, false, cond, List, [], ◌∷◌, map, filter, drop, get_or, length, Some, refl, sym, ap, ◌∙◌, arith}
+use Rattle.std.proofs.Common.{◌≡◌, ℕ, suc, ◌+◌, ◌-◌, ◌<◌, ◌≤◌, take, ◌||◌, Bool, true, false, List, [], ◌∷◌, map, drop, get_or, length, Some, refl, sym, ap, ◌∙◌, arith}
 use Rattle.std.specs.Prelude.{slice_get}
 use Rattle.std.specs.List.{list_any, flat_map}
 use Rattle.std.proofs.lemmas.List.{drop_all}
 use Rattle.std.proofs.lemmas.Option.{get_or_from_slice_get}
 use Rattle.std.proofs.lemmas.List.Folds.{list_any-append}
-use Rattle.oz_threads.proofs.PlaceLaws.{item_at, rest_at}
-use Rattle.oz_semantics.specs.Names.{is_below}
-use Rattle.oz_semantics.specs.declared.configuration.Layer.{Layer}
-
--- whether a layer of the space or of a space below it passes the test
-abbrev pub any_below : (Layer → Bool) → List ℕ → List Layer → Bool
-any_below test space = list_any (λ (l : Layer). is_below space l.space && test l)
+use Rattle.stability.proofs.PlaceLaws.{item_at, rest_at}
 
 module _ {A : Type 0} where
-  any_step : (test : A → Bool) (x : A) (xs : List A) (b : Bool) → test x ≡ b → list_any test (x ∷ xs) ≡ (b || list_any test xs)
+  pub any_step : (test : A → Bool) (x : A) (xs : List A) (b : Bool) → test x ≡ b → list_any test (x ∷ xs) ≡ (b || list_any test xs)
   any_step test x xs b e = ap (λ b. b || list_any test xs) e
 
   -- where the item at a place passes
@@ -44,14 +38,6 @@ module _ {A : Type 0} where
   pub any_end : (test : A → Bool) (xs : List A) (i : ℕ) (whole : Bool) → length xs ≡ i → list_any test (drop i xs) ≡ whole → false ≡ whole
   any_end test xs i whole h e = ap (list_any test) (sym (drop_all i xs (omega (arith, h)))) ∙ e
 
-  if_any : (b : Bool) (test : A → Bool) (x : A) (xs : List A) (rest : Bool) → list_any test xs ≡ rest → list_any test (cond b (x ∷ xs) xs) ≡ ((b && test x) || rest)
-  if_any true test x xs rest e = ap (λ r. test x || r) e
-  if_any false test x xs rest e = e
-
-  pub any-filter : (test p : A → Bool) (xs : List A) → list_any test (filter p xs) ≡ list_any (λ x. p x && test x) xs
-  any-filter test p [] = refl
-  any-filter test p (x ∷ xs) = if_any (p x) test x (filter p xs) _ (any-filter test p xs)
-
 module _ {A B : Type 0} where
   pub any-map : (test : B → Bool) (f : A → B) (xs : List A) → list_any test (map f xs) ≡ list_any (λ x. test (f x)) xs
   any-map test f [] = refl
@@ -60,3 +46,33 @@ module _ {A B : Type 0} where
   pub any-flat_map : (test : B → Bool) (f : A → List B) (xs : List A) → list_any test (flat_map f xs) ≡ list_any (λ x. list_any test (f x)) xs
   any-flat_map test f [] = refl
   any-flat_map test f (x ∷ xs) = list_any-append test (f x) (flat_map f xs) ∙ ap (λ b. list_any test (f x) || b) (any-flat_map test f xs)
+
+-- From one place to another
+
+module _ {A : Type 0} where
+  abbrev pub between : List A → ℕ → ℕ → List A
+  between xs i j = take (j - i) (drop i xs)
+
+  between_step : (xs : List A) (i j : ℕ) (x : A) → i < j → slice_get xs i ≡ Some x → between xs i j ≡ x ∷ between xs (i + 1) j
+  between_step xs i j x h e =
+      let count : j - i ≡ suc (j - (i + 1)) = omega arith in
+      ap (λ n. take n (drop i xs)) count ∙ ap (take (suc (j - (i + 1)))) (rest_at xs i x e)
+
+  between_none : (xs : List A) (i j : ℕ) → j ≡ i → between xs i j ≡ []
+  between_none xs i j h = let count : j - i ≡ 0 = omega arith in ap (λ n. take n (drop i xs)) count
+
+  -- where the item at a place passes, where it does not, and where all are passed
+  pub part_found : (test : A → Bool) (xs : List A) (i j : ℕ) (whole : Bool) → i < j → j ≤ length xs → list_any test (between xs i j) ≡ whole
+      → ((x : A) → slice_get xs i ≡ Some x → true ≡ test x) → true ≡ whole
+  part_found test xs i j whole h w e passes =
+      let item = item_at xs i (omega (arith, h, w)) in
+      sym (any_step test item.0 (between xs (i + 1) j) true (sym (passes item.0 item.1))) ∙ ap (list_any test) (sym (between_step xs i j item.0 h item.1)) ∙ e
+
+  pub part_left : (test : A → Bool) (xs : List A) (i j : ℕ) (whole : Bool) → i < j → j ≤ length xs → list_any test (between xs i j) ≡ whole
+      → ((x : A) → slice_get xs i ≡ Some x → false ≡ test x) → list_any test (between xs (i + 1) j) ≡ whole
+  part_left test xs i j whole h w e passes =
+      let item = item_at xs i (omega (arith, h, w)) in
+      sym (any_step test item.0 (between xs (i + 1) j) false (sym (passes item.0 item.1))) ∙ ap (list_any test) (sym (between_step xs i j item.0 h item.1)) ∙ e
+
+  pub part_end : (test : A → Bool) (xs : List A) (i j : ℕ) (whole : Bool) → j ≡ i → list_any test (between xs i j) ≡ whole → false ≡ whole
+  part_end test xs i j whole h e = ap (list_any test) (sym (between_none xs i j h)) ∙ e

@@ -1,6 +1,11 @@
+pub mod PlaceLaws
 pub mod Among
 pub mod ReadyLaws
 pub mod Held
 pub mod Firsts
 pub mod OfferLaws
 pub mod StateLaws
+pub mod PartLaws
+pub mod KnownLaws
+pub mod AlikeLaws
+pub mod AnsweredLaws

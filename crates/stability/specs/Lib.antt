@@ -1,2 +1,4 @@
 pub mod Places
+pub mod Known
+pub mod Parts
 pub mod Offers

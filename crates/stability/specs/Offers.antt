@@ -4,7 +4,7 @@ use Rattle.oz_base.specs.Lists.{edit_first}
 use Rattle.oz_language.specs.declared.kernel.Statement.{Statement}
 use Rattle.oz_semantics.specs.Configurations.{in_layer, in_thread, with_frames}
 use Rattle.oz_semantics.specs.Sights.{Sight, offer_of}
-use Rattle.oz_semantics.specs.Readiness.{thread_ready}
+use Rattle.view_laws.specs.Spaceless.{plain_ready}
 use Rattle.oz_semantics.specs.Edits.{choosing, committed}
 use Rattle.oz_semantics.specs.declared.configuration.Thread.{Thread}
 use Rattle.oz_semantics.specs.declared.configuration.Layer.{Layer}
@@ -13,11 +13,11 @@ use Rattle.stability.specs.declared.offers.Choice.{Choice}
 
 -- a thread offers alternatives
 abbrev pub offers : Sight → Thread → Bool
-offers s t = is_some (offer_of (thread_ready s t))
+offers s t = is_some (offer_of (plain_ready s t))
 
 -- of these threads the first that offers goes on with its i-th alternative
 abbrev pub committing_in : Sight → ℕ → List Thread → List Thread
-committing_in s i threads = edit_first (offers s) (λ t. choosing i t (offer_of (thread_ready s t))) threads
+committing_in s i threads = edit_first (offers s) (λ t. choosing i t (offer_of (plain_ready s t))) threads
 
 -- a commitment replaces the statement on top of this thread's stack; or there is nothing to commit
 abbrev pub IsChoice : Sight → ℕ → List Thread → Option Choice → Type 0

@@ -1,33 +1,34 @@
-//! Whether something of a space or of a space below it can step.
-ghost use Rattle.std.specs.Prelude.{◌≡◌, ◌<◌, ◌&&◌, length, IfOk};
+//! Whether something of a space or of a space below it can step, by the states that are known.
+ghost use Rattle.std.specs.Prelude.{◌≡◌, ◌<◌, ◌≤◌, length, IfOk};
 ghost use Rattle.std.specs.List.{list_any};
-ghost use Rattle.oz_semantics.specs.Names.{is_below};
 ghost use Rattle.oz_semantics.specs.Sights.{can_step};
-ghost use Rattle.oz_semantics.specs.Readiness.{thread_ready};
-ghost use Rattle.oz_semantics.specs.Spaces.{layer_goes_on, goes_on};
-ghost use Rattle.oz_threads.specs.Sights.{sight_of};
+ghost use Rattle.oz_semantics.specs.Spaces.{ready_in, layer_goes_on, subtree_goes_on};
 ghost use Rattle.space_core.specs.Levels.{OfLayer};
+ghost use Rattle.stability.specs.Known.{known};
+ghost use Rattle.stability.specs.Parts.{part};
 
-use oz_base::SpaceName;
+use crate::known::States;
+use crate::parts::end_of;
+use crate::readiness::can_step;
 use oz_language::Statement;
 use oz_semantics::{Status, Thread};
-use oz_threads::steps_where;
 use space_core::Levels;
 use std::alloc::{AllocError, Global};
-use term_store::Store;
 
-/// Whether a thread of a space can step, by what the space sees.
+/// Whether one of these threads of the space at a place can step.
 fn any_steps(
     alloc: Global,
     statements: &[Statement],
-    space: &SpaceName,
-    store: &Store,
+    levels: &Levels,
+    states: &States,
+    place: usize,
     threads: &[Thread],
 ) -> Result<bool, AllocError>
-    ensures { IfOk result (λ any. any ≡ list_any (λ t. can_step (thread_ready (sight_of statements.now space.now store.now) t)) threads.now) }
+    requires { place < length levels.now }
+    ensures { OfLayer levels.now place (λ l. IfOk result (λ any. any ≡ list_any (λ t. can_step (ready_in statements.now levels.now (known levels.now states.now) l.space t)) threads.now)) }
 {
     for thread in threads {
-        if steps_where(alloc, statements, space, store, thread)? {
+        if can_step(alloc, statements, levels, states, place, thread)? {
             return Ok(true);
         }
     }
@@ -38,53 +39,57 @@ fn layer_goes_on(
     alloc: Global,
     statements: &[Statement],
     levels: &Levels,
+    states: &States,
     place: usize,
 ) -> Result<bool, AllocError>
     requires { place < length levels.now }
-    ensures { OfLayer levels.now place (λ l. IfOk result (λ goes. goes ≡ layer_goes_on statements.now levels.now l)) }
+    ensures { OfLayer levels.now place (λ l. IfOk result (λ goes. goes ≡ layer_goes_on statements.now levels.now (known levels.now states.now) l)) }
 {
     match levels.status_at(place) {
         Status::Open => any_steps(
             alloc,
             statements,
-            levels.space_at(place),
-            levels.store_at(place),
+            levels,
+            states,
+            place,
             levels.threads_at(place),
         ),
-        Status::Failed | Status::Raised(_) => Ok(false),
+        Status::Failed | Status::Raised(_) | Status::Merged => Ok(false),
     }
 }
 
-fn goes_on_below(
+/// Whether something of the spaces from one place to another can step.
+fn part_goes_on(
     alloc: Global,
     statements: &[Statement],
     levels: &Levels,
-    space: &SpaceName,
-    place: usize,
+    states: &States,
+    from: usize,
+    to: usize,
 ) -> Result<bool, AllocError>
-    requires { place < length levels.now }
-    ensures { OfLayer levels.now place (λ l. IfOk result (λ goes. goes ≡ (is_below space.now l.space && layer_goes_on statements.now levels.now l))) }
+    requires ordered { from ≤ to }
+    requires within { to ≤ length levels.now }
+    ensures { IfOk result (λ goes. goes ≡ list_any (layer_goes_on statements.now levels.now (known levels.now states.now)) (part levels.now from to)) }
 {
-    if space.is_above(levels.space_at(place)) {
-        layer_goes_on(alloc, statements, levels, place)
-    } else {
-        Ok(false)
-    }
-}
-
-/// Whether something of the space or of a space below it can step. It looks at the threads of these until one can.
-pub fn goes_on(
-    alloc: Global,
-    statements: &[Statement],
-    levels: &Levels,
-    space: &SpaceName,
-) -> Result<bool, AllocError>
-    ensures { IfOk result (λ goes. goes ≡ goes_on statements.now levels.now space.now) }
-{
-    for place in 0..levels.len() {
-        if goes_on_below(alloc, statements, levels, space, place)? {
+    for place in from..to {
+        if layer_goes_on(alloc, statements, levels, states, place)? {
             return Ok(true);
         }
     }
     Ok(false)
+}
+
+/// Whether something of the space at a place or of a space below it can step. It looks at the threads of these until one can.
+pub fn subtree_goes_on(
+    alloc: Global,
+    statements: &[Statement],
+    levels: &Levels,
+    states: &States,
+    place: usize,
+) -> Result<bool, AllocError>
+    requires { place < length levels.now }
+    ensures { OfLayer levels.now place (λ l. IfOk result (λ goes. goes ≡ subtree_goes_on statements.now levels.now (known levels.now states.now) l.space)) }
+{
+    let end = end_of(levels, place);
+    part_goes_on(alloc, statements, levels, states, place, end)
 }

@@ -1,4 +1,5 @@
-//! Which thread of a space offers alternatives, and what a commitment of the space comes to (CTM 12.5; Schulte 4).
+//! Which thread of a space offers alternatives, and what a commitment of the space comes to (CTM 12.5; Schulte 4). What is offered does not
+//! go by the states of spaces.
 ghost use Rattle.std.specs.Prelude.{ℕ, ◌≡◌, ◌<◌, ◌++◌, List, Some, slice_get, length, drop, is_some, position, option_map, IsTrue, IfOk, MatchOption};
 ghost use Rattle.std.specs.List.{filter_map, find};
 ghost use Rattle.oz_base.specs.Lists.{first};
@@ -7,7 +8,7 @@ ghost use Rattle.oz_semantics.specs.Store.{View};
 ghost use Rattle.oz_semantics.specs.Configurations.{is_numbered};
 ghost use Rattle.oz_semantics.specs.Sights as sights;
 ghost use Rattle.oz_semantics.specs.Sights.{Offer, count_of, offer_of};
-ghost use Rattle.oz_semantics.specs.Readiness.{thread_ready};
+ghost use Rattle.view_laws.specs.Spaceless.{plain_ready};
 ghost use Rattle.oz_semantics.specs.Spaces.{sight};
 ghost use Rattle.oz_semantics.specs.Edits.{chosen};
 ghost use Rattle.oz_semantics.specs.declared.configuration.Thread as running;
@@ -34,7 +35,7 @@ fn offer_size(ready: &Readiness) -> Option<u64>
 {
     match ready {
         Readiness::Offers(size) => Some(*size),
-        Readiness::Steps | Readiness::Waits(_) => None,
+        Readiness::Steps | Readiness::Waits(_) | Readiness::WaitsForState(_) => None,
     }
 }
 
@@ -46,7 +47,7 @@ fn size_where(
     store: &Store,
     thread: &Thread,
 ) -> Result<Option<u64>, AllocError>
-    ensures { IfOk result (λ size. size ≡ option_map count_of (offer_of (thread_ready (sight_of statements.now space.now store.now) thread.now))) }
+    ensures { IfOk result (λ size. size ≡ option_map count_of (offer_of (plain_ready (sight_of statements.now space.now store.now) thread.now))) }
 {
     let ready = ready_where(alloc, statements, space, store, thread)?;
     Ok(offer_size(&ready))
@@ -60,7 +61,7 @@ pub fn first_size(
     store: &Store,
     threads: &[Thread],
 ) -> Result<Option<u64>, AllocError>
-    ensures { IfOk result (λ size. size ≡ option_map count_of (first (filter_map (λ t. offer_of (thread_ready (sight_of statements.now space.now store.now) t)) threads.now))) }
+    ensures { IfOk result (λ size. size ≡ option_map count_of (first (filter_map (λ t. offer_of (plain_ready (sight_of statements.now space.now store.now) t)) threads.now))) }
 {
     for thread in threads {
         if let Some(size) = size_where(alloc, statements, space, store, thread)? {
@@ -159,14 +160,15 @@ pub struct Choice {
 fn alternative_of(
     alloc: Global,
     statements: &[Statement],
+    store: &Store,
     thread: &Thread,
     index: u64,
 ) -> Result<Vec<Frame>, AllocError>
-    ensures { IfOk result (λ body. (space : List ℕ) (view : View) (offer : Offer) → offer_of (thread_ready (sight_of statements.now space view) thread.now) ≡ Some offer
+    ensures { IfOk result (λ body. (space : List ℕ) (offer : Offer) → offer_of (plain_ready (sight_of statements.now space store.now) thread.now) ≡ Some offer
         → body.items ++ drop 1 thread.now.frames ≡ chosen index thread.now.frames offer) }
 {
     match thread.frames.top() {
-        Some(frame) => alternative(alloc, statements, frame, index),
+        Some(frame) => alternative(alloc, statements, store, frame, index),
         None => Ok(Vec::new(alloc)),
     }
 }
@@ -176,16 +178,16 @@ fn choice_of(
     alloc: Global,
     statements: &[Statement],
     space: &SpaceName,
+    store: &Store,
     thread: &Thread,
     index: u64,
 ) -> Result<Choice, AllocError>
     ensures space { IfOk result (λ choice. choice.thread.space ≡ space.now) }
     ensures number { IfOk result (λ choice. choice.thread.number ≡ thread.now.number) }
-    ensures body { IfOk result (λ choice. (space : List ℕ) (view : View) (offer : Offer)
-        → offer_of (thread_ready (sight_of statements.now space view) thread.now) ≡ Some offer
+    ensures body { IfOk result (λ choice. (offer : Offer) → offer_of (plain_ready (sight_of statements.now space.now store.now) thread.now) ≡ Some offer
         → choice.frames.items ++ drop 1 thread.now.frames ≡ chosen index thread.now.frames offer) }
 {
-    let frames = alternative_of(alloc, statements, thread, index)?;
+    let frames = alternative_of(alloc, statements, store, thread, index)?;
     Ok(Choice {
         thread: Ident {
             space: space.copied(alloc)?,
@@ -228,7 +230,7 @@ fn choice_where(
     if !is_first_numbered(threads, place) {
         return Err(AllocError);
     }
-    let choice = choice_of(alloc, statements, space, &threads[place], index)?;
+    let choice = choice_of(alloc, statements, space, store, &threads[place], index)?;
     Ok(Some(choice))
 }
 

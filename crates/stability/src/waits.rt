@@ -1,20 +1,22 @@
-//! Whether something of a space waits for a variable of an ancestor.
-ghost use Rattle.std.specs.Prelude.{◌≡◌, ◌<◌, ◌&&◌, length, IfOk};
+//! Whether something of a space waits for a variable of an ancestor, by the states that are known.
+ghost use Rattle.std.specs.Prelude.{◌≡◌, ◌<◌, ◌≤◌, length, IfOk};
 ghost use Rattle.std.specs.List.{list_any};
-ghost use Rattle.oz_semantics.specs.Names.{is_below};
 ghost use Rattle.oz_semantics.specs.Configurations.{view, ancestor_variables};
 ghost use Rattle.oz_semantics.specs.Sights as sights;
 ghost use Rattle.oz_semantics.specs.Sights.{waits_of};
-ghost use Rattle.oz_semantics.specs.Readiness.{thread_ready};
-ghost use Rattle.oz_semantics.specs.Spaces.{sight, is_held, layer_waits, waits_outside};
+ghost use Rattle.oz_semantics.specs.Spaces.{ready_in, is_held, layer_waits, waits_outside};
 ghost use Rattle.builtins.specs.Answers.{IsReady};
 ghost use Rattle.space_core.specs.Levels.{OfLayer};
+ghost use Rattle.stability.specs.Known.{known};
+ghost use Rattle.stability.specs.Parts.{part};
 
+use crate::known::States;
+use crate::parts::end_of;
+use crate::readiness::ready_in;
 use builtins::Readiness;
 use oz_base::{Ident, SpaceName};
 use oz_language::Statement;
 use oz_semantics::{Status, Thread};
-use oz_threads::thread_ready;
 use space_core::Levels;
 use std::alloc::{AllocError, Global};
 
@@ -39,23 +41,25 @@ fn waits_held(levels: &Levels, place: usize, space: &SpaceName, ready: &Readines
 {
     match ready {
         Readiness::Waits(waits) => any_held(levels, place, space, waits.as_slice()),
-        Readiness::Steps | Readiness::Offers(_) => false,
+        Readiness::Steps | Readiness::WaitsForState(_) | Readiness::Offers(_) => false,
     }
 }
 
+/// Whether a thread of the space at the place waits for a variable of the proper ancestors of the other space.
 fn thread_waits(
     alloc: Global,
     statements: &[Statement],
     levels: &Levels,
+    states: &States,
     place: usize,
     space: &SpaceName,
     thread: &Thread,
 ) -> Result<bool, AllocError>
     requires { place < length levels.now }
     ensures { OfLayer levels.now place (λ l. IfOk result (λ waits. waits ≡ list_any (is_held (view levels.now l.space) (ancestor_variables levels.now space.now))
-        (waits_of (thread_ready (sight statements.now levels.now l.space) thread.now)))) }
+        (waits_of (ready_in statements.now levels.now (known levels.now states.now) l.space thread.now)))) }
 {
-    let ready = thread_ready(alloc, statements, levels, place, thread)?;
+    let ready = ready_in(alloc, statements, levels, states, place, thread)?;
     Ok(waits_held(levels, place, space, &ready))
 }
 
@@ -63,16 +67,17 @@ fn any_waits(
     alloc: Global,
     statements: &[Statement],
     levels: &Levels,
+    states: &States,
     place: usize,
     space: &SpaceName,
     threads: &[Thread],
 ) -> Result<bool, AllocError>
     requires { place < length levels.now }
     ensures { OfLayer levels.now place (λ l. IfOk result (λ any. any ≡ list_any (λ t. list_any (is_held (view levels.now l.space) (ancestor_variables levels.now space.now))
-        (waits_of (thread_ready (sight statements.now levels.now l.space) t))) threads.now)) }
+        (waits_of (ready_in statements.now levels.now (known levels.now states.now) l.space t))) threads.now)) }
 {
     for thread in threads {
-        if thread_waits(alloc, statements, levels, place, space, thread)? {
+        if thread_waits(alloc, statements, levels, states, place, space, thread)? {
             return Ok(true);
         }
     }
@@ -83,55 +88,68 @@ fn layer_waits(
     alloc: Global,
     statements: &[Statement],
     levels: &Levels,
+    states: &States,
     place: usize,
     space: &SpaceName,
 ) -> Result<bool, AllocError>
     requires { place < length levels.now }
-    ensures { OfLayer levels.now place (λ l. IfOk result (λ waits. waits ≡ layer_waits statements.now levels.now (ancestor_variables levels.now space.now) l)) }
+    ensures { OfLayer levels.now place (λ l. IfOk result (λ waits. waits ≡ layer_waits statements.now levels.now (known levels.now states.now) (ancestor_variables levels.now space.now) l)) }
 {
     match levels.status_at(place) {
         Status::Open => any_waits(
             alloc,
             statements,
             levels,
+            states,
             place,
             space,
             levels.threads_at(place),
         ),
-        Status::Failed | Status::Raised(_) => Ok(false),
+        Status::Failed | Status::Raised(_) | Status::Merged => Ok(false),
     }
 }
 
-fn waits_below(
+/// Whether something of the spaces from one place to another waits for a variable of the proper ancestors of the space.
+fn part_waits(
     alloc: Global,
     statements: &[Statement],
     levels: &Levels,
-    space: &SpaceName,
-    place: usize,
-) -> Result<bool, AllocError>
-    requires { place < length levels.now }
-    ensures { OfLayer levels.now place (λ l. IfOk result (λ waits. waits ≡ (is_below space.now l.space && layer_waits statements.now levels.now (ancestor_variables levels.now space.now) l))) }
-{
-    if space.is_above(levels.space_at(place)) {
-        layer_waits(alloc, statements, levels, place, space)
-    } else {
-        Ok(false)
-    }
-}
-
-/// Whether something of the space or of a space below it waits for a variable of a proper ancestor of the space.
-pub fn waits_outside(
-    alloc: Global,
-    statements: &[Statement],
-    levels: &Levels,
+    states: &States,
+    from: usize,
+    to: usize,
     space: &SpaceName,
 ) -> Result<bool, AllocError>
-    ensures { IfOk result (λ waits. waits ≡ waits_outside statements.now levels.now space.now) }
+    requires ordered { from ≤ to }
+    requires within { to ≤ length levels.now }
+    ensures { IfOk result (λ waits. waits ≡ list_any (layer_waits statements.now levels.now (known levels.now states.now) (ancestor_variables levels.now space.now)) (part levels.now from to)) }
 {
-    for place in 0..levels.len() {
-        if waits_below(alloc, statements, levels, space, place)? {
+    for place in from..to {
+        if layer_waits(alloc, statements, levels, states, place, space)? {
             return Ok(true);
         }
     }
     Ok(false)
+}
+
+/// Whether something of the space at a place or of a space below it waits for a variable of a proper ancestor of the space.
+pub fn waits_outside(
+    alloc: Global,
+    statements: &[Statement],
+    levels: &Levels,
+    states: &States,
+    place: usize,
+) -> Result<bool, AllocError>
+    requires { place < length levels.now }
+    ensures { OfLayer levels.now place (λ l. IfOk result (λ waits. waits ≡ waits_outside statements.now levels.now (known levels.now states.now) l.space)) }
+{
+    let end = end_of(levels, place);
+    part_waits(
+        alloc,
+        statements,
+        levels,
+        states,
+        place,
+        end,
+        levels.space_at(place),
+    )
 }

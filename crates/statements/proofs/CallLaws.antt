@@ -16,28 +16,21 @@ use Rattle.builtins.specs.declared.answer.Answer.TheVariants as said
 -- the answer says the same but for a rest
 pub said_as : (a : answers.Answer) (r : Answer) → IsAnswer a r → answer_of r ≡ erased a
 said_as a (said.Acts b) e = sym (ap erased e)
+said_as a (said.Edits b) e = sym (ap erased e)
 said_as a (said.RaisesKind kind) e = sym (ap erased e)
 said_as a (said.RaisesTerm x) e = sym (ap erased e)
+said_as a (said.Operates op space x) e = sym (ap erased e)
 said_as a said.Rests (ready, e) = sym (ap erased e)
 
 -- and what says the same is the answer
 pub is_answer : (a : answers.Answer) (r : Answer) → answer_of r ≡ erased a → IsAnswer a r
 is_answer (answers.Acts b) (said.Acts c) e = sym e
+is_answer (answers.Edits b) (said.Edits c) e = sym e
 is_answer (answers.RaisesKind k) (said.RaisesKind l) e = sym e
 is_answer (answers.RaisesTerm x) (said.RaisesTerm y) e = sym e
+is_answer (answers.Operates op space x) (said.Operates other child y) e = sym e
 is_answer (answers.Rests ready) said.Rests e = (ready, refl)
-is_answer (answers.Rests ready) (said.Acts c) e = cc
-is_answer (answers.Rests ready) (said.RaisesKind l) e = cc
-is_answer (answers.Rests ready) (said.RaisesTerm y) e = cc
-is_answer (answers.Acts b) (said.RaisesKind l) e = cc
-is_answer (answers.Acts b) (said.RaisesTerm y) e = cc
-is_answer (answers.Acts b) said.Rests e = cc
-is_answer (answers.RaisesKind k) (said.Acts c) e = cc
-is_answer (answers.RaisesKind k) (said.RaisesTerm y) e = cc
-is_answer (answers.RaisesKind k) said.Rests e = cc
-is_answer (answers.RaisesTerm x) (said.Acts c) e = cc
-is_answer (answers.RaisesTerm x) (said.RaisesKind l) e = cc
-is_answer (answers.RaisesTerm x) said.Rests e = cc
+is_answer a r e = cc
 
 -- a call with as many arguments as the built-in takes
 pub call_is : (s : Sight) (b : Builtin) (xs : List Ident) → length xs ≡ arguments_of b → call_answer s b xs ≡ answer s b (argument xs)

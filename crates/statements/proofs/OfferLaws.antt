@@ -1,6 +1,7 @@
--- Choices alone offer alternatives.
-use Rattle.std.proofs.Common.{◌≡◌, ◌∷◌, [], ◌-◌, ◌++◌, drop, ℕ, ℤ, refl, sym, ap, ◌∙◌, Bool, true, false, Option, Some, None, Result, Ok, Err, List, length, map, if◌then◌else◌}
-use Rattle.std.specs.Prelude.{◌==◌, slice_get, unwrap_or, option_map}
+-- Choices and calls of `Choose` alone offer alternatives.
+use Rattle.std.proofs.Common.{◌≡◌, ◌∷◌, [], ◌-◌, ◌++◌, drop, ℕ, ℤ, refl, sym, ap, ◌∙◌, Bool, true, false, Option, Some, None, Result, Ok, Err, List, length, map, if◌then◌else◌, pos, negsuc, ◌&&◌}
+use Rattle.std.specs.Prelude.{◌==◌, nat_le, slice_get, unwrap_or, option_map}
+use Rattle.std.specs.Option.{option_and_then}
 use Rattle.std.proofs.lemmas.Option.{slice_get-map}
 use Rattle.oz_base.specs.Lists.{list_eq}
 use Rattle.oz_base.specs.Numbers.{sum, difference, product, quotient, remainder}
@@ -12,14 +13,14 @@ use Rattle.oz_language.specs.declared.kernel.Operation.{Operation}
 use Rattle.oz_language.specs.declared.kernel.Operation.TheVariants as operation
 use Rattle.oz_language.specs.declared.kernel.Statement.{Statement}
 use Rattle.oz_language.specs.declared.kernel.Statement.TheVariants as statement
-use Rattle.oz_semantics.specs.Names.{is_top}
-use Rattle.oz_semantics.specs.Values.{fields_of, constant_in, integer_in, cell_in, port_in, is_procedure}
+use Rattle.oz_semantics.specs.Names.{is_top, is_child_of}
+use Rattle.oz_semantics.specs.Values.{fields_of, constant_in, integer_in, cell_in, port_in, space_in, is_procedure}
 use Rattle.oz_semantics.specs.Store.{View, value_of}
 use Rattle.oz_semantics.specs.Entailment.{Equality, Entailed, Contradicted, Undecided, equality}
-use Rattle.oz_semantics.specs.Sights.{Sight, Offer, Bodies, offer_of}
+use Rattle.oz_semantics.specs.Sights.{Sight, Offer, Bodies, Number, Offers, offer_of}
 use Rattle.oz_semantics.specs.Edits.{chosen}
-use Rattle.oz_semantics.specs.Answers.{Act, Answer, Acts, RaisesKind, Reads, Writes, Exchanges, Sends, Delays, Shows, gives_constant, argument, given, with_value, of_kind}
-use Rattle.oz_semantics.specs.Builtins.{arguments_of, gives_number, gives_field, field_at, of_equality, label_in, arity_in, own_act, on_cell, on_port, delays, of_operation, answer, call_answer}
+use Rattle.oz_semantics.specs.Answers.{Act, Creates, Answer, Acts, Edits, RaisesKind, Operates, Rests, Reads, Writes, Exchanges, Sends, Delays, Shows, gives_constant, argument, given, with_value, of_kind}
+use Rattle.oz_semantics.specs.Builtins.{arguments_of, gives_number, gives_field, field_at, of_equality, label_in, arity_in, own_act, on_cell, on_port, delays, creates, choice_limit, offered, operates, of_operation, answer, call_answer}
 use Rattle.oz_semantics.specs.Configurations.{frames_of}
 use Rattle.oz_semantics.specs.Matching.{Match, Matches, Differs, MatchWaits, matched}
 use Rattle.oz_semantics.specs.Statements.{value_called, called, branch, clause, numbered_answer}
@@ -27,11 +28,13 @@ use Rattle.oz_semantics.specs.Readiness.{answer_ready}
 use Rattle.oz_semantics.specs.declared.configuration.Frame.{Frame}
 use Rattle.oz_semantics.specs.declared.value.Value.{Value}
 use Rattle.oz_semantics.specs.declared.value.Value.TheVariants as value
+use Rattle.oz_semantics.specs.declared.value.SpaceOperation.{SpaceOperation}
 use Rattle.oz_semantics.specs.declared.value.Builtin.{Builtin}
 use Rattle.oz_semantics.specs.declared.value.Builtin.TheVariants as builtin
 use Rattle.oz_semantics.specs.declared.outcome.RaiseKind.{RaiseKind}
 use Rattle.oz_semantics.specs.declared.outcome.RaiseKind.TheVariants as raise
-use Rattle.statements.specs.Offers.{alternative_in, alternative_of}
+use Rattle.builtins.specs.Choices.{size_in, choice_in, choice_of}
+use Rattle.statements.specs.Offers.{alternative_in, alternative_of, is_choose, number_offer, chosen_offer, called_offer}
 use Rattle.statements.proofs.ReadyLaws.{procedure_steps, branch_steps}
 
 -- an answer offers nothing
@@ -100,38 +103,92 @@ port_quiet s x act = given_quiet x (value_of s.view x) _ (λ v. kind_quiet (port
 delays_quiet : (procedure x : Ident) (v : Value) → IsQuiet (delays procedure x v)
 delays_quiet procedure x v = if_quiet (is_procedure v) (Acts (Delays procedure x)) (RaisesKind raise.BadKind) refl refl
 
-builtin_quiet : (s : Sight) (b : Builtin) (f : ℕ → Ident) → IsQuiet (answer s b f)
-builtin_quiet s (builtin.Operation op) f = operation_quiet s.view op (f 0) (f 1) (f 2)
-builtin_quiet s builtin.Label f = given_quiet (f 0) (value_of s.view (f 0)) _ (λ v. kind_quiet (label_in v) (gives_constant (f 1)) (λ c. refl))
-builtin_quiet s builtin.Width f = given_quiet (f 0) (value_of s.view (f 0)) _ (λ v. kind_quiet (arity_in v) _ (λ fs. refl))
-builtin_quiet s builtin.Arity f = given_quiet (f 0) (value_of s.view (f 0)) _ (λ v. kind_quiet (arity_in v) _ (λ fs. refl))
-builtin_quiet s builtin.NewName f = refl
-builtin_quiet s builtin.Wait f = given_quiet (f 0) (value_of s.view (f 0)) _ (λ v. refl)
-builtin_quiet s builtin.NewCell f = refl
-builtin_quiet s builtin.Access f = cell_quiet s (f 0) (λ n. Reads n (f 1))
-builtin_quiet s builtin.Assign f = cell_quiet s (f 0) (λ n. Writes n (f 1))
-builtin_quiet s builtin.Exchange f = cell_quiet s (f 0) (λ n. Exchanges n (f 1) (f 2))
-builtin_quiet s builtin.NewPort f = refl
-builtin_quiet s builtin.Send f = port_quiet s (f 0) (λ n. Sends n (f 1))
-builtin_quiet s builtin.ByNeed f = given_quiet (f 0) (value_of s.view (f 0)) (delays (f 0) (f 1)) (delays_quiet (f 0) (f 1))
-builtin_quiet s builtin.Show f = if_quiet (is_top s.space) (Acts (Shows (f 0))) (RaisesKind raise.GlobalIo) refl refl
+creates_quiet : (procedure x : Ident) (v : Value) → IsQuiet (creates procedure x v)
+creates_quiet procedure x v = if_quiet (is_procedure v) (Edits (Creates procedure x)) (RaisesKind raise.BadKind) refl refl
 
-call_quiet : (s : Sight) (b : Builtin) (xs : List Ident) → IsQuiet (call_answer s b xs)
-call_quiet s b xs = if_quiet (length xs == arguments_of b) (answer s b (argument xs)) (RaisesKind raise.Arity) (builtin_quiet s b (argument xs)) refl
+operates_quiet : (s : Sight) (op : SpaceOperation) (x : Ident) (child : List ℕ) → IsQuiet (operates s op x child)
+operates_quiet s op x child = if_quiet (is_child_of s.space child) (Operates op child x) (RaisesKind raise.SpaceParent) refl refl
+
+integer_offers : (x : Ident) (i : ℤ) → offer_of (answer_ready (offered x i)) ≡ number_offer x (size_in i)
+integer_offers x (pos n) = by (nat_le 1 n && nat_le n choice_limit)
+  where
+    by : (b : Bool) → offer_of (answer_ready (if b then Rests (Offers (Number n x) []) else RaisesKind raise.Domain)) ≡ number_offer x (if b then Some n else None)
+    by true = refl
+    by false = refl
+integer_offers x (negsuc n) = refl
+
+kind_offers : (x : Ident) (o : Option ℤ) → offer_of (answer_ready (of_kind o (offered x))) ≡ number_offer x (option_and_then size_in o)
+kind_offers x None = refl
+kind_offers x (Some i) = integer_offers x i
+
+given_offers : (x y : Ident) (o : Option Value) → offer_of (answer_ready (given y o (λ v. of_kind (integer_in v) (offered x)))) ≡ number_offer x (option_and_then choice_in o)
+given_offers x y None = refl
+given_offers x y (Some v) = kind_offers x (integer_in v)
+
+-- what a built-in offers of its arguments
+abbrev builtin_offer : View → Builtin → (ℕ → Ident) → Option Offer
+builtin_offer view builtin.Choose f = number_offer (f 1) (choice_of view (f 0))
+builtin_offer view b f = None
+
+builtin_offers : (s : Sight) (b : Builtin) (f : ℕ → Ident) → offer_of (answer_ready (answer s b f)) ≡ builtin_offer s.view b f
+builtin_offers s (builtin.Operation op) f = operation_quiet s.view op (f 0) (f 1) (f 2)
+builtin_offers s builtin.Label f = given_quiet (f 0) (value_of s.view (f 0)) _ (λ v. kind_quiet (label_in v) (gives_constant (f 1)) (λ c. refl))
+builtin_offers s builtin.Width f = given_quiet (f 0) (value_of s.view (f 0)) _ (λ v. kind_quiet (arity_in v) _ (λ fs. refl))
+builtin_offers s builtin.Arity f = given_quiet (f 0) (value_of s.view (f 0)) _ (λ v. kind_quiet (arity_in v) _ (λ fs. refl))
+builtin_offers s builtin.NewName f = refl
+builtin_offers s builtin.Wait f = given_quiet (f 0) (value_of s.view (f 0)) _ (λ v. refl)
+builtin_offers s builtin.NewCell f = refl
+builtin_offers s builtin.Access f = cell_quiet s (f 0) (λ n. Reads n (f 1))
+builtin_offers s builtin.Assign f = cell_quiet s (f 0) (λ n. Writes n (f 1))
+builtin_offers s builtin.Exchange f = cell_quiet s (f 0) (λ n. Exchanges n (f 1) (f 2))
+builtin_offers s builtin.NewPort f = refl
+builtin_offers s builtin.Send f = port_quiet s (f 0) (λ n. Sends n (f 1))
+builtin_offers s builtin.ByNeed f = given_quiet (f 0) (value_of s.view (f 0)) (delays (f 0) (f 1)) (delays_quiet (f 0) (f 1))
+builtin_offers s builtin.Show f = if_quiet (is_top s.space) (Acts (Shows (f 0))) (RaisesKind raise.GlobalIo) refl refl
+builtin_offers s builtin.NewSpace f = given_quiet (f 0) (value_of s.view (f 0)) (creates (f 0) (f 1)) (creates_quiet (f 0) (f 1))
+builtin_offers s builtin.Choose f = given_offers (f 1) (f 0) (value_of s.view (f 0))
+builtin_offers s (builtin.OnSpace op) f =
+    given_quiet (f 0) (value_of s.view (f 0)) _ (λ v. kind_quiet (space_in v) (operates s op (f 1)) (operates_quiet s op (f 1)))
+
+-- a call, by its number of arguments
+call_offers : (s : Sight) (b : Builtin) (xs : List Ident)
+    → offer_of (answer_ready (call_answer s b xs)) ≡ (if length xs == arguments_of b then builtin_offer s.view b (argument xs) else None)
+call_offers s b xs = by (length xs == arguments_of b)
+  where
+    by : (t : Bool) → offer_of (answer_ready (if t then answer s b (argument xs) else RaisesKind raise.Arity)) ≡ (if t then builtin_offer s.view b (argument xs) else None)
+    by true = builtin_offers s b (argument xs)
+    by false = refl
+
+either_none : (t : Bool) → ◌≡◌ {A = Option Offer} (if t then None else None) None
+either_none true = refl
+either_none false = refl
+
+operate_quiet : (s : Sight) (op : Operation) (xs : List Ident) → IsQuiet (call_answer s (builtin.Operation op) xs)
+operate_quiet s op xs = call_offers s (builtin.Operation op) xs ∙ either_none (length xs == arguments_of (builtin.Operation op))
+
+-- of built-ins `Choose` alone
+choose_alone : (view : View) (b : Builtin) (xs : List Ident)
+    → (if length xs == arguments_of b then builtin_offer view b (argument xs) else None) ≡ (if is_choose (Some (value.Builtin b)) then chosen_offer view xs else None)
+choose_alone view builtin.Choose xs = refl
+choose_alone view b xs = either_none (length xs == arguments_of b)
+
+-- Calls
+
+value_offers : (s : Sight) (x : Ident) (xs : List Ident) (o : Option Value) → offer_of (answer_ready (given x o (value_called s xs))) ≡ (if is_choose o then chosen_offer s.view xs else None)
+value_offers s x xs None = refl
+value_offers s x xs (Some (value.Procedure q)) = ap offer_of (procedure_steps q xs)
+value_offers s x xs (Some (value.Builtin b)) = call_offers s b xs ∙ choose_alone s.view b xs
+value_offers s x xs (Some (value.Constant c)) = refl
+value_offers s x xs (Some (value.Record r)) = refl
+value_offers s x xs (Some (value.Name n)) = refl
+value_offers s x xs (Some (value.Cell c)) = refl
+value_offers s x xs (Some (value.Port p)) = refl
+value_offers s x xs (Some (value.Space child)) = refl
+
+pub called_offers : (s : Sight) (x : Ident) (xs : List Ident) → offer_of (answer_ready (called s x xs)) ≡ called_offer s.view x xs
+called_offers s x xs = value_offers s x xs (value_of s.view x)
 
 -- Statements
-
-value_quiet : (s : Sight) (xs : List Ident) (v : Value) → IsQuiet (value_called s xs v)
-value_quiet s xs (value.Procedure q) = ap offer_of (procedure_steps q xs)
-value_quiet s xs (value.Builtin b) = call_quiet s b xs
-value_quiet s xs (value.Constant c) = refl
-value_quiet s xs (value.Record r) = refl
-value_quiet s xs (value.Name n) = refl
-value_quiet s xs (value.Cell c) = refl
-value_quiet s xs (value.Port p) = refl
-
-called_quiet : (s : Sight) (x : Ident) (xs : List Ident) → IsQuiet (called s x xs)
-called_quiet s x xs = given_quiet x (value_of s.view x) (value_called s xs) (value_quiet s xs)
 
 clause_quiet : (e : Environment) (accepted otherwise : List ℕ) (m : Match) → IsQuiet (clause e accepted otherwise m)
 clause_quiet e accepted otherwise (Matches extended) = refl
@@ -146,11 +203,11 @@ unwrapped e None = refl
 unwrapped e (Some body) = refl
 
 -- what a statement offers
-pub numbered_offers : (s : Sight) (e : Environment) (i : ℕ) (o : Option Statement) → alternative_of e i o ≡ alternative_in i (offer_of (answer_ready (numbered_answer s e o)))
+pub numbered_offers : (s : Sight) (e : Environment) (i : ℕ) (o : Option Statement) → alternative_of s.view e i o ≡ alternative_in i (offer_of (answer_ready (numbered_answer s e o)))
 numbered_offers s e i (Some (statement.Choice bodies)) =
     sym (ap (λ (o : Option (List Frame)). unwrap_or o []) (slice_get-map (frames_of e) bodies (i - 1)) ∙ unwrapped e (slice_get bodies (i - 1)))
-numbered_offers s e i (Some (statement.Call procedure arguments)) = sym (ap (alternative_in i) (called_quiet s (bound e procedure) (map (bound e) arguments)))
-numbered_offers s e i (Some (statement.Operate op arguments)) = sym (ap (alternative_in i) (call_quiet s (builtin.Operation op) (map (bound e) arguments)))
+numbered_offers s e i (Some (statement.Call procedure arguments)) = sym (ap (alternative_in i) (called_offers s (bound e procedure) (map (bound e) arguments)))
+numbered_offers s e i (Some (statement.Operate op arguments)) = sym (ap (alternative_in i) (operate_quiet s op (map (bound e) arguments)))
 numbered_offers s e i (Some (statement.If condition accepted otherwise)) = sym (ap (alternative_in i) (test_quiet s (bound e condition) e accepted otherwise))
 numbered_offers s e i (Some (statement.Case subject pattern accepted otherwise)) =
     sym (ap (alternative_in i) (clause_quiet e accepted otherwise (matched s.view pattern (bound e subject ∷ []) e)))
@@ -159,3 +216,4 @@ numbered_offers s e i o = refl
 -- and what of it goes on where it is chosen
 pub chosen_of : (i : ℕ) (frames : List Frame) (o : Option Offer) (offer : Offer) (stack : List Frame) → frames ≡ alternative_in i o → o ≡ Some offer → frames ++ drop 1 stack ≡ chosen i stack offer
 chosen_of i frames o (Bodies bodies) stack e h = ap (λ fs. fs ++ drop 1 stack) (e ∙ ap (alternative_in i) h)
+chosen_of i frames o (Number n x) stack e h = ap (λ fs. fs ++ drop 1 stack) (e ∙ ap (alternative_in i) h)

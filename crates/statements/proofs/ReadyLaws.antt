@@ -44,6 +44,7 @@ branch_steps e accepted otherwise (value.Procedure p) = refl
 branch_steps e accepted otherwise (value.Name n) = refl
 branch_steps e accepted otherwise (value.Cell c) = refl
 branch_steps e accepted otherwise (value.Port p) = refl
+branch_steps e accepted otherwise (value.Space s) = refl
 branch_steps e accepted otherwise (value.Builtin b) = refl
 
 one_waits : (x : Ident) (o : Option Value) (go : Value → Answer) → ((v : Value) → answer_ready (go v) ≡ Steps) → answer_ready (given x o go) ≡ awaiting x o Steps

@@ -1,23 +1,25 @@
-//! The alternatives of a choice.
-ghost use Rattle.std.specs.Prelude.{◌≡◌, ◌-◌, ◌++◌, [], ℕ, List, Some, drop, unwrap_or, IfOk, option_copied, slice_get};
-ghost use Rattle.environments.specs.Environments.{Environment};
-ghost use Rattle.oz_language.specs.declared.kernel.Statement.{Statement};
-ghost use Rattle.oz_semantics.specs.Store.{View};
+//! The alternatives that are offered: the bodies of a choice, and the numbers of a `Choose`.
+ghost use Rattle.std.specs.Prelude.{◌≡◌, ◌-◌, ◌∷◌, ◌++◌, [], ℕ, List, Some, map, drop, unwrap_or, IfOk, option_copied, slice_get};
+ghost use Rattle.environments.specs.Environments.{bound};
 ghost use Rattle.oz_semantics.specs.Configurations.{frames_of};
 ghost use Rattle.oz_semantics.specs.Sights.{Offer, offer_of};
 ghost use Rattle.oz_semantics.specs.Edits.{chosen};
 ghost use Rattle.oz_semantics.specs.declared.configuration.Frame as stacked;
-ghost use Rattle.oz_semantics.specs.Statements.{statement_answer, numbered_answer, code_answer};
+ghost use Rattle.oz_semantics.specs.Statements.{code_answer};
 ghost use Rattle.oz_semantics.specs.Readiness.{answer_ready};
-ghost use Rattle.statements.specs.Offers.{alternative_in, alternative_of, alternative_at};
+ghost use Rattle.statements.specs.Offers.{alternative_in, alternative_of, alternative_at, is_choose, chosen_offer, called_offer, number_frame};
+ghost use Rattle.statements.specs.Variables.{variables_of};
 
 use crate::frames::frames_of;
 use crate::statement::statement_at;
+use crate::variables::{Arguments, look};
+use builtins::choice_of;
 use environments::Environment;
-use oz_base::Sequence;
-use oz_language::Statement;
-use oz_semantics::{Code, Frame};
+use oz_base::{Ident, Sequence};
+use oz_language::{Identifier, Statement};
+use oz_semantics::{Builtin, Code, Frame, Value};
 use std::alloc::{AllocError, Global};
+use term_store::Store;
 
 /// A body, from 1.
 fn body_at(bodies: &[Sequence<u32>], index: u64) -> Option<&Sequence<u32>>
@@ -52,19 +54,106 @@ fn alternative_at(
     frames_of_body(alloc, environment, body_at(bodies.as_slice(), index))
 }
 
-/// An alternative of a statement. All but choices have none.
+/// The statement by which a variable becomes a number.
+fn frames_of_number(alloc: Global, variable: Ident, number: u64) -> Result<Vec<Frame>, AllocError>
+    ensures { IfOk result (λ frames. frames.items ≡ number_frame variable number ∷ []) }
+{
+    let mut frames = Vec::new(alloc);
+    frames.push(Frame {
+        code: Code::Bind { variable, number },
+        environment: Environment::new(),
+    })?;
+    Ok(frames)
+}
+
+fn is_choose(value: Option<&Value>) -> bool
+    ensures { result ≡ is_choose (option_copied value.entry) }
+{
+    match value {
+        Some(Value::Builtin(Builtin::Choose)) => true,
+        _ => false,
+    }
+}
+
+/// An alternative of a call of `Choose` with these arguments.
+fn alternative_chosen(
+    alloc: Global,
+    store: &Store,
+    arguments: &Arguments<'_>,
+    index: u64,
+) -> Result<Vec<Frame>, AllocError>
+    ensures { IfOk result (λ frames. frames.items ≡ alternative_in index (chosen_offer store.now (variables_of arguments.now))) }
+{
+    if arguments.len() != 2 {
+        return Ok(Vec::new(alloc));
+    }
+    let number = arguments.at(alloc, 0)?;
+    match choice_of(store, number.variable()) {
+        None => Ok(Vec::new(alloc)),
+        Some(_) => frames_of_number(alloc, arguments.copy_at(alloc, 1)?, index),
+    }
+}
+
+/// An alternative of the call of a variable.
+fn alternative_called(
+    alloc: Global,
+    store: &Store,
+    procedure: &Ident,
+    arguments: &Arguments<'_>,
+    index: u64,
+) -> Result<Vec<Frame>, AllocError>
+    ensures { IfOk result (λ frames. frames.items ≡ alternative_in index (called_offer store.now procedure.now (variables_of arguments.now))) }
+{
+    if is_choose(store.value(procedure)) {
+        alternative_chosen(alloc, store, arguments, index)
+    } else {
+        Ok(Vec::new(alloc))
+    }
+}
+
+/// An alternative of `{P X ..}`.
+fn alternative_of_call(
+    alloc: Global,
+    store: &Store,
+    environment: &Environment,
+    procedure: Identifier,
+    names: &[Identifier],
+    index: u64,
+) -> Result<Vec<Frame>, AllocError>
+    ensures { IfOk result (λ frames. frames.items ≡ alternative_in index (called_offer store.now (bound environment.now procedure) (map (bound environment.now) names.now))) }
+{
+    let procedure = look(alloc, environment, procedure)?;
+    let arguments = Arguments::Names { environment, names };
+    alternative_called(alloc, store, procedure.variable(), &arguments, index)
+}
+
+/// An alternative of a statement. All but choices and calls have none.
 fn alternative_of(
     alloc: Global,
+    store: &Store,
     environment: &Environment,
     statement: Option<&Statement>,
     index: u64,
 ) -> Result<Vec<Frame>, AllocError>
-    ensures { IfOk result (λ frames. frames.items ≡ alternative_of environment.now index (option_copied statement.entry)) }
+    ensures { IfOk result (λ frames. frames.items ≡ alternative_of store.now environment.now index (option_copied statement.entry)) }
 {
     match statement {
         Some(Statement::Choice { alternatives }) => {
             alternative_at(alloc, environment, alternatives, index)
         }
+        Some(
+            Statement::Call {
+                procedure,
+                arguments,
+            },
+        ) => alternative_of_call(
+            alloc,
+            store,
+            environment,
+            *procedure,
+            arguments.as_slice(),
+            index,
+        ),
         _ => Ok(Vec::new(alloc)),
     }
 }
@@ -73,33 +162,41 @@ fn alternative_of(
 fn alternative_of_frame(
     alloc: Global,
     statements: &[Statement],
+    store: &Store,
     frame: &Frame,
     index: u64,
 ) -> Result<Vec<Frame>, AllocError>
-    ensures { IfOk result (λ frames. (space : List ℕ) (view : View) → frames.items ≡ alternative_in index (offer_of (answer_ready (code_answer (record { statements = statements.now; space = space; view = view }) frame.now.environment frame.now.code)))) }
+    ensures { IfOk result (λ frames. (space : List ℕ) → frames.items ≡ alternative_in index (offer_of (answer_ready (code_answer (record { statements = statements.now; space = space; view = store.now }) frame.now.environment frame.now.code)))) }
 {
     match &frame.code {
         Code::Statement(number) => alternative_of(
             alloc,
+            store,
             &frame.environment,
             statement_at(statements, *number),
             index,
         ),
-        Code::Call { .. } => Ok(Vec::new(alloc)),
+        Code::Call {
+            procedure,
+            argument,
+        } => alternative_called(alloc, store, procedure, &Arguments::One(argument), index),
+        Code::Bind { .. } => Ok(Vec::new(alloc)),
         Code::Mark { .. } => Ok(Vec::new(alloc)),
     }
 }
 
-/// The statements of an alternative, from 1, that is offered on top of a thread's stack; none where nothing is offered there, or
-/// no such alternative. It refuses where there is no memory.
+/// The statements of an alternative, from 1, that is offered on top of a thread's stack, in a space that sees this: the body of a
+/// choice, or what makes the variable of a `Choose` that number. None where nothing is offered there, or no such alternative. It
+/// refuses where there is no memory.
 pub fn alternative(
     alloc: Global,
     statements: &[Statement],
+    store: &Store,
     frame: &Frame,
     index: u64,
 ) -> Result<Vec<Frame>, AllocError>
-    ensures exact { IfOk result (λ frames. (space : List ℕ) (view : View) → frames.items ≡ alternative_in index (offer_of (answer_ready (code_answer (record { statements = statements.now; space = space; view = view }) frame.now.environment frame.now.code)))) }
-    ensures chosen { IfOk result (λ frames. (space : List ℕ) (view : View) (offer : Offer) (stack : List stacked.Frame) → offer_of (answer_ready (code_answer (record { statements = statements.now; space = space; view = view }) frame.now.environment frame.now.code)) ≡ Some offer → frames.items ++ drop 1 stack ≡ chosen index stack offer) }
+    ensures exact { IfOk result (λ frames. (space : List ℕ) → frames.items ≡ alternative_in index (offer_of (answer_ready (code_answer (record { statements = statements.now; space = space; view = store.now }) frame.now.environment frame.now.code)))) }
+    ensures chosen { IfOk result (λ frames. (space : List ℕ) (offer : Offer) (stack : List stacked.Frame) → offer_of (answer_ready (code_answer (record { statements = statements.now; space = space; view = store.now }) frame.now.environment frame.now.code)) ≡ Some offer → frames.items ++ drop 1 stack ≡ chosen index stack offer) }
 {
-    alternative_of_frame(alloc, statements, frame, index)
+    alternative_of_frame(alloc, statements, store, frame, index)
 }

@@ -103,7 +103,8 @@ fn value_called(
         | Some(Value::Name(_))
         | Some(Value::Record(_))
         | Some(Value::Cell(_))
-        | Some(Value::Port(_)) => Ok(Answer::RaisesKind(RaiseKind::Apply)),
+        | Some(Value::Port(_))
+        | Some(Value::Space(_)) => Ok(Answer::RaisesKind(RaiseKind::Apply)),
         Some(Value::Procedure(procedure)) => procedure_called(alloc, procedure.get(), arguments),
         Some(Value::Builtin(builtin)) => {
             builtin_called(alloc, store, space, *builtin, arguments)

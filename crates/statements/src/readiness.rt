@@ -27,10 +27,11 @@ use term_store::Store;
 fn ready_builtin(
     alloc: Global,
     store: &Store,
+    space: &SpaceName,
     builtin: Builtin,
     arguments: &Arguments<'_>,
 ) -> Result<Readiness, AllocError>
-    ensures { IfOk result (λ r. (statements : List Statement) (space : List ℕ) → IsReady store.now (answer_ready (call_answer (record { statements = statements; space = space; view = store.now }) builtin (variables_of arguments.now))) r) }
+    ensures { IfOk result (λ r. (statements : List Statement) → IsReady store.now (answer_ready (call_answer (record { statements = statements; space = space.now; view = store.now }) builtin (variables_of arguments.now))) r) }
 {
     let count = arguments_of(builtin);
     if arguments.len() != count {
@@ -38,7 +39,14 @@ fn ready_builtin(
     }
     let first = arguments.at(alloc, 0)?;
     let second = arguments.at(alloc, place_within(1, count))?;
-    builtins::ready_given(alloc, store, builtin, first.variable(), second.variable())
+    builtins::ready_given(
+        alloc,
+        store,
+        space,
+        builtin,
+        first.variable(),
+        second.variable(),
+    )
 }
 
 /// The call of a value.
@@ -46,10 +54,11 @@ fn ready_builtin(
 fn ready_value(
     alloc: Global,
     store: &Store,
+    space: &SpaceName,
     value: &Value,
     arguments: &Arguments<'_>,
 ) -> Result<Readiness, AllocError>
-    ensures { IfOk result (λ r. (statements : List Statement) (space : List ℕ) → IsReady store.now (answer_ready (value_called (record { statements = statements; space = space; view = store.now }) (variables_of arguments.now) value.now)) r) }
+    ensures { IfOk result (λ r. (statements : List Statement) → IsReady store.now (answer_ready (value_called (record { statements = statements; space = space.now; view = store.now }) (variables_of arguments.now) value.now)) r) }
 {
     match value {
         Value::Constant(_)
@@ -57,8 +66,9 @@ fn ready_value(
         | Value::Record(_)
         | Value::Procedure(_)
         | Value::Cell(_)
-        | Value::Port(_) => Ok(Readiness::Steps),
-        Value::Builtin(builtin) => ready_builtin(alloc, store, *builtin, arguments),
+        | Value::Port(_)
+        | Value::Space(_) => Ok(Readiness::Steps),
+        Value::Builtin(builtin) => ready_builtin(alloc, store, space, *builtin, arguments),
     }
 }
 
@@ -66,15 +76,16 @@ fn ready_value(
 fn ready_given(
     alloc: Global,
     store: &Store,
+    space: &SpaceName,
     procedure: &Ident,
     value: Option<&Value>,
     arguments: &Arguments<'_>,
 ) -> Result<Readiness, AllocError>
-    ensures { IfOk result (λ r. (statements : List Statement) (space : List ℕ) → IsReady store.now (answer_ready (given procedure.now (option_copied value.entry) (value_called (record { statements = statements; space = space; view = store.now }) (variables_of arguments.now)))) r) }
+    ensures { IfOk result (λ r. (statements : List Statement) → IsReady store.now (answer_ready (given procedure.now (option_copied value.entry) (value_called (record { statements = statements; space = space.now; view = store.now }) (variables_of arguments.now)))) r) }
 {
     match value {
         None => ready_by(alloc, Some(procedure)),
-        Some(value) => ready_value(alloc, store, value, arguments),
+        Some(value) => ready_value(alloc, store, space, value, arguments),
     }
 }
 
@@ -82,48 +93,57 @@ fn ready_given(
 fn ready_called(
     alloc: Global,
     store: &Store,
+    space: &SpaceName,
     procedure: &Ident,
     arguments: &Arguments<'_>,
 ) -> Result<Readiness, AllocError>
-    ensures { IfOk result (λ r. (statements : List Statement) (space : List ℕ) → IsReady store.now (answer_ready (called (record { statements = statements; space = space; view = store.now }) procedure.now (variables_of arguments.now))) r) }
+    ensures { IfOk result (λ r. (statements : List Statement) → IsReady store.now (answer_ready (called (record { statements = statements; space = space.now; view = store.now }) procedure.now (variables_of arguments.now))) r) }
 {
     let value = store.value(procedure);
-    ready_given(alloc, store, procedure, value, arguments)
+    ready_given(alloc, store, space, procedure, value, arguments)
 }
 
 /// `{P X ..}`
 fn ready_call(
     alloc: Global,
     store: &Store,
+    space: &SpaceName,
     environment: &Environment,
     procedure: Identifier,
     names: &Sequence<Identifier>,
 ) -> Result<Readiness, AllocError>
-    ensures { IfOk result (λ r. (statements : List Statement) (space : List ℕ) → IsReady store.now (answer_ready (called (record { statements = statements; space = space; view = store.now }) (bound environment.now procedure) (map (bound environment.now) names.now))) r) }
+    ensures { IfOk result (λ r. (statements : List Statement) → IsReady store.now (answer_ready (called (record { statements = statements; space = space.now; view = store.now }) (bound environment.now procedure) (map (bound environment.now) names.now))) r) }
 {
     let procedure = look(alloc, environment, procedure)?;
     let arguments = Arguments::Names {
         environment,
         names: names.as_slice(),
     };
-    ready_called(alloc, store, procedure.variable(), &arguments)
+    ready_called(alloc, store, space, procedure.variable(), &arguments)
 }
 
 /// `{'op' X Y ..}`
 fn ready_operation(
     alloc: Global,
     store: &Store,
+    space: &SpaceName,
     environment: &Environment,
     operation: Operation,
     names: &Sequence<Identifier>,
 ) -> Result<Readiness, AllocError>
-    ensures { IfOk result (λ r. (statements : List Statement) (space : List ℕ) → IsReady store.now (answer_ready (call_answer (record { statements = statements; space = space; view = store.now }) (Builtin.Operation operation) (map (bound environment.now) names.now))) r) }
+    ensures { IfOk result (λ r. (statements : List Statement) → IsReady store.now (answer_ready (call_answer (record { statements = statements; space = space.now; view = store.now }) (Builtin.Operation operation) (map (bound environment.now) names.now))) r) }
 {
     let arguments = Arguments::Names {
         environment,
         names: names.as_slice(),
     };
-    ready_builtin(alloc, store, Builtin::Operation(operation), &arguments)
+    ready_builtin(
+        alloc,
+        store,
+        space,
+        Builtin::Operation(operation),
+        &arguments,
+    )
 }
 
 /// `if X then S .. else S .. end`
@@ -157,20 +177,21 @@ fn ready_match(
 fn ready_statement(
     alloc: Global,
     store: &Store,
+    space: &SpaceName,
     environment: &Environment,
     statement: &Statement,
 ) -> Result<Readiness, AllocError>
-    ensures { IfOk result (λ r. (statements : List Statement) (space : List ℕ) → IsReady store.now (answer_ready (statement_answer (record { statements = statements; space = space; view = store.now }) environment.now statement.now)) r) }
+    ensures { IfOk result (λ r. (statements : List Statement) → IsReady store.now (answer_ready (statement_answer (record { statements = statements; space = space.now; view = store.now }) environment.now statement.now)) r) }
 {
     match statement {
         Statement::Call {
             procedure,
             arguments,
-        } => ready_call(alloc, store, environment, *procedure, arguments),
+        } => ready_call(alloc, store, space, environment, *procedure, arguments),
         Statement::Operate {
             operation,
             arguments,
-        } => ready_operation(alloc, store, environment, *operation, arguments),
+        } => ready_operation(alloc, store, space, environment, *operation, arguments),
         Statement::Choice { alternatives } => Ok(Readiness::Offers(alternatives.len() as u64)),
         Statement::If { condition, .. } => ready_test(alloc, store, environment, *condition),
         Statement::Case {
@@ -199,14 +220,15 @@ fn ready_statement(
 fn ready_numbered(
     alloc: Global,
     store: &Store,
+    space: &SpaceName,
     environment: &Environment,
     statement: Option<&Statement>,
 ) -> Result<Readiness, AllocError>
-    ensures { IfOk result (λ r. (statements : List Statement) (space : List ℕ) → IsReady store.now (answer_ready (numbered_answer (record { statements = statements; space = space; view = store.now }) environment.now (option_copied statement.entry))) r) }
+    ensures { IfOk result (λ r. (statements : List Statement) → IsReady store.now (answer_ready (numbered_answer (record { statements = statements; space = space.now; view = store.now }) environment.now (option_copied statement.entry))) r) }
 {
     match statement {
         None => Ok(Readiness::Waits(Sequence::new(alloc))),
-        Some(statement) => ready_statement(alloc, store, environment, statement),
+        Some(statement) => ready_statement(alloc, store, space, environment, statement),
     }
 }
 
@@ -214,25 +236,28 @@ fn ready_code(
     alloc: Global,
     statements: &[Statement],
     store: &Store,
+    space: &SpaceName,
     frame: &Frame,
 ) -> Result<Readiness, AllocError>
-    ensures { IfOk result (λ r. (space : List ℕ) → IsReady store.now (answer_ready (code_answer (record { statements = statements.now; space = space; view = store.now }) frame.now.environment frame.now.code)) r) }
+    ensures { IfOk result (IsReady store.now (answer_ready (code_answer (record { statements = statements.now; space = space.now; view = store.now }) frame.now.environment frame.now.code))) }
 {
     match &frame.code {
         Code::Statement(number) => {
             let statement = statement_at(statements, *number);
-            ready_numbered(alloc, store, &frame.environment, statement)
+            ready_numbered(alloc, store, space, &frame.environment, statement)
         }
         Code::Call {
             procedure,
             argument,
-        } => ready_called(alloc, store, procedure, &Arguments::One(argument)),
+        } => ready_called(alloc, store, space, procedure, &Arguments::One(argument)),
+        Code::Bind { .. } => Ok(Readiness::Steps),
         Code::Mark { .. } => Ok(Readiness::Steps),
     }
 }
 
-/// Whether the statement on top of a thread's stack can step, in a space that sees this: which space it is has no part in it. It
-/// refuses where there is no memory, which it needs for tests of equality, for matches and for what it waits for alone.
+/// Whether the statement on top of a thread's stack can step, in a space that sees this. An operation on a child space waits for the
+/// state of that: what it comes to where the state is known, its answer has to say. It refuses where there is no memory, which it
+/// needs for tests of equality, for matches and for what it waits for alone.
 pub fn ready(
     alloc: Global,
     statements: &[Statement],
@@ -242,6 +267,5 @@ pub fn ready(
 ) -> Result<Readiness, AllocError>
     ensures { IfOk result (IsReady store.now (answer_ready (code_answer (record { statements = statements.now; space = space.now; view = store.now }) frame.now.environment frame.now.code))) }
 {
-    let _ = space;
-    ready_code(alloc, statements, store, frame)
+    ready_code(alloc, statements, store, space, frame)
 }

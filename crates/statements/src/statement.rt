@@ -1,9 +1,9 @@
 //! What statements answer.
-ghost use Rattle.std.specs.Prelude.{◌≡◌, ◌∷◌, [], List, map, IfOk, option_copied, slice_get};
+ghost use Rattle.std.specs.Prelude.{◌≡◌, ◌∷◌, [], List, map, pos, IfOk, option_copied, slice_get};
 ghost use Rattle.environments.specs.Environments.{bound};
 ghost use Rattle.oz_language.specs.declared.kernel.Statement.{Statement};
 ghost use Rattle.oz_semantics.specs.Answers as answers;
-ghost use Rattle.oz_semantics.specs.Answers.{with_value};
+ghost use Rattle.oz_semantics.specs.Answers.{gives_constant, with_value};
 ghost use Rattle.oz_semantics.specs.Builtins.{call_answer};
 ghost use Rattle.oz_semantics.specs.Configurations.{frames_of};
 ghost use Rattle.oz_semantics.specs.Matching.{matched};
@@ -17,7 +17,7 @@ use crate::frames::{frames_of, guard};
 use crate::variables::{Arguments, all_bound, bound, look};
 use builtins::{Act, Answer, Closure, Declaration};
 use environments::Environment;
-use oz_base::{Copies, Sequence, Shared, SpaceName};
+use oz_base::{Copies, Ident, Sequence, Shared, SpaceName};
 use oz_language::{Constant, Identifier, Literal, Operation, Piece, Statement};
 use oz_semantics::{Builtin, Code, Frame, RaiseKind, Record, Value};
 use std::alloc::{AllocError, Global};
@@ -321,6 +321,16 @@ pub fn statement_at(statements: &[Statement], number: u32) -> Option<&Statement>
     statements.get(number as usize)
 }
 
+/// `X=I` of a variable and an integer.
+fn gives_number(alloc: Global, variable: &Ident, number: u64) -> Result<Answer, AllocError>
+    ensures { IfOk result (λ a. answer_of a ≡ gives_constant variable.now (Constant.Int (pos number))) }
+{
+    Ok(Answer::Acts(Act::GivesValue {
+        variable: variable.copied(alloc)?,
+        value: Value::Constant(Constant::Int(number as i128)),
+    }))
+}
+
 fn answer_code(
     alloc: Global,
     statements: &[Statement],
@@ -339,6 +349,7 @@ fn answer_code(
             procedure,
             argument,
         } => { called(alloc, store, space, procedure, &Arguments::One(argument)) }
+        Code::Bind { variable, number } => gives_number(alloc, variable, *number),
         // A mark that no exception has reached does nothing.
         Code::Mark { .. } => Ok(Answer::Acts(Act::Passes)),
     }

@@ -107,6 +107,7 @@ like_length (value.Builtin a) (value.Builtin b) e = refl
 like_length (value.Name a) (value.Name b) e = refl
 like_length (value.Cell a) (value.Cell b) e = refl
 like_length (value.Port a) (value.Port b) e = refl
+like_length (value.Space a) (value.Space b) e = refl
 like_length v w e = absurd (false≢true e)
 
 abbrev if_value : Bool → Value → Option Value

@@ -122,6 +122,24 @@ fn keeps_a_copy_apart(rt: HostRuntime) -> Result<(), Fail> {
     Ok(())
 }
 
+/// `x` is the child of the top with this number.
+fn child(alloc: Global, x: u64, number: u64) -> Result<Tell, AllocError> {
+    Ok(Tell::Is {
+        variable: variable(x),
+        value: Value::Space(SpaceName::top().child(alloc, number)?),
+    })
+}
+
+#[test]
+fn tells_spaces_apart_by_their_names(rt: HostRuntime) -> Result<(), Fail> {
+    let alloc = rt.alloc();
+    let mut store = Store::new(alloc);
+    assert!(rt; tell(alloc, &mut store, child(alloc, 0, 1)?)?);
+    assert!(rt; tell(alloc, &mut store, child(alloc, 0, 1)?)?);
+    assert!(rt; !tell(alloc, &mut store, child(alloc, 0, 2)?)?);
+    Ok(())
+}
+
 #[test]
 fn stays_as_it_was_at_a_clash(rt: HostRuntime) -> Result<(), Fail> {
     let (goes, len) = told_two(rt.alloc())?;

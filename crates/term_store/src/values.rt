@@ -2,7 +2,7 @@
 ghost use Rattle.std.specs.Prelude.{◌≡◌};
 ghost use Rattle.oz_semantics.specs.Values.{same_form, builtin_eq, is_like, fields_of};
 
-use oz_base::{Ident, same_ident};
+use oz_base::{Ident, same_ident, same_space};
 use oz_language::{constant_eq, literal_eq, same_arity};
 use oz_semantics::{Builtin, Record, Value};
 
@@ -34,6 +34,7 @@ pub fn is_like(left: &Value, right: &Value) -> bool
         (Value::Name(a), Value::Name(b)) => same_ident(a, b),
         (Value::Cell(a), Value::Cell(b)) => same_ident(a, b),
         (Value::Port(a), Value::Port(b)) => same_ident(a, b),
+        (Value::Space(a), Value::Space(b)) => same_space(a, b),
         _ => false,
     }
 }

@@ -36,6 +36,7 @@ value_node words forms print up (Some (value.Builtin b)) = omega arith
 value_node words forms print up (Some (value.Name n)) = omega arith
 value_node words forms print up (Some (value.Cell c)) = omega arith
 value_node words forms print up (Some (value.Port p)) = omega arith
+value_node words forms print up (Some (value.Space s)) = omega arith
 
 pub term_node : (words : List (List ℕ)) (view : List Tell) (n : ℕ) (up : List Ident) (x : Ident) → 1 ≤ (printed words view n up x).nodes
 unfolding printed

@@ -306,6 +306,10 @@ impl<'a> Printer<'a> {
                 self.print_leaf(b"<port>", term.owed)?;
                 Ok(None)
             }
+            Some(Value::Space(_)) => {
+                self.print_leaf(b"<space>", term.owed)?;
+                Ok(None)
+            }
         }
     }
 

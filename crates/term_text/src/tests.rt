@@ -165,15 +165,17 @@ fn is(x: u64, value: Value) -> Tell {
 }
 
 #[test]
-fn a_name_a_cell_and_a_port(rt: HostRuntime) -> Result<(), Fail> {
+fn a_name_a_cell_a_port_and_a_space(rt: HostRuntime) -> Result<(), Fail> {
     let alloc = rt.alloc();
     let tells = vec![in alloc;
-        tuple(alloc, 0, F, &[1, 2, 3])?,
+        tuple(alloc, 0, F, &[1, 2, 3, 4])?,
         is(1, Value::Name(var(1))),
         is(2, Value::Cell(var(0))),
         is(3, Value::Port(var(0))),
+        is(4, Value::Space(SpaceName::top().child(alloc, 1)?)),
     ]?;
-    assert!(rt; is_text(&text(alloc, tells, 4)?, b"f(<name> <cell> <port>)", 4));
+    let shown = text(alloc, tells, 5)?;
+    assert!(rt; is_text(&shown, b"f(<name> <cell> <port> <space>)", 5));
     Ok(())
 }
 

@@ -1,11 +1,13 @@
 -- Edits of spaces that are not the top: they leave it as it was, and what it sees.
 use Rattle.std.proofs.Common.{◌≡◌, inl, inr, ℕ, true, false, not, ◌&&◌, List, [], ◌∷◌, refl, sym, ap, subst, ◌∙◌, Option, Some, is_some, unwrap_or, filter, fold}
+use Rattle.std.specs.List.{list_any}
 use Rattle.std.proofs.lemmas.Bool.{false≢true}
 use Rattle.oz_base.specs.Lists.{list_eq}
 use Rattle.oz_language.specs.declared.kernel.Statement.{Statement}
 use Rattle.oz_semantics.specs.Names.{is_top, is_below, is_properly_below}
 use Rattle.oz_semantics.specs.Store.{View, is_consistent}
 use Rattle.oz_semantics.specs.Configurations.{is_of, layer_at, layer_of, view, in_layer, ending, failed, new_layer}
+use Rattle.oz_semantics.specs.Spaces.{states_of, waited_in}
 use Rattle.oz_semantics.specs.Triggers.{has_needed, triggered}
 use Rattle.oz_semantics.specs.Settling.{may_fail, is_inconsistent, inconsistent_spaces, failing, without_inconsistent, top_is_inconsistent}
 use Rattle.oz_semantics.specs.declared.configuration.Layer.{Layer}
@@ -13,6 +15,7 @@ use Rattle.oz_laws.proofs.SameLaws.{In, In-from_contains, contains-from_In, and-
 use Rattle.view_laws.specs.Sights.{IsEnd}
 use Rattle.view_laws.specs.Steps.{IsSound}
 use Rattle.view_laws.specs.Needs.{NoneNeeded}
+use Rattle.view_laws.specs.Spaceless.{gives_space, knows_space}
 use Rattle.view_laws.proofs.Members.{decide, not_both, and_both, some_of, by_some}
 use Rattle.view_laws.proofs.ListLaws.{filter_in, in_map, found_in}
 use Rattle.view_laws.proofs.NameLaws.{equal_names}
@@ -25,6 +28,7 @@ use Rattle.settle_laws.proofs.ListEdits.{find_edit, find_filter}
 use Rattle.turn_laws.specs.Orderly.{KeepsNumbered, AreOrderly}
 use Rattle.turn_laws.proofs.NumberedLaws.{edits_numbered}
 use Rattle.turn_laws.proofs.OrderlyLaws.{IsEdit, edit_orderly, end_orderly, fired_orderly, is_there}
+use Rattle.top_laws.proofs.SeenLaws.{spaceless_top, waited_same}
 
 -- the layers `after` are orderly, and have the top of those before, which sees what it saw
 pub record LeavesTop (before after : List Layer) : Type 0 where
@@ -38,7 +42,7 @@ pub is_empty_name : (s : List ℕ) → is_top s ≡ true → s ≡ []
 is_empty_name [] e = refl
 is_empty_name (n ∷ s) e = absurd (false≢true e)
 
-not_named : (s : List ℕ) → is_top s ≡ false → list_eq s [] ≡ false
+pub not_named : (s : List ℕ) → is_top s ≡ false → list_eq s [] ≡ false
 not_named [] e = absurd (false≢true (sym e))
 not_named (n ∷ s) e = refl
 
@@ -46,7 +50,7 @@ not_above : (s : List ℕ) → is_top s ≡ false → is_below s [] ≡ false
 not_above [] e = absurd (false≢true (sym e))
 not_above (n ∷ s) e = refl
 
-never_properly : (s : List ℕ) → is_properly_below s [] ≡ false
+pub never_properly : (s : List ℕ) → is_properly_below s [] ≡ false
 never_properly [] = refl
 never_properly (n ∷ s) = refl
 
@@ -54,7 +58,7 @@ never_properly (n ∷ s) = refl
 
 module _ (space : List ℕ) (inner : is_top space ≡ false) where
   -- a layer of the space is not that of the top
-  apart : (l : Layer) → is_of space l ≡ true → is_of [] l ≡ false
+  pub apart : (l : Layer) → is_of space l ≡ true → is_of [] l ≡ false
   apart l e = ap (λ s. list_eq s []) (equal_names l.space space e) ∙ not_named space inner
 
   pub edit_leaves : (f : Layer → Layer) (before layers : List Layer) → IsEdit f → LeavesTop before layers → LeavesTop before (in_layer space f layers)
@@ -99,13 +103,24 @@ left_leaves before layers fits leaves = fold_leaves (inconsistent_spaces layers)
 
 -- What is needed begins
 
--- no trigger of the top is needed
-abbrev pub TopUnneeded : List Statement → List Layer → Type 0
-TopUnneeded statements layers = has_needed statements layers (layer_of layers []) ≡ false
+-- the top was told of no space, and no trigger of it is needed
+pub record TopUnneeded (statements : List Statement) (layers : List Layer) : Type 0 where
+  pub plain : knows_space (layer_of layers []) ≡ false
+  pub unneeded : has_needed statements layers (layer_of layers []) ≡ false
 
-pub top_unneeded : (statements : List Statement) (layers : List Layer) → is_some (layer_at layers []) ≡ true → NoneNeeded statements layers → TopUnneeded statements layers
-top_unneeded statements layers there content =
-    none_in (has_needed statements layers) layers content (layer_of layers []) (found_in (is_of []) (λ (m : Layer). m) layers (layer_of layers []) (is_there layers [] there)).0
+pub top_unneeded : (statements : List Statement) (layers : List Layer) → is_some (layer_at layers []) ≡ true → NoneNeeded statements layers
+    → knows_space (layer_of layers []) ≡ false → TopUnneeded statements layers
+top_unneeded statements layers there content plain = record {
+  plain = plain;
+  unneeded =
+      none_in (has_needed statements layers) layers content (layer_of layers []) (found_in (is_of []) (λ (m : Layer). m) layers (layer_of layers []) (is_there layers [] there)).0;
+}
+
+-- a top that was left was told of no space where it was told of none before
+pub left_spaceless : (before layers : List Layer) → LeavesTop before layers → knows_space (layer_of before []) ≡ false → list_any gives_space (view before []) ≡ false
+left_spaceless before layers leaves plain =
+    ap (list_any gives_space) (sym leaves.seen)
+    ∙ spaceless_top layers leaves.good (ap (λ (o : Option Layer). knows_space (unwrap_or o (new_layer []))) leaves.same ∙ plain)
 
 -- then it stays as it is
 pub begun_leaves : (statements : List Statement) (before layers : List Layer) → TopUnneeded statements before → LeavesTop before layers → LeavesTop before (triggered statements layers)
@@ -115,8 +130,10 @@ begun_leaves statements before layers unneeded leaves =
     let name : (layer_of layers []).space ≡ [] = space_of layers [] (layer_of layers []) at in
     let own : layer_of layers [] ≡ layer_of before [] = ap (λ (o : Option Layer). unwrap_or o (new_layer [])) leaves.same in
     let seen : view layers (layer_of layers []).space ≡ view before (layer_of layers []).space = subst (λ s. view layers s ≡ view before s) (sym name) leaves.seen in
+    let waited : waited_in statements layers (states_of statements layers) (layer_of layers []) ≡ waited_in statements before (states_of statements before) (layer_of layers []) =
+    waited_same statements before layers (layer_of layers []) name leaves.seen (left_spaceless before layers leaves unneeded.plain) in
     let still : has_needed statements layers (layer_of layers []) ≡ false =
-    needed_same statements before layers (layer_of layers []) seen ∙ ap (has_needed statements before) own ∙ unneeded in
+    needed_same statements before layers (layer_of layers []) seen waited ∙ ap (has_needed statements before) own ∙ unneeded.unneeded in
     record {
       good = fired_orderly layers (triggered statements layers) fires leaves.good;
       same = unneeded_stays statements layers [] (layer_of layers []) at still ∙ sym at ∙ leaves.same;

@@ -2,15 +2,14 @@
 use Rattle.std.proofs.Common.{◌≡◌, inl, inr, ℕ, Bool, true, false, if◌then◌else◌, cond, List, [], ◌∷◌, refl, sym, ap, subst, ◌∙◌, arith, Contains, Option, Some, None, map, unwrap_or}
 use Rattle.std.specs.List.{find, list_any}
 use Rattle.std.proofs.lemmas.Bool.{false≢true}
-use Rattle.oz_base.specs.Lists.{list_eq, put_before, edit_first, holds_of}
+use Rattle.oz_base.specs.Lists.{list_eq, edit_first, holds_of}
 use Rattle.oz_base.specs.declared.names.Ident.{Ident}
 use Rattle.oz_language.specs.declared.kernel.Statement.{Statement}
 use Rattle.oz_semantics.specs.Names.{is_top, is_below, child_name, space_lt}
 use Rattle.oz_semantics.specs.Store.{View}
 use Rattle.oz_semantics.specs.Configurations.{is_of, layer_at, layer_of, thread_at, is_numbered, is_open, view, in_layer, counting_child, new_layer, next_child}
 use Rattle.oz_semantics.specs.Sights.{Sight, can_step}
-use Rattle.oz_semantics.specs.Readiness.{thread_ready}
-use Rattle.oz_semantics.specs.Spaces.{sight, layer_goes_on, layers_below, goes_on}
+use Rattle.oz_semantics.specs.Spaces.{sight, states_of, thread_ready, waited_in, layer_goes_on, layers_below, goes_on}
 use Rattle.oz_semantics.specs.Edits.{starting, created, committing, committed}
 use Rattle.oz_semantics.specs.Triggers.{has_needed, triggered}
 use Rattle.oz_semantics.specs.Settling.{top_is_inconsistent, top_failed, without_inconsistent, requeued}
@@ -24,7 +23,9 @@ use Rattle.oz_laws.proofs.SameLaws.{In, In-from_contains, contains-from_In}
 use Rattle.view_laws.proofs.Members.{decide, not_both, by_some}
 use Rattle.view_laws.proofs.ListLaws.{found_in, in_filter, map_in}
 use Rattle.view_laws.proofs.NameLaws.{equal_names}
-use Rattle.view_laws.proofs.SightLaws.{creation_unseen}
+use Rattle.view_laws.proofs.SightLaws.{space_of, creation_unseen}
+use Rattle.view_laws.specs.Spaceless.{gives_space, knows_space, plain_ready}
+use Rattle.view_laws.specs.Readies.{seeing}
 use Rattle.need_laws.proofs.RoundLaws.{needed_same}
 use Rattle.settle_laws.proofs.SoundLaws.{sound_top, committed_sound}
 use Rattle.turn_laws.specs.Orderly.{AreOrderly}
@@ -34,16 +35,32 @@ use Rattle.turn_laws.proofs.OrderlyLaws.{IsEdit, is_there, created_orderly}
 use Rattle.turn_laws.proofs.HeadLaws.{kept_layers}
 use Rattle.turn_laws.proofs.KeptLaws.{kept_root, kept_chosen, created_top}
 use Rattle.top_laws.specs.Top.{TopRests, RootRests, ChosenRests}
-use Rattle.top_laws.proofs.OutsideLaws.{LeavesTop, is_empty_name, edit_leaves, left_leaves, TopUnneeded, top_unneeded, begun_leaves}
+use Rattle.top_laws.proofs.SeenLaws.{spaceless_top, plain_top, waited_same}
+use Rattle.top_laws.proofs.OutsideLaws.{LeavesTop, is_empty_name, edit_leaves, left_leaves, TopUnneeded, top_unneeded, left_spaceless, begun_leaves}
+use Rattle.top_laws.proofs.EditedLaws.{found_put}
 
--- what resting says of the top's layer, which sees this
-abbrev RestsSeeing : List Statement → Layer → View → Type 0
-RestsSeeing statements l v = is_open l.status ≡ true → (t : Thread) → Contains l.threads t → can_step (thread_ready (record { statements = statements; space = []; view = v }) t) ≡ false
+-- by two lists of layers in which the top sees the same, no space among it
+rests_seen : (statements : List Statement) (before after : List Layer) (l : Layer) → view after [] ≡ view before [] → list_any gives_space (view before []) ≡ false
+    → (is_open l.status ≡ true → (t : Thread) → Contains l.threads t → can_step (thread_ready statements before [] t) ≡ false)
+    → is_open l.status ≡ true → (t : Thread) → Contains l.threads t → can_step (thread_ready statements after [] t) ≡ false
+rests_seen statements before after l seen none rests opened t c =
+    ap can_step
+    (plain_top statements after (states_of statements after) t (ap (list_any gives_space) seen ∙ none)
+    ∙ ap (λ (v : View). plain_ready (seeing statements [] v) t) seen
+    ∙ sym (plain_top statements before (states_of statements before) t none))
+    ∙ rests opened t c
+
+-- where the top's layer has the status, the threads and the tells of another
+moved_rests : (statements : List Statement) (before after : List Layer) (l : Layer) → layer_at after [] ≡ Some l → view after [] ≡ view before [] → list_any gives_space (view before []) ≡ false
+    → knows_space l ≡ false → (is_open l.status ≡ true → (t : Thread) → Contains l.threads t → can_step (thread_ready statements before [] t) ≡ false) → TopRests statements after
+moved_rests statements before after l at seen none plain rests =
+    subst (λ (m : Layer). (knows_space m ≡ false) × (is_open m.status ≡ true → (t : Thread) → Contains m.threads t → can_step (thread_ready statements after [] t) ≡ false))
+    (sym (ap (λ (o : Option Layer). unwrap_or o (new_layer [])) at)) (plain, rests_seen statements before after l seen none rests)
 
 pub same_rests : (statements : List Statement) (before after : List Layer) → LeavesTop before after → TopRests statements before → TopRests statements after
 same_rests statements before after leaves rests =
-    subst (λ (v : View). RestsSeeing statements (layer_of after []) v) (sym leaves.seen)
-    (subst (λ (o : Option Layer). RestsSeeing statements (unwrap_or o (new_layer [])) (view before [])) (sym leaves.same) rests)
+    let own : layer_of after [] ≡ layer_of before [] = ap (λ (o : Option Layer). unwrap_or o (new_layer [])) leaves.same in
+    moved_rests statements before after (layer_of before []) (is_there after [] leaves.good.top ∙ ap (λ (l : Layer). Some l) own) leaves.seen (left_spaceless before after leaves rests.0) rests.0 rests.1
 
 -- the layers themselves
 pub left_itself : (layers : List Layer) → AreOrderly layers → LeavesTop layers layers
@@ -66,23 +83,29 @@ module _ (statements : List Statement) (layers : List Layer) (good : AreOrderly 
   top_found : In top layers × (is_of [] top ≡ true)
   top_found = found_in (is_of []) (λ (l : Layer). l) layers top (is_there layers [] good.top)
 
-  -- the top goes on where it is open and one of its threads can step
-  top_goes : is_open top.status ≡ true → (t : Thread) → In t top.threads → can_step (thread_ready (sight statements layers []) t) ≡ true → layer_goes_on statements layers top ≡ true
-  top_goes opened t i e =
-      subst (λ (b : Bool). list_any can_step (if b then map (thread_ready (sight statements layers top.space)) top.threads else []) ≡ true) (sym opened)
-      (by_some can_step (map (thread_ready (sight statements layers top.space)) top.threads) (thread_ready (sight statements layers top.space) t)
-      (contains-from_In (map (thread_ready (sight statements layers top.space)) top.threads) (thread_ready (sight statements layers top.space) t) (map_in (thread_ready (sight statements layers top.space)) top.threads t i))
-      (ap (λ s. can_step (thread_ready (sight statements layers s) t)) (equal_names top.space [] top_found.1) ∙ e))
+  abbrev goes_in : Layer → Bool
+  goes_in = layer_goes_on statements layers (states_of statements layers)
 
-  pub still_rests : goes_on statements layers [] ≡ false → TopRests statements layers
-  still_rests still opened t c = elim (decide (can_step (thread_ready (sight statements layers []) t))) [
+  -- the top goes on where it is open and one of its threads can step
+  top_goes : is_open top.status ≡ true → (t : Thread) → In t top.threads → can_step (thread_ready statements layers [] t) ≡ true → goes_in top ≡ true
+  top_goes opened t i e =
+      subst (λ (b : Bool). list_any can_step (if b then map (thread_ready statements layers top.space) top.threads else []) ≡ true) (sym opened)
+      (by_some can_step (map (thread_ready statements layers top.space) top.threads) (thread_ready statements layers top.space t)
+      (contains-from_In (map (thread_ready statements layers top.space) top.threads) (thread_ready statements layers top.space t) (map_in (thread_ready statements layers top.space) top.threads t i))
+      (ap (λ s. can_step (thread_ready statements layers s t)) (equal_names top.space [] top_found.1) ∙ e))
+
+  none_steps : goes_on statements layers [] ≡ false → is_open top.status ≡ true → (t : Thread) → Contains top.threads t → can_step (thread_ready statements layers [] t) ≡ false
+  none_steps still opened t c = elim (decide (can_step (thread_ready statements layers [] t))) [
     | inl e ↦ absurd (not_both _
-        (by_some (layer_goes_on statements layers) (layers_below layers []) top
+        (by_some goes_in (layers_below layers []) top
         (contains-from_In (layers_below layers []) top (in_filter (λ (l : Layer). is_below [] l.space) layers top top_found.0 refl))
         (top_goes opened t (In-from_contains top.threads t c) e))
         still)
     | inr e ↦ e
   ]
+
+  pub still_rests : goes_on statements layers [] ≡ false → knows_space top ≡ false → TopRests statements layers
+  still_rests still plain = (plain, none_steps still)
 
 -- The thread at the head is none of a top that rests
 
@@ -90,17 +113,17 @@ pub head_inner : (statements : List Statement) (layers : List Layer) (id : Ident
 head_inner statements layers id there rests = elim (decide (is_top id.space)) [
   | inl top ↦ (let name : id.space ≡ [] = is_empty_name id.space top in
       absurd (never (subst (λ s. is_open (layer_of layers s).status ≡ true) name there.opened)
-      (subst (λ s. holds_of (λ (t : Thread). can_step (thread_ready (sight statements layers s) t)) (thread_at (layer_of layers s).threads id.number) ≡ true) name there.ready)))
+      (subst (λ s. holds_of (λ (t : Thread). can_step (thread_ready statements layers s t)) (thread_at (layer_of layers s).threads id.number) ≡ true) name there.ready)))
   | inr e ↦ e
 ]
   where
     able : Thread → Bool
-    able t = can_step (thread_ready (sight statements layers []) t)
+    able t = can_step (thread_ready statements layers [] t)
 
     never : is_open (layer_of layers []).status ≡ true → holds_of able (thread_at (layer_of layers []).threads id.number) ≡ true → ⊥
     never opened ready =
         let t = held_found able (is_numbered id.number) (layer_of layers []).threads ready in
-        not_both (able t.0) t.2 (rests opened t.0 (contains-from_In (layer_of layers []).threads t.0 t.1))
+        not_both (able t.0) t.2 (rests.1 opened t.0 (contains-from_In (layer_of layers []).threads t.0 t.1))
 
 -- What follows an edit by the search
 
@@ -124,21 +147,12 @@ chosen_rests statements space i c inner kept rests = (
   where
     leaves : LeavesTop c.layers (chosen_in statements space i c).layers
     leaves =
-        followed_leaves statements c c.layers (committed statements space i c.layers) (top_unneeded statements c.layers kept.top kept.content) (sound_top (committed statements space i c.layers) (committed_sound statements space i c.layers kept.sound))
+        followed_leaves statements c c.layers (committed statements space i c.layers) (top_unneeded statements c.layers kept.top kept.content rests.0) (sound_top (committed statements space i c.layers) (committed_sound statements space i c.layers kept.sound))
         (edit_leaves space inner (committing (sight statements c.layers space) i) c.layers c.layers (choice_edit (sight statements c.layers space) i) (left_itself c.layers (kept_layers statements c kept)))
 
 -- Where the search begins
 
 module _ {A : Type 0} where
-  -- what is found beside a new item that does not pass
-  found_put : (test other : A → Bool) (new : A) → test new ≡ false → (xs : List A) → find test (put_before other new xs) ≡ find test xs
-  found_put test other new e [] = ap (λ (b : Bool). cond b (Some new) None) e
-  found_put test other new e (x ∷ xs) = by (other x) (found_put test other new e xs)
-    where
-      by : (b : Bool) → find test (put_before other new xs) ≡ find test xs → find test (cond b (new ∷ x ∷ xs) (x ∷ put_before other new xs)) ≡ find test (x ∷ xs)
-      by true rest = ap (λ (b : Bool). cond b (Some new) (find test (x ∷ xs))) e
-      by false rest = ap (λ (o : Option A). cond (test x) (Some x) o) rest
-
   -- what is found where it was edited
   found_edit : (test : A → Bool) (f : A → A) → ((x : A) → test (f x) ≡ test x) → (xs : List A) (x : A) → find test xs ≡ Some x → find test (edit_first test f xs) ≡ Some (f x)
   found_edit test f same [] x e = cc
@@ -173,22 +187,33 @@ module _ (statements : List Statement) (procedure : Ident) (c : Configuration) (
   made_good : AreOrderly made
   made_good = created_orderly [] procedure c.layers kept.top (kept_layers statements c kept)
 
-  made_rests : TopRests statements c.layers → TopRests statements made
-  made_rests rests =
-      subst (λ (v : View). RestsSeeing statements (layer_of made []) v) (sym (creation_unseen c.layers [] [] procedure))
-      (subst (λ (o : Option Layer). RestsSeeing statements (unwrap_or o (new_layer [])) (view c.layers [])) (sym counted) rests)
+  unseen : (other : List ℕ) → view made other ≡ view c.layers other
+  unseen other = creation_unseen c.layers [] other procedure
 
-  made_unneeded : TopUnneeded statements made
-  made_unneeded =
-      ap (λ (o : Option Layer). has_needed statements made (unwrap_or o (new_layer []))) counted
-      ∙ needed_same statements c.layers made (counting_child (layer_of c.layers [])) (creation_unseen c.layers [] (layer_of c.layers []).space procedure)
-      ∙ top_unneeded statements c.layers kept.top kept.content
+  module _ (rests : TopRests statements c.layers) where
+    none : list_any gives_space (view c.layers []) ≡ false
+    none = spaceless_top c.layers (kept_layers statements c kept) rests.0
 
-  root_leaves : LeavesTop made (with_root statements procedure c).layers
-  root_leaves = followed_leaves statements c made made made_unneeded (created_top [] procedure c.layers kept.sound) (left_itself made made_good)
+    made_rests : TopRests statements made
+    made_rests = moved_rests statements c.layers made (counting_child (layer_of c.layers [])) counted (unseen []) none rests.0 rests.1
 
-  pub begun : TopRests statements c.layers → TopRests statements (with_root statements procedure c).layers × (layer_at (with_root statements procedure c).layers [] ≡ Some (counting_child (layer_of c.layers [])))
-  begun rests = (same_rests statements made (with_root statements procedure c).layers root_leaves (made_rests rests), root_leaves.same ∙ counted)
+    waits_same : waited_in statements made (states_of statements made) (counting_child (layer_of c.layers [])) ≡ waited_in statements c.layers (states_of statements c.layers) (counting_child (layer_of c.layers []))
+    waits_same = waited_same statements c.layers made (counting_child (layer_of c.layers [])) (space_of c.layers [] (layer_of c.layers []) (is_there c.layers [] kept.top)) (unseen []) none
+
+    made_unneeded : TopUnneeded statements made
+    made_unneeded = record {
+      plain = ap (λ (o : Option Layer). knows_space (unwrap_or o (new_layer []))) counted ∙ rests.0;
+      unneeded =
+          ap (λ (o : Option Layer). has_needed statements made (unwrap_or o (new_layer []))) counted
+          ∙ needed_same statements c.layers made (counting_child (layer_of c.layers [])) (unseen (layer_of c.layers []).space) waits_same
+          ∙ (top_unneeded statements c.layers kept.top kept.content rests.0).unneeded;
+    }
+
+    root_leaves : LeavesTop made (with_root statements procedure c).layers
+    root_leaves = followed_leaves statements c made made made_unneeded (created_top [] procedure c.layers kept.sound) (left_itself made made_good)
+
+    pub begun : TopRests statements (with_root statements procedure c).layers × (layer_at (with_root statements procedure c).layers [] ≡ Some (counting_child (layer_of c.layers [])))
+    begun = (same_rests statements made (with_root statements procedure c).layers root_leaves made_rests, root_leaves.same ∙ counted)
 
 pub root_rests : RootRests
 root_rests statements procedure c kept rests = let b = begun statements procedure c kept rests in (kept_root statements procedure c kept, b.0, b.1)

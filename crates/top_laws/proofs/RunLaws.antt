@@ -3,6 +3,7 @@ use Rattle.std.proofs.Common.{◌≡◌, ℕ, zero, suc, ◌-◌, ◌≤◌, nat
 use Rattle.oz_base.specs.declared.names.Ident.{Ident}
 use Rattle.oz_language.specs.declared.kernel.Statement.{Statement}
 use Rattle.oz_language.specs.declared.kernel.Kernel.{Kernel}
+use Rattle.oz_semantics.specs.Configurations.{layer_of}
 use Rattle.oz_semantics.specs.Spaces.{goes_on}
 use Rattle.oz_semantics.specs.Settling.{Turned}
 use Rattle.oz_semantics.specs.Schedule.{turn_of, turn}
@@ -11,6 +12,7 @@ use Rattle.oz_semantics.specs.declared.configuration.Layer.{Layer}
 use Rattle.oz_semantics.specs.declared.configuration.Configuration.{Configuration}
 use Rattle.oz_semantics.specs.declared.outcome.Stepped.TheVariants.{Moved, TopEnded, Quiescent}
 use Rattle.view_laws.proofs.Members.{not_both}
+use Rattle.view_laws.specs.Spaceless.{knows_space}
 use Rattle.settle_laws.specs.Turns.{cost_of}
 use Rattle.settle_laws.proofs.TurnLaws.{cost_law}
 use Rattle.turn_laws.specs.Kept.{IsKept}
@@ -26,7 +28,7 @@ use Rattle.top_laws.proofs.RestLaws.{same_rests, left_itself, still_rests, head_
 turn_of_below : (k : Kernel) (c : Configuration) (queue : List Ident) → IsKept k.statements (record c { queue = queue }) → TopRests k.statements c.layers → MovedBelow c.layers (turn_of k c queue)
 turn_of_below k c [] kept rests = tt
 turn_of_below k c (id ∷ queue) kept rests =
-    step_below k c.layers kept.sound (top_unneeded k.statements c.layers kept.top kept.content) id (head_inner k.statements c.layers id (kept_head k.statements id queue c kept) rests) (record c { queue = queue })
+    step_below k c.layers kept.sound (top_unneeded k.statements c.layers kept.top kept.content rests.0) id (head_inner k.statements c.layers id (kept_head k.statements id queue c kept) rests) (record c { queue = queue })
     (left_itself c.layers (kept_layers k.statements (record c { queue = id ∷ queue }) kept))
 
 turn_below : (k : Kernel) (c : Configuration) (t : Turned) → IsKept k.statements c → TopRests k.statements c.layers → ◌≡◌ {A = Turned} (turn k c) t → MovedBelow c.layers t
@@ -94,7 +96,7 @@ stepped_on k c d (id ∷ queue) kept goes e = none_costs (subst (λ (t : Turned)
     none_costs h = omega (arith, h)
 
 abbrev RanResting : List Statement → Ran → Type 0
-RanResting statements (Ended d left) = TopRests statements d.layers
+RanResting statements (Ended d left) = knows_space (layer_of d.layers []) ≡ false → TopRests statements d.layers
 RanResting statements (TopRaised d left x) = Unit {0}
 RanResting statements (Over d) = Unit {0}
 
@@ -119,4 +121,4 @@ run_resting k (suc n) c fuel kept = by (goes_on k.statements c.layers []) refl (
     by false still rest = still_rests k.statements c.layers (kept_layers k.statements c kept) still
 
 pub rests_law : RestsLaw
-rests_law k c fuel d left kept e = subst (RanResting k.statements) e (run_resting k (suc fuel) c fuel kept)
+rests_law k c fuel d left kept e plain = subst (RanResting k.statements) e (run_resting k (suc fuel) c fuel kept) plain

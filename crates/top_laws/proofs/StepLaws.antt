@@ -5,16 +5,15 @@ use Rattle.oz_language.specs.declared.kernel.Kernel.{Kernel}
 use Rattle.oz_semantics.specs.Names.{is_top}
 use Rattle.oz_semantics.specs.Store.{is_consistent}
 use Rattle.oz_semantics.specs.Configurations.{layer_of, stack_of, view, in_layer, with_frames, without_terminated, telling, failed, raised_by, ending}
-use Rattle.oz_semantics.specs.Answers.{Answer, Acts, RaisesKind, RaisesTerm, Rests}
-use Rattle.oz_semantics.specs.Statements.{stack_answer}
-use Rattle.oz_semantics.specs.Spaces.{sight}
-use Rattle.oz_semantics.specs.Changes.{Change, changed, changed_all, done}
+use Rattle.oz_semantics.specs.Answers.{Edit, Answer, Acts, Edits, RaisesKind, RaisesTerm, Operates, Rests}
+use Rattle.oz_semantics.specs.Spaces.{states_of, answer_in}
+use Rattle.oz_semantics.specs.Changes.{Change, changed, changed_all}
 use Rattle.oz_semantics.specs.Effects.{Effect, Makes, Tells, ShowsText, act_effect}
 use Rattle.oz_semantics.specs.Exceptions.{is_failure, raise_term, with_term, unwound}
 use Rattle.oz_semantics.specs.Texts.{Printed, term_text}
 use Rattle.oz_semantics.specs.Triggers.{triggered}
 use Rattle.oz_semantics.specs.Settling.{Turned, settled, top_failed, requeued, term_variable, with_raised, top_ended, without_inconsistent}
-use Rattle.oz_semantics.specs.Steps.{went_on, ended_by, uncaught, raised_to, raised, raised_kind, told, after_effect, after_answer, without_top, stepped}
+use Rattle.oz_semantics.specs.Steps.{went_on, ended_by, uncaught, raised_to, raised, raised_kind, told, after_effect, edit_tells, edited, after_edit, after_answer, without_top, stepped}
 use Rattle.oz_semantics.specs.declared.value.Tell.{Tell}
 use Rattle.oz_semantics.specs.declared.configuration.Frame.{Frame}
 use Rattle.oz_semantics.specs.declared.configuration.Layer.{Layer}
@@ -24,8 +23,10 @@ use Rattle.oz_semantics.specs.declared.outcome.RaiseKind.TheVariants.{FailureTel
 use Rattle.oz_semantics.specs.declared.outcome.Stepped.TheVariants.{Moved, TopEnded, Quiescent}
 use Rattle.view_laws.specs.Steps.{IsSound, IsNumbered}
 use Rattle.view_laws.proofs.ChangeLaws.{edit_of, changed_by}
+use Rattle.settle_laws.proofs.FitLaws.{FitsIn, AnswerFits, answer_fits, fits_kept}
 use Rattle.turn_laws.proofs.NumberedLaws.{none_numbered}
 use Rattle.turn_laws.proofs.OrderlyLaws.{frames_edit, terminated_edit, tells_edit, change_edit, term_edit}
+use Rattle.top_laws.proofs.EditedLaws.{edited_leaves}
 use Rattle.top_laws.proofs.OutsideLaws.{LeavesTop, edit_leaves, end_leaves, left_leaves, TopUnneeded, begun_leaves, top_fits}
 
 -- the machine moved and left the top as it was, or nothing could step
@@ -50,9 +51,9 @@ module _ (k : Kernel) (before : List Layer) (sound : IsSound before) (unneeded :
   end_is x true l = (refl, refl)
   end_is x false l = (refl, refl)
 
-  end_numbered : (x : Ident) (b : Bool) (l : Layer) → IsNumbered (if b then failed l else raised_by x l)
-  end_numbered x true l = none_numbered (failed l) refl
-  end_numbered x false l = none_numbered (raised_by x l) refl
+  end_numbered : (x : Ident) (b : Bool) (l : Layer) → IsNumbered l → IsNumbered (if b then failed l else raised_by x l)
+  end_numbered x true l h = none_numbered (failed l) refl h.begins
+  end_numbered x false l h = none_numbered (raised_by x l) refl h.begins
 
   uncaught_leaves : (x : Ident) (layers : List Layer) (c : Configuration) → LeavesTop before layers → MovedBelow before (uncaught k.statements id x layers c)
   uncaught_leaves x layers c leaves =
@@ -64,7 +65,7 @@ module _ (k : Kernel) (before : List Layer) (sound : IsSound before) (unneeded :
       else settled k.statements (Some id) 1 (record c { layers = ending id.space how layers })))
       (sym inner)
       (follows 1 (record c { layers = ending id.space how layers })
-      (end_leaves id.space inner how before layers (λ l. end_is x (is_failure (view layers id.space) x) l) (λ l h. end_numbered x (is_failure (view layers id.space) x) l) leaves))
+      (end_leaves id.space inner how before layers (λ l. end_is x (is_failure (view layers id.space) x) l) (λ l h. end_numbered x (is_failure (view layers id.space) x) l h) leaves))
 
   raised_to_leaves : (x : Ident) (frames : Option (List Frame)) (layers : List Layer) (c : Configuration) → LeavesTop before layers → MovedBelow before (raised_to k.statements id x frames layers c)
   raised_to_leaves x None layers c leaves = uncaught_leaves x layers c leaves
@@ -88,29 +89,41 @@ module _ (k : Kernel) (before : List Layer) (sound : IsSound before) (unneeded :
       changes_leave changes (changed id layers change)
       (subst (LeavesTop before) (sym (changed_by id layers change)) (edit_leaves id.space inner (edit_of id.number change) before layers (change_edit id.number change) leaves))
 
-  told_leaves : (ts : List Tell) (changes : List Change) (layers : List Layer) (c : Configuration) → LeavesTop before layers → MovedBelow before (told k.statements id ts changes layers c)
-  told_leaves ts changes layers c leaves = by (is_consistent (view layers id.space ++ ts))
+  -- where the change leaves the top, once the space was told
+  told_leaves : (ts : List Tell) (change : List Layer → List Layer) (layers : List Layer) (c : Configuration) → LeavesTop before layers
+      → (LeavesTop before (in_layer id.space (telling ts) layers) → LeavesTop before (change (in_layer id.space (telling ts) layers)))
+      → MovedBelow before (told k.statements id ts change layers c)
+  told_leaves ts change layers c leaves stays = by (is_consistent (view layers id.space ++ ts))
     where
-      by : (b : Bool) → MovedBelow before (if b then went_on k.statements id 1 (done id ts changes layers) c else raised_kind k.statements id FailureTell layers c)
-      by true =
-          went_leaves 1 (done id ts changes layers) c
-          (changes_leave changes (in_layer id.space (telling ts) layers) (edit_leaves id.space inner (telling ts) before layers (tells_edit ts) leaves))
+      by : (b : Bool) → MovedBelow before (if b then went_on k.statements id 1 (change (in_layer id.space (telling ts) layers)) c else raised_kind k.statements id FailureTell layers c)
+      by true = went_leaves 1 (change (in_layer id.space (telling ts) layers)) c (stays (edit_leaves id.space inner (telling ts) before layers (tells_edit ts) leaves))
       by false = kind_leaves FailureTell layers c leaves
 
   effect_leaves : (layers : List Layer) (c : Configuration) (effect : Effect) → LeavesTop before layers → MovedBelow before (after_effect k id layers c effect)
   effect_leaves layers c (Makes changes) leaves = went_leaves 1 (changed_all id changes layers) c (changes_leave changes layers leaves)
-  effect_leaves layers c (Tells ts changes) leaves = told_leaves ts changes layers c leaves
+  effect_leaves layers c (Tells ts changes) leaves = told_leaves ts (changed_all id changes) layers c leaves (changes_leave changes (in_layer id.space (telling ts) layers))
   effect_leaves layers c (ShowsText x) leaves =
       let printed : Printed = term_text k.words (view layers id.space) x in
       went_leaves (1 + printed.nodes) layers (record c { shown = c.shown ++ printed.bytes ∷ [] }) leaves
 
-  answer_leaves : (layers : List Layer) (c : Configuration) (answer : Answer) → LeavesTop before layers → LeavesTop before c.layers → MovedBelow before (after_answer k id layers c answer)
-  answer_leaves layers c (Acts act) leaves first = effect_leaves layers c (act_effect (layer_of layers id.space) act) leaves
-  answer_leaves layers c (RaisesKind kind) leaves first = kind_leaves kind layers c leaves
-  answer_leaves layers c (RaisesTerm x) leaves first = raised_leaves x layers c leaves
-  answer_leaves layers c (Rests ready) leaves first = follows 1 c first
+  edit_moves : (edit : Edit) (layers : List Layer) (c : Configuration) → FitsIn layers id.space edit → LeavesTop before layers → MovedBelow before (after_edit k.statements id edit layers c)
+  edit_moves edit layers c fits leaves =
+      let ts : List Tell = edit_tells layers (layer_of layers id.space) edit in
+      told_leaves ts (edited k.statements id.space edit) layers c leaves
+      (edited_leaves k.statements id.space edit before (in_layer id.space (telling ts) layers) inner (fits_kept id.space (telling ts) layers id.space edit (λ l. refl) fits))
+
+  -- of a thread that takes its statement off its stack
+  answer_leaves : (c : Configuration) (answer : Answer) → AnswerFits c.layers id.space answer → LeavesTop before (without_top id c.layers) → LeavesTop before c.layers
+      → MovedBelow before (after_answer k id (without_top id c.layers) c answer)
+  answer_leaves c (Acts act) fits leaves first = effect_leaves (without_top id c.layers) c (act_effect (layer_of (without_top id c.layers) id.space) act) leaves
+  answer_leaves c (Edits edit) fits leaves first =
+      edit_moves edit (without_top id c.layers) c (fits_kept id.space (with_frames id.number (λ frames. drop 1 frames)) c.layers id.space edit (λ l. refl) fits) leaves
+  answer_leaves c (RaisesKind kind) fits leaves first = kind_leaves kind (without_top id c.layers) c leaves
+  answer_leaves c (RaisesTerm x) fits leaves first = raised_leaves x (without_top id c.layers) c leaves
+  answer_leaves c (Operates op space x) fits leaves first = follows 1 c first
+  answer_leaves c (Rests ready) fits leaves first = follows 1 c first
 
   pub step_below : (c : Configuration) → LeavesTop before c.layers → MovedBelow before (stepped k id c)
   step_below c leaves =
-      answer_leaves (without_top id c.layers) c (stack_answer (sight k.statements c.layers id.space) (stack_of c.layers id))
+      answer_leaves c (answer_in k.statements c.layers (states_of k.statements c.layers) id.space (stack_of c.layers id)) (answer_fits k.statements c.layers id)
       (edit_leaves id.space inner (with_frames id.number (λ frames. drop 1 frames)) before c.layers (frames_edit id.number (λ frames. drop 1 frames)) leaves) leaves

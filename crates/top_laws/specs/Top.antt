@@ -6,8 +6,7 @@ use Rattle.oz_language.specs.declared.kernel.Kernel.{Kernel}
 use Rattle.oz_semantics.specs.Names.{is_top}
 use Rattle.oz_semantics.specs.Configurations.{layer_at, layer_of, is_open, counting_child}
 use Rattle.oz_semantics.specs.Sights.{can_step}
-use Rattle.oz_semantics.specs.Readiness.{thread_ready}
-use Rattle.oz_semantics.specs.Spaces.{sight}
+use Rattle.oz_semantics.specs.Spaces.{thread_ready}
 use Rattle.oz_semantics.specs.Settling.{Turned}
 use Rattle.oz_semantics.specs.Schedule.{turn}
 use Rattle.oz_semantics.specs.Runs.{Ended, TopRaised, run}
@@ -16,21 +15,26 @@ use Rattle.oz_semantics.specs.declared.configuration.Thread.{Thread}
 use Rattle.oz_semantics.specs.declared.configuration.Layer.{Layer}
 use Rattle.oz_semantics.specs.declared.configuration.Configuration.{Configuration}
 use Rattle.oz_semantics.specs.declared.outcome.Stepped.TheVariants.{TopEnded}
+use Rattle.view_laws.specs.Spaceless.{knows_space}
 use Rattle.settle_laws.specs.Turns.{Left}
 use Rattle.turn_laws.specs.Kept.{IsKept}
 
--- no thread of the top can step. Where it is not open none can, whatever their statements
+-- no thread of the top can step. Where it is not open none can, whatever their statements. The top was told of no space, so that none of
+-- its threads waits for the state of one
 abbrev pub TopRests : List Statement → List Layer → Type 0
 TopRests statements layers =
-    is_open (layer_of layers []).status ≡ true → (t : Thread) → Contains (layer_of layers []).threads t → can_step (thread_ready (sight statements layers []) t) ≡ false
+    (knows_space (layer_of layers []) ≡ false)
+    × (is_open (layer_of layers []).status ≡ true → (t : Thread) → Contains (layer_of layers []).threads t → can_step (thread_ready statements layers [] t) ≡ false)
 
 -- the top is as it was
 abbrev pub IsSameTop : List Layer → List Layer → Type 0
 IsSameTop before after = layer_at after [] ≡ layer_at before []
 
--- Where a run of the top ended, the top rests
+-- Where a run of the top ended, and the top was told of no space, the top rests
 abbrev pub RestsLaw : Type 0
-RestsLaw = (k : Kernel) (c : Configuration) (fuel : ℕ) (d : Configuration) (left : ℕ) → IsKept k.statements c → run k [] c fuel ≡ Ended d left → TopRests k.statements d.layers
+RestsLaw =
+    (k : Kernel) (c : Configuration) (fuel : ℕ) (d : Configuration) (left : ℕ) → IsKept k.statements c → run k [] c fuel ≡ Ended d left → knows_space (layer_of d.layers []) ≡ false
+    → TopRests k.statements d.layers
 
 -- It still does where the search begins, and but for the child that it counts it is as it was
 abbrev pub RootRests : Type 0

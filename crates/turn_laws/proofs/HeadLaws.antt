@@ -7,8 +7,7 @@ use Rattle.oz_base.specs.declared.names.Ident.{Ident}
 use Rattle.oz_language.specs.declared.kernel.Statement.{Statement}
 use Rattle.oz_semantics.specs.Configurations.{is_of, layer_at, layer_of, thread_at, is_open, new_layer}
 use Rattle.oz_semantics.specs.Sights.{can_step}
-use Rattle.oz_semantics.specs.Readiness.{thread_ready}
-use Rattle.oz_semantics.specs.Spaces.{sight}
+use Rattle.oz_semantics.specs.Spaces.{thread_ready}
 use Rattle.oz_semantics.specs.Settling.{is_among, runnable_in, runnable}
 use Rattle.oz_semantics.specs.declared.configuration.Thread.{Thread}
 use Rattle.oz_semantics.specs.declared.configuration.Layer.{Layer}
@@ -47,7 +46,7 @@ own_numbered layers space good at = good.numbered (layer_of layers space) (conta
 
 module _ (statements : List Statement) (layers : List Layer) (id : Ident) (good : AreOrderly layers) where
   abbrev able : Thread → Bool
-  able t = can_step (thread_ready (sight statements layers id.space) t)
+  able t = can_step (thread_ready statements layers id.space t)
 
   -- a thread that can step is there
   pub able_there : In id (runnable statements layers) → IsThere statements layers id
@@ -65,7 +64,7 @@ module _ (statements : List Statement) (layers : List Layer) (id : Ident) (good 
         layer = at ∙ ap (λ (l : Layer). Some l) (sym own);
         opened = ap (λ (l : Layer). is_open l.status) own ∙ c.opened;
         thread = ap is_some mine;
-        ready = ap (holds_of able) mine ∙ ap (λ s. can_step (thread_ready (sight statements layers s) c.thread)) (sym space) ∙ c.ready;
+        ready = ap (holds_of able) mine ∙ ap (λ s. can_step (thread_ready statements layers s c.thread)) (sym space) ∙ c.ready;
       }
 
   abbrev told_of : Layer → Bool
@@ -109,11 +108,11 @@ head_numbered statements id queue c kept =
     own_numbered c.layers id.space (record { tree = kept.tree; top = kept.top; numbered = kept.numbered }) (kept_head statements id queue c kept).layer
 
 pub kept_changes : KeptChanges
-kept_changes statements c id queue changes cost kept =
-    changes_settle statements c id queue (layer_of c.layers id.space) changes cost kept.tree.ordered (kept_head statements id queue c kept).layer (head_numbered statements id queue c kept) kept.exact kept.once
+kept_changes statements c id queue changes cost kept spaceless =
+    changes_settle statements c id queue (layer_of c.layers id.space) changes cost spaceless kept.tree.ordered (kept_head statements id queue c kept).layer (head_numbered statements id queue c kept) kept.exact kept.once
     kept.sound
 
 pub kept_stack : KeptStack
-kept_stack statements c id queue frames cost kept =
-    stack_settle statements c id queue (layer_of c.layers id.space) frames cost kept.tree.ordered (kept_head statements id queue c kept).layer (head_numbered statements id queue c kept) kept.exact kept.once
+kept_stack statements c id queue frames cost kept spaceless =
+    stack_settle statements c id queue (layer_of c.layers id.space) frames cost spaceless kept.tree.ordered (kept_head statements id queue c kept).layer (head_numbered statements id queue c kept) kept.exact kept.once
     kept.sound

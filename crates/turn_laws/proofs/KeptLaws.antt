@@ -1,23 +1,22 @@
 -- What is so of a configuration is so after each turn, and where a program opens, the search begins, or a space is committed.
-use Rattle.std.proofs.Common.{◌≡◌, inl, inr, ℕ, ◌+◌, Bool, true, false, not, ◌&&◌, if◌then◌else◌, List, [], ◌∷◌, ◌++◌, refl, sym, ap, subst, ◌∙◌, Option, Some, None}
+use Rattle.std.proofs.Common.{◌≡◌, inl, inr, ℕ, ◌+◌, ◌≤◌, Bool, true, false, not, ◌&&◌, if◌then◌else◌, List, [], ◌∷◌, ◌++◌, refl, sym, ap, subst, ◌∙◌, Option, Some, None, drop, arith}
 use Rattle.oz_base.specs.Lists.{holds_of}
 use Rattle.oz_base.specs.declared.names.Ident.{Ident}
 use Rattle.oz_language.specs.declared.kernel.Statement.{Statement}
 use Rattle.oz_language.specs.declared.kernel.Kernel.{Kernel}
 use Rattle.oz_semantics.specs.Names.{is_top, child_name, space_lt}
 use Rattle.oz_semantics.specs.Store.{View, is_consistent}
-use Rattle.oz_semantics.specs.Configurations.{is_of, layer_of, stack_of, view, in_layer, with_frames, without_terminated, counting_child, spawning, ending, failed, raised_by, frames_of, next_child, new_layer}
-use Rattle.oz_semantics.specs.Answers.{Answer, Acts, RaisesKind, RaisesTerm, Rests}
-use Rattle.oz_semantics.specs.Statements.{stack_answer}
-use Rattle.oz_semantics.specs.Spaces.{sight}
+use Rattle.oz_semantics.specs.Configurations.{is_of, layer_of, stack_of, view, in_layer, with_frames, without_terminated, telling, counting_child, spawning, ending, failed, raised_by, frames_of, next_child, new_layer}
+use Rattle.oz_semantics.specs.Answers.{Edit, Answer, Acts, Edits, RaisesKind, RaisesTerm, Operates, Rests}
+use Rattle.oz_semantics.specs.Spaces.{states_of, answer_in}
 use Rattle.oz_semantics.specs.Edits.{starting, created, committed}
-use Rattle.oz_semantics.specs.Changes.{Change, changed_all, done}
+use Rattle.oz_semantics.specs.Changes.{changed_all}
 use Rattle.oz_semantics.specs.Effects.{Effect, Makes, Tells, ShowsText, act_effect}
 use Rattle.oz_semantics.specs.Exceptions.{is_failure, raise_term, with_term, unwound}
 use Rattle.oz_semantics.specs.Texts.{Printed, term_text}
 use Rattle.oz_semantics.specs.Triggers.{triggered}
 use Rattle.oz_semantics.specs.Settling.{Turned, may_fail, is_inconsistent, is_among, top_is_inconsistent, top_failed, top_ended, without_inconsistent, runnable, requeued, settled, term_variable, with_raised}
-use Rattle.oz_semantics.specs.Steps.{went_on, ended_by, uncaught, raised_to, raised, raised_kind, told, after_effect, after_answer, without_top, stepped}
+use Rattle.oz_semantics.specs.Steps.{went_on, ended_by, uncaught, raised_to, raised, raised_kind, told, after_effect, edit_tells, edited, after_edit, after_answer, without_top, stepped}
 use Rattle.oz_semantics.specs.Schedule.{turn_of}
 use Rattle.oz_semantics.specs.Runs.{opening_environment, top_layer, left_by}
 use Rattle.oz_semantics.specs.declared.value.Tell.{Tell}
@@ -41,13 +40,14 @@ use Rattle.need_laws.proofs.FireLaws.{all_fired}
 use Rattle.need_laws.proofs.AfterLaws.{fired_sound}
 use Rattle.need_laws.proofs.RoundLaws.{none_left}
 use Rattle.settle_laws.specs.Turns.{opening_layers}
+use Rattle.settle_laws.proofs.FitLaws.{FitsIn, AnswerFits, answer_fits, fits_kept}
 use Rattle.settle_laws.proofs.SoundLaws.{left_sound, sound_top, committed_sound}
 use Rattle.settle_laws.proofs.OpeningLaws.{opening_sound}
 use Rattle.settle_laws.proofs.TreeSteps.{opening_tree}
 use Rattle.turn_laws.specs.Orderly.{AreOrderly}
 use Rattle.turn_laws.specs.Kept.{IsKept, KeptTurn, KeptStep, KeptOpening, KeptRoot, KeptChosen}
 use Rattle.turn_laws.proofs.NumberedLaws.{none_numbered, spawned_numbered}
-use Rattle.turn_laws.proofs.OrderlyLaws.{edit_orderly, end_orderly, left_orderly, fired_orderly, frames_edit, term_edit, popped_orderly, changed_orderly, done_all_orderly, ended_orderly, created_orderly, committed_orderly}
+use Rattle.turn_laws.proofs.OrderlyLaws.{edit_orderly, end_orderly, left_orderly, fired_orderly, frames_edit, term_edit, popped_orderly, tells_edit, changed_orderly, ended_orderly, created_orderly, committed_orderly, edited_orderly}
 
 -- where the machine moved, it is so
 abbrev MovedKept : List Statement → Turned → Type 0
@@ -111,9 +111,9 @@ module _ (k : Kernel) (id : Ident) where
   end_is x true l = (refl, refl)
   end_is x false l = (refl, refl)
 
-  end_numbered : (x : Ident) (b : Bool) (l : Layer) → IsNumbered (if b then failed l else raised_by x l)
-  end_numbered x true l = none_numbered (failed l) refl
-  end_numbered x false l = none_numbered (raised_by x l) refl
+  end_numbered : (x : Ident) (b : Bool) (l : Layer) → IsNumbered l → IsNumbered (if b then failed l else raised_by x l)
+  end_numbered x true l h = none_numbered (failed l) refl h.begins
+  end_numbered x false l h = none_numbered (raised_by x l) refl h.begins
 
   uncaught_kept : (x : Ident) (layers : List Layer) (c : Configuration) → AreOrderly layers → IsOff id c.queue → MovedKept k.statements (uncaught k.statements id x layers c)
   uncaught_kept x layers c good off = by (is_top id.space)
@@ -125,7 +125,7 @@ module _ (k : Kernel) (id : Ident) where
       by true = tt
       by false =
           follows 1 (record c { layers = ending id.space (ended_by (view layers id.space) x) layers })
-          (end_orderly id.space (ended_by (view layers id.space) x) layers (λ l. end_is x (is_failure (view layers id.space) x) l) (λ l h. end_numbered x (is_failure (view layers id.space) x) l) good) off
+          (end_orderly id.space (ended_by (view layers id.space) x) layers (λ l. end_is x (is_failure (view layers id.space) x) l) (λ l h. end_numbered x (is_failure (view layers id.space) x) l h) good) off
 
   raised_to_kept : (x : Ident) (frames : Option (List Frame)) (layers : List Layer) (c : Configuration) → AreOrderly layers → IsOff id c.queue
       → MovedKept k.statements (raised_to k.statements id x frames layers c)
@@ -141,29 +141,44 @@ module _ (k : Kernel) (id : Ident) where
   kind_kept kind layers c good off =
       raised_kept (term_variable layers id.space) (with_raised kind id.space layers) c (edit_orderly id.space (with_term (raise_term kind)) layers (term_edit (raise_term kind)) good) off
 
-  told_kept : (ts : List Tell) (changes : List Change) (layers : List Layer) (c : Configuration) → AreOrderly layers → IsOff id c.queue → MovedKept k.statements (told k.statements id ts changes layers c)
-  told_kept ts changes layers c good off = by (is_consistent (view layers id.space ++ ts))
+  -- where the change leaves orderly layers, once the space was told
+  told_kept : (ts : List Tell) (change : List Layer → List Layer) (layers : List Layer) (c : Configuration) → AreOrderly layers
+      → (AreOrderly (in_layer id.space (telling ts) layers) → AreOrderly (change (in_layer id.space (telling ts) layers))) → IsOff id c.queue
+      → MovedKept k.statements (told k.statements id ts change layers c)
+  told_kept ts change layers c good leaves off = by (is_consistent (view layers id.space ++ ts))
     where
-      by : (b : Bool) → MovedKept k.statements (if b then went_on k.statements id 1 (done id ts changes layers) c else raised_kind k.statements id FailureTell layers c)
-      by true = went_kept 1 (done id ts changes layers) c (done_all_orderly id ts changes layers good) off
+      by : (b : Bool)
+          → MovedKept k.statements (if b then went_on k.statements id 1 (change (in_layer id.space (telling ts) layers)) c else raised_kind k.statements id FailureTell layers c)
+      by true = went_kept 1 (change (in_layer id.space (telling ts) layers)) c (leaves (edit_orderly id.space (telling ts) layers (tells_edit ts) good)) off
       by false = kind_kept FailureTell layers c good off
 
   effect_kept : (layers : List Layer) (c : Configuration) (effect : Effect) → AreOrderly layers → IsOff id c.queue → MovedKept k.statements (after_effect k id layers c effect)
   effect_kept layers c (Makes changes) good off = went_kept 1 (changed_all id changes layers) c (changed_orderly id changes layers good) off
-  effect_kept layers c (Tells ts changes) good off = told_kept ts changes layers c good off
+  effect_kept layers c (Tells ts changes) good off = told_kept ts (changed_all id changes) layers c good (changed_orderly id changes (in_layer id.space (telling ts) layers)) off
   effect_kept layers c (ShowsText x) good off =
       let printed : Printed = term_text k.words (view layers id.space) x in
       went_kept (1 + printed.nodes) layers (record c { shown = c.shown ++ printed.bytes ∷ [] }) good off
 
-  answer_kept : (layers : List Layer) (c : Configuration) (answer : Answer) → AreOrderly layers → AreOrderly c.layers → IsOff id c.queue → MovedKept k.statements (after_answer k id layers c answer)
-  answer_kept layers c (Acts act) good first off = effect_kept layers c (act_effect (layer_of layers id.space) act) good off
-  answer_kept layers c (RaisesKind kind) good first off = kind_kept kind layers c good off
-  answer_kept layers c (RaisesTerm x) good first off = raised_kept x layers c good off
-  answer_kept layers c (Rests ready) good first off = follows 1 c first off
+  edit_kept : (edit : Edit) (layers : List Layer) (c : Configuration) → FitsIn layers id.space edit → AreOrderly layers → IsOff id c.queue → MovedKept k.statements (after_edit k.statements id edit layers c)
+  edit_kept edit layers c fits good off =
+      let ts : List Tell = edit_tells layers (layer_of layers id.space) edit in
+      told_kept ts (edited k.statements id.space edit) layers c good
+      (edited_orderly k.statements id.space edit (in_layer id.space (telling ts) layers) (fits_kept id.space (telling ts) layers id.space edit (λ l. refl) fits)) off
+
+  -- of a thread that takes its statement off its stack
+  answer_kept : (c : Configuration) (answer : Answer) → AnswerFits c.layers id.space answer → AreOrderly (without_top id c.layers) → AreOrderly c.layers → IsOff id c.queue
+      → MovedKept k.statements (after_answer k id (without_top id c.layers) c answer)
+  answer_kept c (Acts act) fits good first off = effect_kept (without_top id c.layers) c (act_effect (layer_of (without_top id c.layers) id.space) act) good off
+  answer_kept c (Edits edit) fits good first off =
+      edit_kept edit (without_top id c.layers) c (fits_kept id.space (with_frames id.number (λ frames. drop 1 frames)) c.layers id.space edit (λ l. refl) fits) good off
+  answer_kept c (RaisesKind kind) fits good first off = kind_kept kind (without_top id c.layers) c good off
+  answer_kept c (RaisesTerm x) fits good first off = raised_kept x (without_top id c.layers) c good off
+  answer_kept c (Operates op space x) fits good first off = follows 1 c first off
+  answer_kept c (Rests ready) fits good first off = follows 1 c first off
 
   step_leaves : (c : Configuration) → AreOrderly c.layers → IsOff id c.queue → MovedKept k.statements (stepped k id c)
   step_leaves c good off =
-      answer_kept (without_top id c.layers) c (stack_answer (sight k.statements c.layers id.space) (stack_of c.layers id)) (popped_orderly id c.layers good) good off
+      answer_kept c (answer_in k.statements c.layers (states_of k.statements c.layers) id.space (stack_of c.layers id)) (answer_fits k.statements c.layers id) (popped_orderly id c.layers good) good off
 
 head_leaves : (k : Kernel) (id : Ident) (queue : List Ident) (c : Configuration) → IsKept k.statements (record c { queue = id ∷ queue })
     → MovedKept k.statements (stepped k id (record c { queue = queue }))
@@ -183,15 +198,15 @@ kept_turn k c n d kept e = subst (MovedKept k.statements) e (turn_leaves k c c.q
 
 -- Where a program opens
 
-opening_numbered : (fs : List Frame) (l m : Layer) → l.threads ≡ [] → In m (spawning fs l ∷ []) → IsNumbered m
-opening_numbered fs l m e (inl q) = subst IsNumbered q (spawned_numbered fs l (none_numbered l e))
-opening_numbered fs l m e (inr h) = elim h [ ]
+opening_numbered : (fs : List Frame) (l m : Layer) → l.threads ≡ [] → 1 ≤ l.next.thread → In m (spawning fs l ∷ []) → IsNumbered m
+opening_numbered fs l m e begins (inl q) = subst IsNumbered q (spawned_numbered fs l (none_numbered l e begins))
+opening_numbered fs l m e begins (inr h) = elim h [ ]
 
 opening_orderly : (k : Kernel) → AreOrderly (opening_layers k)
 opening_orderly k = record {
   tree = opening_tree k;
   top = refl;
-  numbered = λ l c. opening_numbered (frames_of opening_environment k.body) top_layer l refl (In-from_contains (opening_layers k) l c);
+  numbered = λ l c. opening_numbered (frames_of opening_environment k.body) top_layer l refl (omega arith) (In-from_contains (opening_layers k) l c);
 }
 
 pub kept_opening : KeptOpening

@@ -8,12 +8,14 @@ use Rattle.oz_semantics.specs.Names.{is_properly_below, space_lt}
 use Rattle.oz_semantics.specs.Configurations.{is_of, layer_at, layer_of, in_layer, with_frames, without_terminated, telling, counting_child, failed, ending, next_child, new_layer}
 use Rattle.oz_semantics.specs.Sights.{Sight}
 use Rattle.oz_semantics.specs.Spaces.{sight}
+use Rattle.oz_semantics.specs.Answers.{Edit, Creates, Commits, Copies, Injects, TakesIn}
 use Rattle.oz_semantics.specs.Edits.{starting, committing}
 use Rattle.oz_semantics.specs.Changes.{Change, Pushes, Spawns, changed, changed_all, done}
 use Rattle.oz_semantics.specs.Terms.{Term}
 use Rattle.oz_semantics.specs.Exceptions.{with_term}
 use Rattle.oz_semantics.specs.Settling.{failing, inconsistent_spaces, without_inconsistent}
-use Rattle.oz_semantics.specs.Steps.{without_top}
+use Rattle.oz_language.specs.declared.kernel.Statement.{Statement}
+use Rattle.oz_semantics.specs.Steps.{without_top, edited}
 use Rattle.oz_semantics.specs.declared.value.Tell.{Tell}
 use Rattle.oz_semantics.specs.declared.configuration.Frame.{Frame}
 use Rattle.oz_semantics.specs.declared.configuration.Layer.{Layer}
@@ -26,6 +28,11 @@ use Rattle.view_laws.proofs.TreeLaws.{in_put, change_tree, end_tree, tree_create
 use Rattle.view_laws.proofs.ChangeLaws.{edit_of, changed_by, edit_keeps}
 use Rattle.need_laws.proofs.AfterLaws.{fired_tree, fired_there, fired_numbered}
 use Rattle.settle_laws.proofs.ListEdits.{find_filter, is_found_edit}
+use Rattle.edit_laws.proofs.CopyLaws.{injected_tree, copied_tree}
+use Rattle.edit_laws.proofs.MergeLaws.{taken_tree}
+use Rattle.edit_laws.proofs.NumberedLaws.{injected_numbered, copied_numbered, taken_numbered}
+use Rattle.edit_laws.proofs.TopLaws.{injected_top, copied_top, taken_top}
+use Rattle.settle_laws.proofs.FitLaws.{FitsIn}
 use Rattle.turn_laws.specs.Orderly.{KeepsNumbered, AreOrderly, ChangesOrderly, DoneOrderly, StackOrderly, CreatedOrderly, CommittedOrderly, FiredOrderly}
 use Rattle.turn_laws.proofs.NumberedLaws.{edits_numbered, none_numbered, spawned_numbered}
 
@@ -112,13 +119,13 @@ choice_edit : (s : Sight) (i : ℕ) → IsEdit (committing s i)
 choice_edit s i = record { space = λ l. refl; children = λ l. omega arith; numbered = edits_numbered.choice s i }
 
 pub term_edit : (t : Term) → IsEdit (with_term t)
-term_edit t = record { space = λ l. refl; children = λ l. omega arith; numbered = λ l h. record { rising = h.rising; given = h.given } }
+term_edit t = record { space = λ l. refl; children = λ l. omega arith; numbered = λ l h. record { begins = h.begins; counted = h.counted; rising = h.rising; given = h.given } }
 
 -- a change of a step
 change_numbered : (number : ℕ) (change : Change) → KeepsNumbered (edit_of number change)
 change_numbered number (Pushes frames) = edits_numbered.frames number (λ rest. frames ++ rest)
 change_numbered number (Spawns frames) = edits_numbered.threads frames
-change_numbered number change = λ l h. record { rising = h.rising; given = h.given }
+change_numbered number change = λ l h. record { begins = h.begins; counted = h.counted; rising = h.rising; given = h.given }
 
 pub change_edit : (number : ℕ) (change : Change) → IsEdit (edit_of number change)
 change_edit number change =
@@ -194,7 +201,7 @@ module _ (parent : List ℕ) (procedure : Ident) (layers : List Layer) (there : 
   grown_orderly = edit_orderly parent counting_child layers child_edit good
 
   new_numbered : IsNumbered new
-  new_numbered = spawned_numbered _ (new_layer (next_child (layer_of layers parent))) (none_numbered (new_layer (next_child (layer_of layers parent))) refl)
+  new_numbered = spawned_numbered _ (new_layer (next_child (layer_of layers parent))) (none_numbered (new_layer (next_child (layer_of layers parent))) refl (omega arith))
 
   created_numbered : EachNumbered (put_before before_new new grown)
   created_numbered l i = elim (in_put before_new new grown l i) [
@@ -215,3 +222,23 @@ created_orderly parent procedure layers there good = child_orderly parent proced
 pub committed_orderly : CommittedOrderly
 committed_orderly statements space i layers good =
     edit_orderly space (committing (sight statements layers space) i) layers (choice_edit (sight statements layers space) i) good
+
+-- each edit of a step that fits the layers
+pub edited_orderly : (statements : List Statement) (parent : List ℕ) (edit : Edit) (layers : List Layer) → FitsIn layers parent edit → AreOrderly layers → AreOrderly (edited statements parent edit layers)
+edited_orderly statements parent (Creates procedure x) layers fits good = created_orderly parent procedure layers fits good
+edited_orderly statements parent (Commits child i) layers fits good = committed_orderly statements child i layers good
+edited_orderly statements parent (Copies child x) layers fits good = record {
+  tree = copied_tree parent child layers fits good.tree;
+  top = copied_top parent child layers good.top;
+  numbered = copied_numbered parent child layers good.numbered;
+}
+edited_orderly statements parent (Injects child procedure) layers fits good = record {
+  tree = injected_tree child procedure layers good.tree;
+  top = injected_top child procedure layers good.top;
+  numbered = injected_numbered child procedure layers good.numbered;
+}
+edited_orderly statements parent (TakesIn child x) layers fits good = record {
+  tree = taken_tree parent child layers fits good.tree;
+  top = taken_top parent child layers fits good.tree good.top;
+  numbered = taken_numbered parent child layers fits good.tree good.numbered;
+}

@@ -1,6 +1,6 @@
 -- What a step that tells something makes of the queue, where no space is below the one that is told.
 use Rattle.std.proofs.Common.{◌≡◌, inl, inr, ℕ, Bool, true, false, not, ◌&&◌, if◌then◌else◌, cond, List, [], ◌∷◌, ◌++◌, refl, sym, ap, ap₂, subst, ◌∙◌, Contains, Option, Some, None, is_some, filter, map, flat_map}
-use Rattle.std.specs.List.{find}
+use Rattle.std.specs.List.{find, list_any}
 use Rattle.std.proofs.lemmas.Bool.{false≢true}
 use Rattle.std.proofs.lemmas.List.{append-nil}
 use Rattle.std.proofs.lemmas.List.Elements.{filter-append}
@@ -10,9 +10,8 @@ use Rattle.oz_language.specs.declared.kernel.Statement.{Statement}
 use Rattle.oz_semantics.specs.Names.{is_below, is_properly_below, named}
 use Rattle.oz_semantics.specs.Store.{View, IsConsistent, is_consistent}
 use Rattle.oz_semantics.specs.Configurations.{is_of, layer_at, layer_of, is_open, view, in_layer, without_terminated, telling}
-use Rattle.oz_semantics.specs.Sights.{Readiness, Steps, Waits, Offers, can_step}
-use Rattle.oz_semantics.specs.Readiness.{thread_ready}
-use Rattle.oz_semantics.specs.Spaces.{sight}
+use Rattle.oz_semantics.specs.Sights.{Readiness, Steps, Waits, WaitsForState, Offers, can_step}
+use Rattle.oz_semantics.specs.Spaces.{states_of, thread_ready}
 use Rattle.oz_semantics.specs.Changes.{Change, GivesOut, changed, changed_all, done}
 use Rattle.oz_semantics.specs.Settling.{Turned, may_fail, is_inconsistent, inconsistent_spaces, is_among, mover_in, queue_after, runnable_in, runnable, settled}
 use Rattle.oz_semantics.specs.Steps.{without_top}
@@ -25,6 +24,7 @@ use Rattle.oz_semantics.specs.declared.configuration.Configuration.{Configuratio
 use Rattle.oz_semantics.specs.declared.outcome.Stepped.TheVariants.{Moved}
 use Rattle.oz_laws.proofs.SameLaws.{In, In-from_contains, contains-from_In, In-flat, In-flat_back, and-right}
 use Rattle.oz_laws.proofs.StoreLaws.{tests_consistent}
+use Rattle.view_laws.specs.Spaceless.{gives_space, has_spaces, plain_ready}
 use Rattle.view_laws.specs.Readies.{Keeps, Stays, seeing}
 use Rattle.view_laws.specs.Needs.{NoneNeeded}
 use Rattle.view_laws.specs.Trees.{is_ascending, names_of}
@@ -34,6 +34,7 @@ use Rattle.view_laws.proofs.ListLaws.{among_in, in_among, in_filter, filter_all,
 use Rattle.view_laws.proofs.NameLaws.{names_equal, equal_names, properly, properly_by}
 use Rattle.view_laws.proofs.SightLaws.{space_of, change_unseen, tell_seen}
 use Rattle.view_laws.proofs.TreeLaws.{one_of_name}
+use Rattle.view_laws.proofs.SpacelessLaws.{spaceless_ready, quiet_spaceless, tell_spaceless}
 use Rattle.view_laws.proofs.StayLaws.{readiness_stays}
 use Rattle.view_laws.proofs.QueueLaws.{mover_able, can_from, from_can, CanStep, queue_exact}
 use Rattle.view_laws.proofs.QuietLaws.{quiet_queue}
@@ -108,6 +109,7 @@ not_below_itself space = elim (decide (is_properly_below space space)) [
 open_may_fail : (s : Status) → is_open s ≡ true → may_fail s ≡ true
 open_may_fail status.Open e = refl
 open_may_fail status.Failed e = absurd (false≢true e)
+open_may_fail status.Merged e = absurd (false≢true e)
 open_may_fail (status.Raised x) e = refl
 
 not_not : (b : Bool) → not b ≡ false → b ≡ true
@@ -125,10 +127,11 @@ open_consistent layers l sound h opened =
 stays_step : (before after : List Tell) (r q : Readiness) → can_step r ≡ true → Stays before after r q → can_step q ≡ true
 stays_step before after Steps q e h = ap can_step h
 stays_step before after (Waits xs) q e h = absurd (false≢true e)
+stays_step before after (WaitsForState space) q e h = absurd (false≢true e)
 stays_step before after (Offers offer xs) q e h = absurd (false≢true e)
 
 module _ (space : List ℕ) (ts : List Tell) (old : List Layer) (sound : IsSound old) (at : is_some (layer_at old space) ≡ true) (alone : IsAlone old space)
-    (fits : is_consistent (view old space ++ ts) ≡ true) where
+    (fits : is_consistent (view old space ++ ts) ≡ true) (none : has_spaces old ≡ false) (plain : list_any gives_space ts ≡ false) where
   abbrev pub new : List Layer
   new = in_layer space (telling ts) old
 
@@ -154,11 +157,23 @@ module _ (space : List ℕ) (ts : List Tell) (old : List Layer) (sound : IsSound
     | inr e ↦ λ t c. subst (λ (v : View). Contains v t) (sym (change_unseen (telling ts) old space other (λ l k. refl) e)) c
   ]
 
+  -- no space is a value yet, so a thread goes by what it sees
+  later_none : has_spaces new ≡ false
+  later_none = tell_spaceless (telling ts) old space ts (λ l. refl) plain none
+
+  plain_before : (statements : List Statement) (other : List ℕ) (t : Thread) → thread_ready statements old other t ≡ plain_ready (seeing statements other (view old other)) t
+  plain_before statements other t = spaceless_ready statements old (states_of statements old) other t none
+
+  plain_later : (statements : List Statement) (other : List ℕ) (t : Thread) → thread_ready statements new other t ≡ plain_ready (seeing statements other (view new other)) t
+  plain_later statements other t = spaceless_ready statements new (states_of statements new) other t later_none
+
   -- by a layer of the same space, open too, among the later ones
-  ready_later : (statements : List Statement) (m : Layer) (t : Thread) → In m new → is_open m.status ≡ true → can_step (thread_ready (sight statements old m.space) t) ≡ true
-      → can_step (thread_ready (sight statements new m.space) t) ≡ true
+  ready_later : (statements : List Statement) (m : Layer) (t : Thread) → In m new → is_open m.status ≡ true → can_step (thread_ready statements old m.space t) ≡ true
+      → can_step (thread_ready statements new m.space t) ≡ true
   ready_later statements m t h opened e =
-      stays_step (view old m.space) (view new m.space) (thread_ready (seeing statements m.space (view old m.space)) t) (thread_ready (seeing statements m.space (view new m.space)) t) e
+      ap can_step (plain_later statements m.space t)
+      ∙ stays_step (view old m.space) (view new m.space) (plain_ready (seeing statements m.space (view old m.space)) t) (plain_ready (seeing statements m.space (view new m.space)) t)
+      (ap can_step (sym (plain_before statements m.space t)) ∙ e)
       (readiness_stays statements m.space (view old m.space) (view new m.space) t (all_seen m.space) (open_consistent new m sound_later h opened))
 
   can_later : (statements : List Statement) (l m : Layer) (id : Ident) → In m new → m.space ≡ l.space → m.status ≡ l.status → m.threads ≡ l.threads → CanStep statements old l id → CanStep statements new m id
@@ -168,7 +183,7 @@ module _ (space : List ℕ) (ts : List Tell) (old : List Layer) (sound : IsSound
         opened = opened;
         thread = c.thread;
         among = subst (In c.thread) (sym threads_is) c.among;
-        ready = ready_later statements m c.thread h opened (ap (λ s. can_step (thread_ready (sight statements old s) c.thread)) space_is ∙ c.ready);
+        ready = ready_later statements m c.thread h opened (ap (λ s. can_step (thread_ready statements old s c.thread)) space_is ∙ c.ready);
         name = ap (λ s. named s c.thread.number) space_is ∙ c.name;
       }
 
@@ -188,8 +203,10 @@ module _ (space : List ℕ) (ts : List Tell) (old : List Layer) (sound : IsSound
   other_ran statements l id h apart i = elim (in_edit (is_of space) (telling ts) old l h) [
     | inl k ↦ (let n : l.space ≡ space → ⊥ = λ q. not_both _ (subst (λ s. list_eq s space ≡ true) (sym q) (names_equal space)) apart in
         let unseen : view new l.space ≡ view old l.space = change_unseen (telling ts) old space l.space (λ m e. refl) (apart_below space l.space (alone_later l h) n) in
+        let each : ◌≡◌ {A = Thread → Readiness} (thread_ready statements new l.space) (thread_ready statements old l.space) =
+        λ i t. (plain_later statements l.space t ∙ ap (λ (v : View). plain_ready (seeing statements l.space v) t) unseen ∙ sym (plain_before statements l.space t)) i in
         let same : runnable_in statements new l ≡ runnable_in statements old l =
-        ap (λ (v : View). if is_open l.status then map (λ (t : Thread). named l.space t.number) (filter (λ t. can_step (thread_ready (seeing statements l.space v) t)) l.threads) else []) unseen in
+        ap (λ (f : Thread → Readiness). if is_open l.status then map (λ (t : Thread). named l.space t.number) (filter (λ t. can_step (f t)) l.threads) else []) each in
         In-flat (runnable_in statements old) l id old k (subst (In id) same i))
     | inr r ↦ (let own : is_of space r.0 ≡ true = (found_in (is_of space) (telling ts) old r.0 r.1).1 in
         absurd (not_both _ (ap (is_of space) r.2 ∙ own) apart))
@@ -227,7 +244,7 @@ module _ (able : Layer → List Ident) (comes : Ident → Bool) (space : List �
 -- The step
 
 module _ (statements : List Statement) (c : Configuration) (id : Ident) (queue : List Ident) (ts : List Tell) (changes : List Change) (kept : IsKept statements (record c { queue = id ∷ queue }))
-    (alone : IsAlone c.layers id.space) (fits : is_consistent (view c.layers id.space ++ ts) ≡ true) where
+    (spaceless : has_spaces c.layers ≡ false) (plain : list_any gives_space ts ≡ false) (alone : IsAlone c.layers id.space) (fits : is_consistent (view c.layers id.space ++ ts) ≡ true) where
   abbrev before : Layer
   before = layer_of c.layers id.space
 
@@ -249,6 +266,12 @@ module _ (statements : List Statement) (c : Configuration) (id : Ident) (queue :
 
   quiet_orderly : AreOrderly quiet
   quiet_orderly = changes_orderly id changes c.layers (record { tree = kept.tree; top = kept.top; numbered = kept.numbered })
+
+  still_spaceless : has_spaces quiet ≡ false
+  still_spaceless = ap has_spaces made.left ∙ quiet_spaceless (λ l. made.after) c.layers id.space (λ l e. made.steps.tells ∙ ap (λ (m : Layer). m.tells) (one l e)) ∙ spaceless
+    where
+      one : (l : Layer) → layer_at c.layers id.space ≡ Some l → before ≡ l
+      one l e = let first : layer_at c.layers id.space ≡ Some before = at in let k : before ≡ l = cc in k
 
   still_sound : IsSound quiet
   still_sound = subst IsSound (sym made.left) (quiet_sound c.layers id before made.after news at made.steps kept.sound)
@@ -284,7 +307,7 @@ module _ (statements : List Statement) (c : Configuration) (id : Ident) (queue :
       ∙ fits
 
   told_sound : IsSound told
-  told_sound = sound_later id.space ts quiet still_sound still_there still_alone still_fits
+  told_sound = sound_later id.space ts quiet still_sound still_there still_alone still_fits still_spaceless plain
 
   told_orderly : AreOrderly told
   told_orderly = edit_orderly id.space (telling ts) quiet (tells_edit ts) quiet_orderly
@@ -302,7 +325,7 @@ module _ (statements : List Statement) (c : Configuration) (id : Ident) (queue :
       after_quiet =
           subst (λ (ls : List Layer). queue_after (runnable statements ls) (Some id) queue
           ≡ queue ++ mover_in (Some id) (runnable statements ls) ++ runnable_in statements ls (record made.after { threads = news })) (sym made.left)
-          (quiet_queue statements c.layers id queue before made.after news at made.steps kept.exact kept.once
+          (quiet_queue statements c.layers id queue before made.after news spaceless at made.steps kept.exact kept.once
           (step_new statements changes c.layers id.space (id ∷ queue) before kept.tree.ordered at (head_numbered statements id queue c kept) kept.exact))
 
   abbrev able_mover : List Ident
@@ -346,7 +369,7 @@ module _ (statements : List Statement) (c : Configuration) (id : Ident) (queue :
   rest_stays : filter (is_among ids) queue ≡ queue
   rest_stays =
       filter_all (is_among ids) queue
-      (λ o h. in_among ids o (runs_later id.space ts quiet still_sound still_there still_alone still_fits statements o (queue_ran o h)))
+      (λ o h. in_among ids o (runs_later id.space ts quiet still_sound still_there still_alone still_fits still_spaceless plain statements o (queue_ran o h)))
 
   others_stay : (l : Layer) → In l told → is_of id.space l ≡ false → filter comes (runnable_in statements told l) ≡ []
   others_stay l h apart =
@@ -355,7 +378,7 @@ module _ (statements : List Statement) (c : Configuration) (id : Ident) (queue :
       let n : o.space ≡ id.space → ⊥ =
       λ q. not_both _ (subst (λ s. list_eq s id.space ≡ true) (sym (ap (λ (x : Ident). x.space) r.name ∙ q)) (names_equal id.space)) apart in
       let held : In o queue =
-      others_queued o n (other_ran id.space ts quiet still_sound still_there still_alone still_fits statements l o h apart i) in
+      others_queued o n (other_ran id.space ts quiet still_sound still_there still_alone still_fits still_spaceless plain statements l o h apart i) in
       ap not (in_among stay o (In-left o queue (mover_in (Some id) ids) held)))
 
   told_there : layer_at told id.space ≡ Some (layer_of told id.space)
@@ -385,9 +408,9 @@ module _ (statements : List Statement) (c : Configuration) (id : Ident) (queue :
       ∙ ap (λ (q : List Ident). (Moved cost, record c { layers = told; queue = q })) queued
 
 pub tell_queue : TellQueue
-tell_queue statements c id queue ts changes cost kept alone fits layers e none =
+tell_queue statements c id queue ts changes cost kept spaceless plain alone fits layers e none =
     let same = told_last id ts changes (without_top id c.layers) in
-    let all = tells_all statements c id queue ts changes kept alone fits cost (subst (NoneNeeded statements) (e ∙ same) none) in
+    let all = tells_all statements c id queue ts changes kept spaceless plain alone fits cost (subst (NoneNeeded statements) (e ∙ same) none) in
     ap (λ (ls : List Layer). settled statements (Some id) cost (record c { layers = ls; queue = queue })) same
     ∙ subst (λ (ls : List Layer). ◌≡◌ {A = Turned}
     (settled statements (Some id) cost (record c { layers = in_layer id.space (telling ts) (in_layer id.space without_terminated (changed_all id changes (without_top id c.layers))); queue = queue })) (

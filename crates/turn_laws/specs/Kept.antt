@@ -1,5 +1,5 @@
 -- What is so of a configuration from turn to turn, and what a step that tells nothing makes of one of which it is so.
-use Rattle.std.specs.Prelude.{ℕ, ◌≡◌, true, List, [], ◌∷◌, ◌++◌, Contains, Some, is_some}
+use Rattle.std.specs.Prelude.{ℕ, ◌≡◌, true, false, List, [], ◌∷◌, ◌++◌, Contains, Some, is_some}
 use Rattle.std.specs.List.{list_any}
 use Rattle.oz_base.specs.Lists.{holds_of}
 use Rattle.oz_base.specs.declared.names.Ident.{Ident}
@@ -8,8 +8,7 @@ use Rattle.oz_language.specs.declared.kernel.Kernel.{Kernel}
 use Rattle.oz_semantics.specs.Names.{is_below}
 use Rattle.oz_semantics.specs.Configurations.{layer_at, layer_of, thread_at, is_open, in_layer, with_frames, without_terminated}
 use Rattle.oz_semantics.specs.Sights.{can_step}
-use Rattle.oz_semantics.specs.Readiness.{thread_ready}
-use Rattle.oz_semantics.specs.Spaces.{sight, goes_on}
+use Rattle.oz_semantics.specs.Spaces.{thread_ready, goes_on}
 use Rattle.oz_semantics.specs.Changes.{Change, changed_all}
 use Rattle.oz_semantics.specs.Settling.{Turned, mover_in, runnable_in, runnable}
 use Rattle.oz_semantics.specs.Steps.{went_on, without_top, stepped}
@@ -22,6 +21,7 @@ use Rattle.oz_semantics.specs.declared.configuration.Layer.{Layer}
 use Rattle.oz_semantics.specs.declared.configuration.Configuration.{Configuration}
 use Rattle.oz_semantics.specs.declared.outcome.Stepped.TheVariants.{Moved}
 use Rattle.view_laws.specs.Trees.{IsTree}
+use Rattle.view_laws.specs.Spaceless.{has_spaces}
 use Rattle.view_laws.specs.Needs.{NoneNeeded}
 use Rattle.view_laws.specs.Queues.{is_once}
 use Rattle.view_laws.specs.Steps.{spawned_from, IsNumbered, IsSound}
@@ -84,7 +84,7 @@ pub record IsThere (statements : List Statement) (layers : List Layer) (id : Ide
   pub layer : layer_at layers id.space ≡ Some (layer_of layers id.space)
   pub opened : is_open (layer_of layers id.space).status ≡ true
   pub thread : is_some (thread_at (layer_of layers id.space).threads id.number) ≡ true
-  pub ready : holds_of (λ (t : Thread). can_step (thread_ready (sight statements layers id.space) t)) (thread_at (layer_of layers id.space).threads id.number) ≡ true
+  pub ready : holds_of (λ (t : Thread). can_step (thread_ready statements layers id.space t)) (thread_at (layer_of layers id.space).threads id.number) ≡ true
 
 -- So it is of the thread at the head of the queue
 abbrev pub KeptHead : Type 0
@@ -92,11 +92,11 @@ KeptHead = (statements : List Statement) (id : Ident) (queue : List Ident) (c : 
 
 -- Steps that tell nothing
 
--- Where the thread at the head makes changes, and no trigger is needed then, no space fails, and the queue is the rest, and then the thread
+-- Where no space is a value, the thread at the head makes changes, and no trigger is needed then, no space fails, and the queue is the rest, and then the thread
 -- and the new ones, as far as they can step
 abbrev pub KeptChanges : Type 0
 KeptChanges =
-    (statements : List Statement) (c : Configuration) (id : Ident) (queue : List Ident) (changes : List Change) (cost : ℕ) → IsKept statements (record c { queue = id ∷ queue })
+    (statements : List Statement) (c : Configuration) (id : Ident) (queue : List Ident) (changes : List Change) (cost : ℕ) → IsKept statements (record c { queue = id ∷ queue }) → has_spaces c.layers ≡ false
     → (layers : List Layer) → layers ≡ in_layer id.space without_terminated (changed_all id changes (without_top id c.layers)) → NoneNeeded statements layers
     → ◌≡◌ {A = Turned} (went_on statements id cost (changed_all id changes (without_top id c.layers)) (record c { queue = queue })) (
       Moved cost,
@@ -111,7 +111,7 @@ KeptChanges =
 -- and so where it goes on with another stack
 abbrev pub KeptStack : Type 0
 KeptStack =
-    (statements : List Statement) (c : Configuration) (id : Ident) (queue : List Ident) (frames : List Frame) (cost : ℕ) → IsKept statements (record c { queue = id ∷ queue })
+    (statements : List Statement) (c : Configuration) (id : Ident) (queue : List Ident) (frames : List Frame) (cost : ℕ) → IsKept statements (record c { queue = id ∷ queue }) → has_spaces c.layers ≡ false
     → (layers : List Layer) → layers ≡ in_layer id.space without_terminated (in_layer id.space (with_frames id.number (λ rest. frames)) (without_top id c.layers))
     → NoneNeeded statements layers
     → ◌≡◌ {A = Turned} (went_on statements id cost (in_layer id.space (with_frames id.number (λ rest. frames)) (without_top id c.layers)) (record c { queue = queue }))

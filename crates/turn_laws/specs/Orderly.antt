@@ -5,8 +5,7 @@ use Rattle.oz_base.specs.declared.names.Ident.{Ident}
 use Rattle.oz_language.specs.declared.kernel.Statement.{Statement}
 use Rattle.oz_semantics.specs.Configurations.{layer_at, layer_of, thread_at, is_open, in_layer, with_frames, without_terminated, telling, giving_out, counting_procedure, counting_name, counting_child, spawning, adding_cell, with_content, adding_port, with_end, adding_trigger, failed, raised_by}
 use Rattle.oz_semantics.specs.Sights.{Sight, can_step}
-use Rattle.oz_semantics.specs.Readiness.{thread_ready}
-use Rattle.oz_semantics.specs.Spaces.{sight}
+use Rattle.oz_semantics.specs.Spaces.{thread_ready}
 use Rattle.oz_semantics.specs.Edits.{committing, created, committed}
 use Rattle.oz_semantics.specs.Changes.{Change, changed_all, done}
 use Rattle.oz_semantics.specs.Settling.{is_among, runnable}
@@ -82,4 +81,4 @@ MoverAlone =
     (statements : List Statement) (layers : List Layer) (id : Ident) → AreOrderly layers
     → is_among (runnable statements layers) id
     ≡ (is_open (layer_of layers id.space).status
-    && holds_of (λ (t : Thread). can_step (thread_ready (sight statements layers id.space) t)) (thread_at (layer_of layers id.space).threads id.number))
+    && holds_of (λ (t : Thread). can_step (thread_ready statements layers id.space t)) (thread_at (layer_of layers id.space).threads id.number))

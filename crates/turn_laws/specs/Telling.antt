@@ -1,5 +1,6 @@
 -- What a step that tells something makes of the queue, where no space is below the one that is told.
 use Rattle.std.specs.Prelude.{ℕ, ◌≡◌, true, false, not, List, ◌∷◌, ◌++◌, Contains, Some, filter}
+use Rattle.std.specs.List.{list_any}
 use Rattle.oz_base.specs.declared.names.Ident.{Ident}
 use Rattle.oz_language.specs.declared.kernel.Statement.{Statement}
 use Rattle.oz_semantics.specs.Names.{is_properly_below}
@@ -12,6 +13,7 @@ use Rattle.oz_semantics.specs.declared.value.Tell.{Tell}
 use Rattle.oz_semantics.specs.declared.configuration.Layer.{Layer}
 use Rattle.oz_semantics.specs.declared.configuration.Configuration.{Configuration}
 use Rattle.oz_semantics.specs.declared.outcome.Stepped.TheVariants.{Moved}
+use Rattle.view_laws.specs.Spaceless.{gives_space, has_spaces}
 use Rattle.view_laws.specs.Needs.{NoneNeeded}
 use Rattle.turn_laws.specs.Kept.{IsKept}
 
@@ -27,12 +29,13 @@ others_of queue ids = filter (λ (id : Ident). not (is_among queue id)) ids
 abbrev pub staying : List Statement → List Layer → Ident → List Ident → List Ident
 staying statements layers id queue = queue ++ mover_in (Some id) (runnable statements layers)
 
--- A space with none below it is told what is consistent with what it sees, and no trigger is needed then: no space fails, and the queue is
+-- No space is a value, and one with none below it is told what is consistent with what it sees and makes no space a value. Where no trigger
+-- is needed then, no space fails, and the queue is
 -- the rest, and then the thread that stepped, and then all others of its own space, as far as they can step
 abbrev pub TellQueue : Type 0
 TellQueue =
     (statements : List Statement) (c : Configuration) (id : Ident) (queue : List Ident) (ts : List Tell) (changes : List Change) (cost : ℕ) → IsKept statements (record c { queue = id ∷ queue })
-    → IsAlone c.layers id.space → is_consistent (view c.layers id.space ++ ts) ≡ true
+    → has_spaces c.layers ≡ false → list_any gives_space ts ≡ false → IsAlone c.layers id.space → is_consistent (view c.layers id.space ++ ts) ≡ true
     → (layers : List Layer) → layers ≡ in_layer id.space without_terminated (done id ts changes (without_top id c.layers)) → NoneNeeded statements layers
     → ◌≡◌ {A = Turned} (went_on statements id cost (done id ts changes (without_top id c.layers)) (record c { queue = queue })) (
       Moved cost,

@@ -1,6 +1,8 @@
 pub mod Members
 pub mod NameLaws
 pub mod ViewLaws
+pub mod AnswerLaws
+pub mod SpacelessLaws
 pub mod TouchedLaws
 pub mod CoverLaws
 pub mod FirstLaws
@@ -20,3 +22,4 @@ pub mod StepLaws
 pub mod NumberLaws
 pub mod NeedLaws
 pub mod SettleLaws
+pub mod BehindLaws

@@ -52,6 +52,7 @@ fields_alike (value.Builtin b) (value.Builtin c) e = refl
 fields_alike (value.Name m) (value.Name n) e = refl
 fields_alike (value.Cell c) (value.Cell d) e = refl
 fields_alike (value.Port p) (value.Port q) e = refl
+fields_alike (value.Space s) (value.Space t) e = refl
 fields_alike v w e = absurd (false≢true e)
 
 -- and are asked alike
@@ -66,11 +67,13 @@ asked_alike (piece.Constant c) (value.Builtin p) (value.Builtin q) h = refl
 asked_alike (piece.Constant c) (value.Name m) (value.Name n) h = refl
 asked_alike (piece.Constant c) (value.Cell p) (value.Cell q) h = refl
 asked_alike (piece.Constant c) (value.Port p) (value.Port q) h = refl
+asked_alike (piece.Constant c) (value.Space s) (value.Space t) h = refl
 asked_alike (piece.Record label features) (value.Constant c) (value.Constant d) h = refl
 asked_alike (piece.Record label features) (value.Procedure p) (value.Procedure q) h = refl
 asked_alike (piece.Record label features) (value.Builtin p) (value.Builtin q) h = refl
 asked_alike (piece.Record label features) (value.Name m) (value.Name n) h = refl
 asked_alike (piece.Record label features) (value.Cell p) (value.Cell q) h = refl
+asked_alike (piece.Record label features) (value.Space s) (value.Space t) h = refl
 asked_alike (piece.Record label features) (value.Port p) (value.Port q) h = refl
 asked_alike (piece.Variable name) v w h = refl
 asked_alike piece.Any v w h = refl

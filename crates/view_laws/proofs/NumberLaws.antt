@@ -9,8 +9,7 @@ use Rattle.oz_language.specs.declared.kernel.Statement.{Statement}
 use Rattle.oz_semantics.specs.Names.{named}
 use Rattle.oz_semantics.specs.Configurations.{is_of, layer_at, is_numbered, thread_at, is_open, in_thread}
 use Rattle.oz_semantics.specs.Sights.{can_step}
-use Rattle.oz_semantics.specs.Readiness.{thread_ready}
-use Rattle.oz_semantics.specs.Spaces.{sight}
+use Rattle.oz_semantics.specs.Spaces.{thread_ready}
 use Rattle.oz_semantics.specs.Changes.{Change, Spawns}
 use Rattle.oz_semantics.specs.Settling.{is_among, runnable_in, runnable}
 use Rattle.oz_semantics.specs.declared.configuration.Thread.{Thread}
@@ -118,8 +117,18 @@ module _ (id : Ident) (changes : List Change) (layers result : List Layer) (befo
     | inr i ↦ (let b = new_given t.number (map_in number_in news t i) in omega (arith, b.below, made.next))
   ]
 
+  -- the old numbers are those before, and the new ones come behind them
+  all_counted : (t : Thread) → In t (old ++ news) → 1 ≤ t.number
+  all_counted t h = elim (In-cases t old news h) [
+    | inl i ↦ (let r = in_map number_in before.threads t.number (subst (In t.number) old_numbers (map_in number_in old t i)) in
+        subst (λ k. 1 ≤ k) r.2 (numbered.counted r.0 (contains-from_In before.threads r.0 r.1)))
+    | inr i ↦ (let b = new_given t.number (map_in number_in news t i) in omega (arith, b.from, numbered.begins))
+  ]
+
   pub numbered_after : IsNumbered made.after
   numbered_after = record {
+    begins = omega (arith, numbered.begins, made.next);
+    counted = λ t c. all_counted t (filter_in has_frames (old ++ news) t (subst (In t) made.steps.threads (In-from_contains made.after.threads t c))).0;
     rising = subst (λ ts. IsRising (numbers ts)) (sym made.steps.threads) (rising_filter has_frames (old ++ news) all_rising);
     given = λ t c. all_given t (filter_in has_frames (old ++ news) t (subst (In t) made.steps.threads (In-from_contains made.after.threads t c))).0;
   }
@@ -166,8 +175,8 @@ module _ (statements : List Statement) (layers : List Layer) where
   once_in : (l : Layer) → IsNumbered l → is_once (runnable_in statements layers l) ≡ true
   once_in l h = by (is_open l.status)
     where
-      by : (b : Bool) → is_once (if b then map (λ (t : Thread). named l.space t.number) (filter (λ t. can_step (thread_ready (sight statements layers l.space) t)) l.threads) else []) ≡ true
-      by true = once_names l.space (filter (λ t. can_step (thread_ready (sight statements layers l.space) t)) l.threads) (rising_filter (λ t. can_step (thread_ready (sight statements layers l.space) t)) l.threads h.rising)
+      by : (b : Bool) → is_once (if b then map (λ (t : Thread). named l.space t.number) (filter (λ t. can_step (thread_ready statements layers l.space t)) l.threads) else []) ≡ true
+      by true = once_names l.space (filter (λ t. can_step (thread_ready statements layers l.space t)) l.threads) (rising_filter (λ t. can_step (thread_ready statements layers l.space t)) l.threads h.rising)
       by false = refl
 
   once_of : (ls : List Layer) → is_ascending (names_of ls) ≡ true → ((l : Layer) → In l ls → IsNumbered l) → is_once (flat_map (runnable_in statements layers) ls) ≡ true
@@ -209,24 +218,24 @@ mover_told statements layers id l ascending at numbered = bool_eq _ _ forward ba
     own = space_of layers id.space l at
 
     forward : is_among (runnable statements layers) id ≡ true
-        → (is_open l.status && holds_of (λ (t : Thread). can_step (thread_ready (sight statements layers id.space) t)) (thread_at l.threads id.number)) ≡ true
+        → (is_open l.status && holds_of (λ (t : Thread). can_step (thread_ready statements layers id.space t)) (thread_at l.threads id.number)) ≡ true
     forward e =
         let c = own_layer statements layers id.space l ascending at id refl (among_in (runnable statements layers) id e) in
         let number : c.thread.number ≡ id.number = ap (λ (i : Ident). i.number) c.name in
         let first : thread_at l.threads id.number ≡ Some c.thread = subst (λ n. thread_at l.threads n ≡ Some c.thread) number (first_numbered l.threads c.thread numbered.rising c.among) in
         and_both _ _ c.opened
-        (ap (holds_of (λ (t : Thread). can_step (thread_ready (sight statements layers id.space) t))) first
-        ∙ ap (λ s. can_step (thread_ready (sight statements layers s) c.thread)) (sym own) ∙ c.ready)
+        (ap (holds_of (λ (t : Thread). can_step (thread_ready statements layers id.space t))) first
+        ∙ ap (λ s. can_step (thread_ready statements layers s c.thread)) (sym own) ∙ c.ready)
 
-    back : (is_open l.status && holds_of (λ (t : Thread). can_step (thread_ready (sight statements layers id.space) t)) (thread_at l.threads id.number)) ≡ true
+    back : (is_open l.status && holds_of (λ (t : Thread). can_step (thread_ready statements layers id.space t)) (thread_at l.threads id.number)) ≡ true
         → is_among (runnable statements layers) id ≡ true
     back e =
-        let r = held_by (λ (t : Thread). can_step (thread_ready (sight statements layers id.space) t)) (thread_at l.threads id.number) (and-right (is_open l.status) _ e) in
+        let r = held_by (λ (t : Thread). can_step (thread_ready statements layers id.space t)) (thread_at l.threads id.number) (and-right (is_open l.status) _ e) in
         let f = found_in (is_numbered id.number) (λ (t : Thread). t) l.threads r.0 r.1 in
         in_among (runnable statements layers) id (In-flat (runnable_in statements layers) l id layers (found_in (is_of id.space) (λ (m : Layer). m) layers l at).0 (from_can statements layers l id (record {
           opened = and-left (is_open l.status) _ e;
           thread = r.0;
           among = f.0;
-          ready = ap (λ s. can_step (thread_ready (sight statements layers s) r.0)) own ∙ r.2;
+          ready = ap (λ s. can_step (thread_ready statements layers s r.0)) own ∙ r.2;
           name = ap₂ (λ (s : List ℕ) (n : ℕ). named s n) own (eq-true r.0.number id.number f.1);
         })))

@@ -8,8 +8,7 @@ use Rattle.oz_language.specs.declared.kernel.Statement.{Statement}
 use Rattle.oz_semantics.specs.Names.{is_below, named}
 use Rattle.oz_semantics.specs.Configurations.{is_open}
 use Rattle.oz_semantics.specs.Sights.{can_step}
-use Rattle.oz_semantics.specs.Readiness.{thread_ready}
-use Rattle.oz_semantics.specs.Spaces.{sight, layer_goes_on, layers_below, goes_on}
+use Rattle.oz_semantics.specs.Spaces.{states_of, thread_ready, layer_goes_on, layers_below, goes_on}
 use Rattle.oz_semantics.specs.Settling.{is_among, mover_in, queue_after, runnable_in, runnable}
 use Rattle.oz_semantics.specs.declared.configuration.Thread.{Thread}
 use Rattle.oz_semantics.specs.declared.configuration.Layer.{Layer}
@@ -118,7 +117,7 @@ queue_once ids mover queue once each apart =
 
 module _ (statements : List Statement) (layers : List Layer) where
   abbrev pub can : Layer → Thread → Bool
-  can l t = can_step (thread_ready (sight statements layers l.space) t)
+  can l t = can_step (thread_ready statements layers l.space t)
 
   pub record CanStep (l : Layer) (id : Ident) : Type 0 where
     pub opened : is_open l.status ≡ true
@@ -144,22 +143,25 @@ module _ (statements : List Statement) (layers : List Layer) where
       (map_in (λ (t : Thread). named l.space t.number) (filter (can l) l.threads) c.thread (in_filter (can l) l.threads c.thread c.among c.ready)))
 
   -- a layer of which a thread can step has one in the list, and conversely
-  ready_found : (l : Layer) (b : Bool) → is_open l.status ≡ b → list_any can_step (if b then map (thread_ready (sight statements layers l.space)) l.threads else []) ≡ true → (id : Ident) × CanStep l id
+  ready_found : (l : Layer) (b : Bool) → is_open l.status ≡ b → list_any can_step (if b then map (thread_ready statements layers l.space) l.threads else []) ≡ true → (id : Ident) × CanStep l id
   ready_found l true e k =
-      let r = some_of can_step (map (thread_ready (sight statements layers l.space)) l.threads) k in
-      let t = in_map (thread_ready (sight statements layers l.space)) l.threads r.0 (In-from_contains (map (thread_ready (sight statements layers l.space)) l.threads) r.0 r.1) in
+      let r = some_of can_step (map (thread_ready statements layers l.space) l.threads) k in
+      let t = in_map (thread_ready statements layers l.space) l.threads r.0 (In-from_contains (map (thread_ready statements layers l.space) l.threads) r.0 r.1) in
       (named l.space t.0.number, record { opened = e; thread = t.0; among = t.1; ready = ap can_step t.2 ∙ r.2; name = refl })
   ready_found l false e k = absurd (false≢true k)
 
-  goes_able : (l : Layer) → layer_goes_on statements layers l ≡ true → (id : Ident) × CanStep l id
+  abbrev goes : Layer → Bool
+  goes = layer_goes_on statements layers (states_of statements layers)
+
+  goes_able : (l : Layer) → goes l ≡ true → (id : Ident) × CanStep l id
   goes_able l e = ready_found l (is_open l.status) refl e
 
-  able_goes : (l : Layer) (id : Ident) → CanStep l id → layer_goes_on statements layers l ≡ true
+  able_goes : (l : Layer) (id : Ident) → CanStep l id → goes l ≡ true
   able_goes l id c =
-      subst (λ (b : Bool). list_any can_step (if b then map (thread_ready (sight statements layers l.space)) l.threads else []) ≡ true) (sym c.opened)
-      (by_some can_step (map (thread_ready (sight statements layers l.space)) l.threads) (thread_ready (sight statements layers l.space) c.thread)
-      (contains-from_In (map (thread_ready (sight statements layers l.space)) l.threads) (thread_ready (sight statements layers l.space) c.thread)
-      (map_in (thread_ready (sight statements layers l.space)) l.threads c.thread c.among)) c.ready)
+      subst (λ (b : Bool). list_any can_step (if b then map (thread_ready statements layers l.space) l.threads else []) ≡ true) (sym c.opened)
+      (by_some can_step (map (thread_ready statements layers l.space) l.threads) (thread_ready statements layers l.space c.thread)
+      (contains-from_In (map (thread_ready statements layers l.space) l.threads) (thread_ready statements layers l.space c.thread)
+      (map_in (thread_ready statements layers l.space) l.threads c.thread c.among)) c.ready)
 
   module _ (queue : List Ident) (space : List ℕ) (exact : IsExact statements layers queue) where
     abbrev below : Layer → Bool
@@ -170,7 +172,7 @@ module _ (statements : List Statement) (layers : List Layer) where
 
     told_queue : goes_on statements layers space ≡ true → list_any stands queue ≡ true
     told_queue e =
-        let l = some_of (layer_goes_on statements layers) (layers_below layers space) e in
+        let l = some_of goes (layers_below layers space) e in
         let f = filter_in below layers l.0 (In-from_contains (layers_below layers space) l.0 l.1) in
         let id = goes_able l.0 l.2 in
         let there : In id.0 (runnable statements layers) = In-flat (runnable_in statements layers) l.0 id.0 layers f.0 (from_can l.0 id.0 id.1) in
@@ -184,7 +186,7 @@ module _ (statements : List Statement) (layers : List Layer) where
         let l = In-flat_back (runnable_in statements layers) id.0 layers there in
         let c = can_from l.0 id.0 l.2 in
         let kept : In l.0 (layers_below layers space) = in_filter below layers l.0 l.1 (ap (λ (i : Ident). is_below space i.space) c.name ∙ id.2) in
-        by_some (layer_goes_on statements layers) (layers_below layers space) l.0 (contains-from_In (layers_below layers space) l.0 kept) (able_goes l.0 id.0 c)
+        by_some goes (layers_below layers space) l.0 (contains-from_In (layers_below layers space) l.0 kept) (able_goes l.0 id.0 c)
 
     pub told_by_queue : goes_on statements layers space ≡ list_any stands queue
     told_by_queue = bool_eq _ _ told_queue queue_told

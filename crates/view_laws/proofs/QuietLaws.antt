@@ -11,20 +11,21 @@ use Rattle.oz_language.specs.declared.kernel.Statement.{Statement}
 use Rattle.oz_semantics.specs.Names.{named}
 use Rattle.oz_semantics.specs.Store.{View}
 use Rattle.oz_semantics.specs.Configurations.{is_of, layer_at, is_numbered, is_open, view, in_layer, in_thread}
-use Rattle.oz_semantics.specs.Sights.{Sight, can_step}
-use Rattle.oz_semantics.specs.Statements.{stack_answer}
-use Rattle.oz_semantics.specs.Readiness.{answer_ready, thread_ready}
-use Rattle.oz_semantics.specs.Spaces.{sight}
+use Rattle.oz_semantics.specs.Sights.{States, Readiness, can_step}
+use Rattle.oz_semantics.specs.Readiness.{answer_ready}
+use Rattle.oz_semantics.specs.Spaces.{states_of, answer_in, thread_ready}
 use Rattle.oz_semantics.specs.Settling.{is_among, mover_in, queue_after, runnable_in, runnable}
 use Rattle.oz_semantics.specs.declared.configuration.Frame.{Frame}
 use Rattle.oz_semantics.specs.declared.configuration.Thread.{Thread}
 use Rattle.oz_semantics.specs.declared.configuration.Layer.{Layer}
 use Rattle.oz_laws.proofs.SameLaws.{In, contains-from_In, In-flat, In-flat_back, eq-true}
+use Rattle.view_laws.specs.Spaceless.{has_spaces, plain_ready}
 use Rattle.view_laws.specs.Readies.{seeing}
 use Rattle.view_laws.specs.Queues.{IsExact, is_once, StepsTo, AreNew, QuietQueue}
 use Rattle.view_laws.proofs.Members.{In-left, In-right, In-cases, not_both}
 use Rattle.view_laws.proofs.ListLaws.{among_in, in_among, filter_in, in_filter, filter_all, filter_none, in_map, in_edit, edit_in, found_in}
 use Rattle.view_laws.proofs.SightLaws.{space_of, quiet_unseen}
+use Rattle.view_laws.proofs.SpacelessLaws.{spaceless_ready, quiet_spaceless}
 use Rattle.view_laws.proofs.QueueLaws.{mover_able, able_mover, stay, not_among, once_head, can_from, from_can}
 
 -- The place of what is changed
@@ -69,15 +70,16 @@ filter_twice {A = A} p q h (x ∷ xs) = by (p x) (q x) refl refl (filter_twice p
     by false false e f r = r
 
 -- only a thread with statements can step
-frames_there : (s : Sight) (frames : List Frame) → can_step (answer_ready (stack_answer s frames)) ≡ true → not (is_empty frames) ≡ true
-frames_there s [] e = absurd (false≢true e)
-frames_there s (frame ∷ rest) e = refl
+frames_there : (statements : List Statement) (layers : List Layer) (states : States) (space : List ℕ) (frames : List Frame)
+    → can_step (answer_ready (answer_in statements layers states space frames)) ≡ true → not (is_empty frames) ≡ true
+frames_there statements layers states space [] e = absurd (false≢true e)
+frames_there statements layers states space (frame ∷ rest) e = refl
 
 abbrev has_frames : Thread → Bool
 has_frames t = not (is_empty t.frames)
 
 module _ (statements : List Statement) (layers : List Layer) (id : Ident) (queue : List Ident) (before after : Layer) (news : List Thread) (at : layer_at layers id.space ≡ Some before)
-    (steps : StepsTo id.number before after news) where
+    (steps : StepsTo id.number before after news) (none : has_spaces layers ≡ false) where
   abbrev changed : List Layer
   changed = in_layer id.space (λ l. after) layers
 
@@ -89,11 +91,20 @@ module _ (statements : List Statement) (layers : List Layer) (id : Ident) (queue
       quiet_unseen (λ l. after) layers id.space other (λ l e. steps.space ∙ ap (λ (m : Layer). m.space) (found_one l e))
       (λ l e. steps.tells ∙ ap (λ (m : Layer). m.tells) (found_one l e))
 
-  -- what the threads of a layer can do, they could before
+  still_none : has_spaces changed ≡ false
+  still_none = quiet_spaceless (λ l. after) layers id.space (λ l e. steps.tells ∙ ap (λ (m : Layer). m.tells) (found_one l e)) ∙ none
+
+  -- what a thread can do, and what the threads of a layer can, they could before
+  same_ready : (space : List ℕ) (t : Thread) → thread_ready statements changed space t ≡ thread_ready statements layers space t
+  same_ready space t =
+      spaceless_ready statements changed (states_of statements changed) space t still_none
+      ∙ ap (λ (v : View). plain_ready (seeing statements space v) t) (seen space)
+      ∙ sym (spaceless_ready statements layers (states_of statements layers) space t none)
+
   same_runnable : (l : Layer) → runnable_in statements changed l ≡ runnable_in statements layers l
   same_runnable l =
-      ap (λ (v : View). if is_open l.status then map (λ (t : Thread). named l.space t.number) (filter (λ t. can_step (thread_ready (seeing statements l.space v) t)) l.threads) else [])
-      (seen l.space)
+      let each : ◌≡◌ {A = Thread → Readiness} (thread_ready statements changed l.space) (thread_ready statements layers l.space) = λ i t. same_ready l.space t i in
+      ap (λ (f : Thread → Readiness). if is_open l.status then map (λ (t : Thread). named l.space t.number) (filter (λ t. can_step (f t)) l.threads) else []) each
 
   abbrev able : Layer → List Ident
   able = runnable_in statements layers
@@ -116,7 +127,7 @@ module _ (statements : List Statement) (layers : List Layer) (id : Ident) (queue
   stepped = in_thread id.number (λ (t : Thread). record t { frames = steps.change t.frames }) before.threads
 
   abbrev ready : Thread → Bool
-  ready t = can_step (thread_ready (sight statements layers after.space) t)
+  ready t = can_step (thread_ready statements layers after.space t)
 
   abbrev old_in : Bool → List Ident
   old_in b = if b then map number_of (filter ready (filter has_frames stepped)) else []
@@ -128,7 +139,7 @@ module _ (statements : List Statement) (layers : List Layer) (id : Ident) (queue
   ready_parts =
       ap (filter ready) (steps.threads ∙ filter-append has_frames stepped news)
       ∙ filter-append ready (filter has_frames stepped) (filter has_frames news)
-      ∙ ap (λ ts. filter ready (filter has_frames stepped) ++ ts) (filter_twice ready has_frames (λ t e. frames_there (sight statements layers after.space) t.frames e) news)
+      ∙ ap (λ ts. filter ready (filter has_frames stepped) ++ ts) (filter_twice ready has_frames (λ t e. frames_there statements layers (states_of statements layers) after.space t.frames e) news)
 
   able_parts : able after ≡ old_in (is_open after.status) ++ new_in (is_open after.status)
   able_parts = by (is_open after.status)
@@ -152,7 +163,7 @@ module _ (statements : List Statement) (layers : List Layer) (id : Ident) (queue
           opened = ap is_open (sym steps.status) ∙ e;
           thread = t.0;
           among = k;
-          ready = ap (λ s. can_step (thread_ready (sight statements layers s) t.0)) (sym steps.space) ∙ f.1;
+          ready = ap (λ s. can_step (thread_ready statements layers s t.0)) (sym steps.space) ∙ f.1;
           name = ap (λ s. named s t.0.number) (sym steps.space) ∙ t.2;
         }))
         | inr u ↦ (let numbered = (found_in (is_numbered id.number) (λ (v : Thread). v) before.threads u.0 u.1).1 in
@@ -170,12 +181,12 @@ module _ (statements : List Statement) (layers : List Layer) (id : Ident) (queue
             absurd (apart (sym (is_mine c.thread (eq-true c.thread.number id.number numbered)) ∙ ap (λ s. named s c.thread.number) steps.space ∙ c.name)))
       ] in
       let kept : In c.thread (filter has_frames (stepped ++ news)) =
-      in_filter has_frames (stepped ++ news) c.thread (In-left c.thread stepped news there) (frames_there (sight statements layers before.space) c.thread.frames c.ready) in
+      in_filter has_frames (stepped ++ news) c.thread (In-left c.thread stepped news there) (frames_there statements layers (states_of statements layers) before.space c.thread.frames c.ready) in
       from_can statements layers after o (record {
         opened = ap is_open steps.status ∙ c.opened;
         thread = c.thread;
         among = subst (In c.thread) (sym steps.threads) kept;
-        ready = ap (λ s. can_step (thread_ready (sight statements layers s) c.thread)) steps.space ∙ c.ready;
+        ready = ap (λ s. can_step (thread_ready statements layers s c.thread)) steps.space ∙ c.ready;
         name = ap (λ s. named s c.thread.number) steps.space ∙ c.name;
       })
 
@@ -295,4 +306,4 @@ module _ (statements : List Statement) (layers : List Layer) (id : Ident) (queue
         (quiet_by ∙ ap (λ zs. queue ++ mover_in (Some id) ids ++ zs) (sym (same_runnable (record after { threads = news }))))
 
 pub quiet_queue : QuietQueue
-quiet_queue statements layers id queue before after news at steps exact once fresh = quiet statements layers id queue before after news at steps exact once fresh
+quiet_queue statements layers id queue before after news none at steps exact once fresh = quiet statements layers id queue before after news at steps none exact once fresh

@@ -1,8 +1,9 @@
 -- That a thread goes on to step, to offer or to wait where more is told.
 use Rattle.std.proofs.Common.{◌≡◌, inl, ◌==◌, ℕ, ℤ, Bool, true, false, ◌||◌, if◌then◌else◌, List, [], ◌∷◌, map, length, refl, sym, ap, subst, ◌∙◌, Option, Some, None, Result, Ok, Err, slice_get}
-use Rattle.std.specs.Prelude.{int_lt, int_le, pos}
+use Rattle.std.specs.Prelude.{int_lt, int_le, pos, negsuc, ◌&&◌, nat_le}
 use Rattle.std.proofs.lemmas.Bool.{false≢true}
 use Rattle.oz_base.specs.Lists.{list_eq}
+use Rattle.oz_base.specs.ListLaws.{list_eq-decides}
 use Rattle.oz_base.specs.declared.names.Ident.{Ident}
 use Rattle.oz_base.specs.declared.numbers.NumFault.{NumFault}
 use Rattle.oz_base.specs.declared.numbers.NumFault.TheVariants as faults
@@ -15,15 +16,15 @@ use Rattle.oz_language.specs.declared.kernel.Operation.{Operation}
 use Rattle.oz_language.specs.declared.kernel.Operation.TheVariants as operation
 use Rattle.oz_language.specs.declared.kernel.Statement.{Statement}
 use Rattle.oz_language.specs.declared.kernel.Statement.TheVariants as statement
-use Rattle.oz_semantics.specs.Values.{is_like, constant_in, integer_in, fields_of, cell_in, port_in, is_procedure}
-use Rattle.oz_semantics.specs.Names.{is_top}
+use Rattle.oz_semantics.specs.Values.{is_like, constant_in, integer_of, integer_in, fields_of, cell_in, port_in, space_in, is_procedure}
+use Rattle.oz_semantics.specs.Names.{is_top, is_child_of}
 use Rattle.oz_semantics.specs.Store.{Same, itself, reversed, joined, IsConsistent, value_of, is_determined}
 use Rattle.oz_semantics.specs.Matching.{Match, Matches, Differs, MatchWaits, matched}
 use Rattle.oz_semantics.specs.Entailment.{Equality, Entailed, Contradicted, Undecided, equality}
 use Rattle.oz_semantics.specs.Terms.{list_term}
-use Rattle.oz_semantics.specs.Sights.{Sight, Readiness, Steps, Waits}
-use Rattle.oz_semantics.specs.Answers.{Act, Answer, Acts, RaisesKind, GivesTerm, Passes, Reads, Writes, Exchanges, Sends, Delays, Shows, given, with_value, of_kind, argument, gives_constant}
-use Rattle.oz_semantics.specs.Builtins.{truth, gives_number, with_integers, compares, computes, of_equality, label_in, arity_in, gives_field, field_at, selects, own_act, on_cell, on_port, delays, of_operation, answer, arguments_of, call_answer}
+use Rattle.oz_semantics.specs.Sights.{Sight, Number, Readiness, Steps, Waits, Offers}
+use Rattle.oz_semantics.specs.Answers.{Act, Creates, Answer, Acts, Edits, RaisesKind, Operates, Rests, GivesTerm, Passes, Reads, Writes, Exchanges, Sends, Delays, Shows, given, with_value, of_kind, argument, gives_constant}
+use Rattle.oz_semantics.specs.Builtins.{truth, gives_number, with_integers, compares, computes, of_equality, label_in, arity_in, gives_field, field_at, selects, own_act, on_cell, on_port, delays, creates, choice_limit, offered, operates, of_operation, answer, arguments_of, call_answer}
 use Rattle.oz_semantics.specs.Statements.{procedure_called, value_called, called, branch, constant_branch, clause, statement_answer, numbered_answer, code_answer, stack_answer}
 use Rattle.oz_semantics.specs.Readiness.{answer_ready}
 use Rattle.oz_semantics.specs.declared.configuration.Code.{Code}
@@ -32,13 +33,14 @@ use Rattle.oz_semantics.specs.declared.configuration.Frame.{Frame}
 use Rattle.oz_semantics.specs.declared.value.Procedure as procedures
 use Rattle.oz_semantics.specs.declared.value.Builtin.{Builtin}
 use Rattle.oz_semantics.specs.declared.value.Builtin.TheVariants as builtin
+use Rattle.oz_semantics.specs.declared.value.SpaceOperation.{SpaceOperation}
 use Rattle.oz_semantics.specs.declared.value.Value.{Value}
 use Rattle.oz_semantics.specs.declared.value.Value.TheVariants as value
 use Rattle.oz_semantics.specs.declared.value.Tell.{Tell}
 use Rattle.oz_semantics.specs.declared.outcome.RaiseKind.{RaiseKind}
 use Rattle.oz_semantics.specs.declared.outcome.RaiseKind.TheVariants as raise
 use Rattle.oz_laws.proofs.SameLaws.{contains-from_In}
-use Rattle.oz_laws.proofs.AlikeLaws.{builtin_eq-true}
+use Rattle.oz_laws.proofs.AlikeLaws.{constant_eq-true, builtin_eq-true}
 use Rattle.view_laws.specs.Readies.{Keeps, SameClasses, Stays, seeing, ReadinessStays}
 use Rattle.view_laws.proofs.ViewLaws.{same_by_meaning, none_is}
 use Rattle.view_laws.proofs.EqualLaws.{EqualityStays, equality_stays}
@@ -78,6 +80,7 @@ branch_steps environment accepted otherwise (value.Procedure p) = refl
 branch_steps environment accepted otherwise (value.Name n) = refl
 branch_steps environment accepted otherwise (value.Cell c) = refl
 branch_steps environment accepted otherwise (value.Port p) = refl
+branch_steps environment accepted otherwise (value.Space s) = refl
 branch_steps environment accepted otherwise (value.Builtin b) = refl
 
 either_steps : (b : Bool) (one other : Answer) → answer_ready one ≡ Steps → answer_ready other ≡ Steps → answer_ready (if b then one else other) ≡ Steps
@@ -89,6 +92,32 @@ own_steps s global act owner = either_steps (list_eq owner.space s.space) (Acts 
 
 delay_steps : (procedure x : Ident) (v : Value) → answer_ready (delays procedure x v) ≡ Steps
 delay_steps procedure x v = either_steps (is_procedure v) (Acts (Delays procedure x)) (RaisesKind raise.BadKind) refl refl
+
+create_steps : (procedure x : Ident) (v : Value) → answer_ready (creates procedure x v) ≡ Steps
+create_steps procedure x v = either_steps (is_procedure v) (Edits (Creates procedure x)) (RaisesKind raise.BadKind) refl refl
+
+-- alike values are one integer, or one space, or neither
+like_integer : (v w : Value) → is_like v w ≡ true → integer_in v ≡ integer_in w
+like_integer (value.Constant c) (value.Constant d) e = ap integer_of (constant_eq-true c d e)
+like_integer (value.Record r) (value.Record s) e = refl
+like_integer (value.Name m) (value.Name n) e = refl
+like_integer (value.Cell c) (value.Cell d) e = refl
+like_integer (value.Port p) (value.Port q) e = refl
+like_integer (value.Procedure p) (value.Procedure q) e = refl
+like_integer (value.Builtin p) (value.Builtin q) e = refl
+like_integer (value.Space s) (value.Space t) e = refl
+like_integer v w e = absurd (false≢true e)
+
+like_space : (v w : Value) → is_like v w ≡ true → space_in v ≡ space_in w
+like_space (value.Constant c) (value.Constant d) e = refl
+like_space (value.Record r) (value.Record s) e = refl
+like_space (value.Name m) (value.Name n) e = refl
+like_space (value.Cell c) (value.Cell d) e = refl
+like_space (value.Port p) (value.Port q) e = refl
+like_space (value.Procedure p) (value.Procedure q) e = refl
+like_space (value.Builtin p) (value.Builtin q) e = refl
+like_space (value.Space s) (value.Space t) e = ap (λ u. Some u) ((list_eq-decides s t).0 e)
+like_space v w e = absurd (false≢true e)
 
 procedure_steps : (q : procedures.Procedure) (xs : List Ident) → answer_ready (procedure_called q xs) ≡ Steps
 procedure_steps q xs = either_steps (length xs == length q.parameters) _ (RaisesKind raise.Arity) refl refl
@@ -204,6 +233,30 @@ module _ (statements : List Statement) (space : List ℕ) (before after : List T
       one_leads x (λ v. of_kind (port_in v) (own_act here raise.GlobalPort act))
       (λ v. kind_steps (port_in v) (own_act here raise.GlobalPort act) (own_steps here raise.GlobalPort act))
 
+  -- what can step, offers or operates on a space leads to itself
+  offer_leads : (x : Ident) (i : ℤ) → Leads (offered x i) (offered x i)
+  offer_leads x (pos n) = by (nat_le 1 n && nat_le n choice_limit)
+    where
+      by : (b : Bool) → Leads (if b then Rests (Offers (Number n x) []) else RaisesKind raise.Domain) (if b then Rests (Offers (Number n x) []) else RaisesKind raise.Domain)
+      by true = refl
+      by false = refl
+  offer_leads x (negsuc n) = refl
+
+  choose_leads : (x : Ident) (o : Option ℤ) → Leads (of_kind o (offered x)) (of_kind o (offered x))
+  choose_leads x None = refl
+  choose_leads x (Some i) = offer_leads x i
+
+  operate_leads : (op : SpaceOperation) (x : Ident) (child : List ℕ) → Leads (operates here op x child) (operates there op x child)
+  operate_leads op x child = by (is_child_of space child)
+    where
+      by : (b : Bool) → Leads (if b then Operates op child x else RaisesKind raise.SpaceParent) (if b then Operates op child x else RaisesKind raise.SpaceParent)
+      by true = refl
+      by false = refl
+
+  on_space_leads : (op : SpaceOperation) (x : Ident) (o : Option (List ℕ)) → Leads (of_kind o (operates here op x)) (of_kind o (operates there op x))
+  on_space_leads op x None = refl
+  on_space_leads op x (Some child) = operate_leads op x child
+
   answer_leads : (b : Builtin) (x : ℕ → Ident) → Leads (answer here b x) (answer there b x)
   answer_leads (builtin.Operation op) x = operation_leads op (x 0) (x 1) (x 2)
   answer_leads builtin.Label x = one_leads (x 0) (λ v. of_kind (label_in v) (gives_constant (x 1))) (λ v. kind_steps (label_in v) (gives_constant (x 1)) (λ c. refl))
@@ -222,6 +275,13 @@ module _ (statements : List Statement) (space : List ℕ) (before after : List T
   answer_leads builtin.Send x = port_leads (x 0) (λ n. Sends n (x 1))
   answer_leads builtin.ByNeed x = one_leads (x 0) (delays (x 0) (x 1)) (delay_steps (x 0) (x 1))
   answer_leads builtin.Show x = show_leads (is_top space) (x 0)
+  answer_leads builtin.NewSpace x = one_leads (x 0) (creates (x 0) (x 1)) (create_steps (x 0) (x 1))
+  answer_leads builtin.Choose x =
+      value_leads (x 0) (λ v. of_kind (integer_in v) (offered (x 1))) (λ v. of_kind (integer_in v) (offered (x 1)))
+      (λ v w like. subst (λ o. Leads (of_kind (integer_in v) (offered (x 1))) (of_kind o (offered (x 1)))) (like_integer v w like) (choose_leads (x 1) (integer_in v)))
+  answer_leads (builtin.OnSpace op) x =
+      value_leads (x 0) (λ v. of_kind (space_in v) (operates here op (x 1))) (λ v. of_kind (space_in v) (operates there op (x 1)))
+      (λ v w like. subst (λ o. Leads (of_kind (space_in v) (operates here op (x 1))) (of_kind o (operates there op (x 1)))) (like_space v w like) (on_space_leads op (x 1) (space_in v)))
 
   call_leads : (b : Builtin) (xs : List Ident) → Leads (call_answer here b xs) (call_answer there b xs)
   call_leads b xs = by (length xs == arguments_of b)
@@ -239,6 +299,7 @@ module _ (statements : List Statement) (space : List ℕ) (before after : List T
   value_called_leads xs (value.Name m) (value.Name n) e = refl
   value_called_leads xs (value.Cell c) (value.Cell d) e = refl
   value_called_leads xs (value.Port p) (value.Port q) e = refl
+  value_called_leads xs (value.Space s) (value.Space t) e = refl
   value_called_leads xs (value.Procedure p) (value.Procedure q) e = both_step (procedure_called p xs) (procedure_called q xs) (procedure_steps p xs) (procedure_steps q xs)
   value_called_leads xs v w e = absurd (false≢true e)
 
@@ -276,6 +337,7 @@ module _ (statements : List Statement) (space : List ℕ) (before after : List T
   code_leads : (environment : Environment) (k : Code) → Leads (code_answer here environment k) (code_answer there environment k)
   code_leads environment (code.Statement n) = numbered_leads environment (slice_get statements n)
   code_leads environment (code.Call procedure argument) = called_leads procedure (argument ∷ [])
+  code_leads environment (code.Bind x n) = refl
   code_leads environment (code.Mark exception handler) = refl
 
   pub stack_leads : (frames : List Frame) → Leads (stack_answer here frames) (stack_answer there frames)

@@ -76,7 +76,7 @@ same_named_layer (n ∷ ls) l m e (inr a) (inr b) q = same_named_layer ls l m (a
 
 -- Names after edits
 
-names_edited : (test : Layer → Bool) (change : Layer → Layer) (ls : List Layer) → ((l : Layer) → find test ls ≡ Some l → (change l).space ≡ l.space) → names_of (edit_first test change ls) ≡ names_of ls
+pub names_edited : (test : Layer → Bool) (change : Layer → Layer) (ls : List Layer) → ((l : Layer) → find test ls ≡ Some l → (change l).space ≡ l.space) → names_of (edit_first test change ls) ≡ names_of ls
 names_edited test change [] h = refl
 names_edited test change (l ∷ ls) h = by (test l) h (names_edited test change ls)
   where
@@ -86,7 +86,7 @@ names_edited test change (l ∷ ls) h = by (test l) h (names_edited test change 
     by true g rest = ap (λ s. s ∷ names_of ls) (g l refl)
     by false g rest = ap (λ ss. l.space ∷ ss) (rest g)
 
-ascending_filter : (keep : Layer → Bool) (ls : List Layer) → is_ascending (names_of ls) ≡ true → is_ascending (names_of (filter keep ls)) ≡ true
+pub ascending_filter : (keep : Layer → Bool) (ls : List Layer) → is_ascending (names_of ls) ≡ true → is_ascending (names_of (filter keep ls)) ≡ true
 ascending_filter keep [] e = refl
 ascending_filter keep (l ∷ ls) e = by (keep l) (ascending_filter keep ls (and-right _ _ e))
   where
@@ -119,7 +119,7 @@ put_in {A = A} test new (y ∷ ys) x h = by (test y) h (put_in test new ys x)
     by false (inl e) rest = inl e
     by false (inr k) rest = inr (rest k)
 
-ascending_put : (new : Layer) (ls : List Layer) → is_ascending (names_of ls) ≡ true → ((m : Layer) → In m ls → m.space ≡ new.space → ⊥) → is_ascending (names_of (placed new ls)) ≡ true
+pub ascending_put : (new : Layer) (ls : List Layer) → is_ascending (names_of ls) ≡ true → ((m : Layer) → In m ls → m.space ≡ new.space → ⊥) → is_ascending (names_of (placed new ls)) ≡ true
 ascending_put new [] e fresh = refl
 ascending_put new (l ∷ ls) e fresh = by (space_lt new.space l.space) refl (ascending_put new ls (and-right _ _ e) (λ m h. fresh m (inr h)))
   where
@@ -145,7 +145,7 @@ ascending_put new (l ∷ ls) e fresh = by (space_lt new.space l.space) refl (asc
 
 -- Trees lead
 
-ascending_leads : (ls : List Layer) → is_ascending (names_of ls) ≡ true → is_led ls ≡ true
+pub ascending_leads : (ls : List Layer) → is_ascending (names_of ls) ≡ true → is_led ls ≡ true
 ascending_leads [] e = refl
 ascending_leads (l ∷ ls) e = and_both _ _ (by_each (λ (m : Layer). not (is_below m.space l.space)) ls (λ m c. apart m (In-from_contains ls m c))) (ascending_leads ls (and-right _ _ e))
   where
@@ -163,7 +163,7 @@ trees_lead layers h = ascending_leads layers h.ordered
 pub given_in : (layers after : List Layer) (space : List ℕ) → ((p : Layer) → In p layers → (q : Layer) × In q after × (q.space ≡ p.space) × (p.next.child ≤ q.next.child)) → IsGivenOut layers space → IsGivenOut after space
 given_in layers after space h g =
     let q = h g.parent (In-from_contains layers g.parent g.among) in
-    record { parent = q.0; among = contains-from_In after q.0 q.1; number = g.number; name = g.name ∙ ap (λ s. child_name s g.number) (sym q.2); given = omega (arith, g.given, q.3) }
+    record { parent = q.0; among = contains-from_In after q.0 q.1; number = g.number; name = g.name ∙ ap (λ s. child_name s g.number) (sym q.2); counted = g.counted; given = omega (arith, g.given, q.3) }
 
 module _ (space : List ℕ) (change : Layer → Layer) (layers : List Layer)
     (keeps : (l : Layer) → layer_at layers space ≡ Some l → ((change l).space ≡ l.space) × (l.next.child ≤ (change l).next.child)) where
@@ -184,15 +184,24 @@ module _ (space : List ℕ) (change : Layer → Layer) (layers : List Layer)
         (given_in layers changed r.0.space parent_after (t.given r.0 (contains-from_In layers r.0 (found_in (is_of space) change layers r.0 r.1).0) (subst (λ s. is_top s ≡ false) same top))))
   ]
 
+  begins_after : IsTree layers → (l : Layer) → In l changed → 1 ≤ l.next.child
+  begins_after t l h = elim (in_edit (is_of space) change layers l h) [
+    | inl k ↦ t.begins l (contains-from_In layers l k)
+    | inr r ↦ (let before = t.begins r.0 (contains-from_In layers r.0 (found_in (is_of space) change layers r.0 r.1).0) in
+        let more = (keeps r.0 r.1).1 in
+        subst (λ (m : Layer). 1 ≤ m.next.child) (sym r.2) (omega (arith, before, more)))
+  ]
+
   pub tree_changed : IsTree layers → IsTree changed
   tree_changed t = record {
     ordered = ap is_ascending (names_edited (is_of space) change layers (λ l e. (keeps l e).0)) ∙ t.ordered;
+    begins = λ l c. begins_after t l (In-from_contains changed l c);
     given = λ l c top. given_after t l (In-from_contains changed l c) top;
   }
 
 -- The end of a space
 
-below_child : (s : List ℕ) (n : ℕ) → is_below s (child_name s n) ≡ true
+pub below_child : (s : List ℕ) (n : ℕ) → is_below s (child_name s n) ≡ true
 below_child [] n = refl
 below_child (a ∷ s) n = and_both _ _ (eq-refl a) (below_child s n)
 
@@ -215,12 +224,14 @@ module _ (space : List ℕ) (layers : List Layer) where
         among = contains-from_In (filter left layers) g.parent (in_filter left layers g.parent (In-from_contains layers g.parent g.among) (parent_left l g.parent g.number f.1 g.name));
         number = g.number;
         name = g.name;
+        counted = g.counted;
         given = g.given;
       }
 
   pub tree_left : IsTree layers → IsTree (filter left layers)
   tree_left t = record {
     ordered = ascending_filter left layers t.ordered;
+    begins = λ l c. t.begins l (contains-from_In layers l (filter_in left layers l (In-from_contains (filter left layers) l c)).0);
     given = λ l c top. given_left t l (In-from_contains (filter left layers) l c) top;
   }
 
@@ -239,7 +250,7 @@ raise_tree space x layers t = end_tree space (raised_by x) layers (λ l. (refl, 
 
 -- A new space
 
-last_apart : (s t : List ℕ) (m n : ℕ) → child_name s m ≡ child_name t n → (s ≡ t) × (m ≡ n)
+pub last_apart : (s t : List ℕ) (m n : ℕ) → child_name s m ≡ child_name t n → (s ≡ t) × (m ≡ n)
 last_apart [] [] m n e = (refl, let k : m ≡ n = cc in k)
 last_apart [] (b ∷ []) m n e = cc
 last_apart [] (b ∷ c ∷ t) m n e = cc
@@ -292,14 +303,22 @@ module _ (layers : List Layer) (t : IsTree layers) (parent : List ℕ) (procedur
       among = contains-from_In (placed new grown) (counting_child l) parent_there;
       number = l.next.child;
       name = refl;
+      counted = t.begins l (contains-from_In layers l (found_in (is_of parent) counting_child layers l at).0);
       given = omega arith;
     })
     | inr k ↦ given_in grown (placed new grown) m.space (λ p i. (p, put_in before_new new grown p i, refl, omega arith)) (tree_grown.given m (contains-from_In grown m k) top)
   ]
 
+  begins_there : (m : Layer) → In m (placed new grown) → 1 ≤ m.next.child
+  begins_there m h = elim (in_put before_new new grown m h) [
+    | inl e ↦ subst (λ (n : Layer). 1 ≤ n.next.child) (sym e) (omega arith)
+    | inr k ↦ tree_grown.begins m (contains-from_In grown m k)
+  ]
+
   tree_placed : IsTree (placed new grown)
   tree_placed = record {
     ordered = ascending_put new grown tree_grown.ordered fresh;
+    begins = λ m c. begins_there m (In-from_contains (placed new grown) m c);
     given = λ m c top. given_there m (In-from_contains (placed new grown) m c) top;
   }
 

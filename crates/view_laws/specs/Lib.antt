@@ -1,6 +1,7 @@
 pub mod Touched
 pub mod Sights
 pub mod Trees
+pub mod Spaceless
 pub mod Readies
 pub mod Queues
 pub mod Needs

@@ -11,6 +11,7 @@ use Rattle.oz_semantics.specs.Settling.{is_among, mover_in, queue_after, runnabl
 use Rattle.oz_semantics.specs.declared.configuration.Frame.{Frame}
 use Rattle.oz_semantics.specs.declared.configuration.Thread.{Thread}
 use Rattle.oz_semantics.specs.declared.configuration.Layer.{Layer}
+use Rattle.view_laws.specs.Spaceless.{has_spaces}
 
 -- Lists of threads
 
@@ -58,11 +59,11 @@ pub record StepsTo (number : ℕ) (before after : Layer) (news : List Thread) : 
 abbrev pub AreNew : List ℕ → List Thread → List Ident → Type 0
 AreNew space news queue = (t : Thread) → Contains news t → is_among queue (named space t.number) ≡ false
 
--- Where the queue had exactly the threads that could step, each once, and the thread at its head made such a step, then the rest stays,
--- and behind it come this thread and the new ones, as far as they can step
+-- Where no space is a value, the queue had exactly the threads that could step, each once, and the thread at its head made such a step,
+-- the rest stays, and behind it come this thread and the new ones, as far as they can step
 abbrev pub QuietQueue : Type 0
 QuietQueue =
-    (statements : List Statement) (layers : List Layer) (id : Ident) (queue : List Ident) (before after : Layer) (news : List Thread) → layer_at layers id.space ≡ Some before
-    → StepsTo id.number before after news → IsExact statements layers (id ∷ queue) → is_once (id ∷ queue) ≡ true → AreNew id.space news (id ∷ queue)
+    (statements : List Statement) (layers : List Layer) (id : Ident) (queue : List Ident) (before after : Layer) (news : List Thread) → has_spaces layers ≡ false
+    → layer_at layers id.space ≡ Some before → StepsTo id.number before after news → IsExact statements layers (id ∷ queue) → is_once (id ∷ queue) ≡ true → AreNew id.space news (id ∷ queue)
     → queue_after (runnable statements (in_layer id.space (λ l. after) layers)) (Some id) queue
     ≡ queue ++ mover_in (Some id) (runnable statements (in_layer id.space (λ l. after) layers)) ++ runnable_in statements (in_layer id.space (λ l. after) layers) (record after { threads = news })

@@ -6,14 +6,14 @@ use Rattle.oz_language.specs.declared.kernel.Statement.{Statement}
 use Rattle.oz_semantics.specs.Names.{is_below}
 use Rattle.oz_semantics.specs.Store.{Same, same, IsConsistent, is_determined}
 use Rattle.oz_semantics.specs.Configurations.{in_layer}
-use Rattle.oz_semantics.specs.Sights.{Sight, Readiness, Steps, Waits, Offers}
-use Rattle.oz_semantics.specs.Readiness.{thread_ready}
-use Rattle.oz_semantics.specs.Spaces.{sight, readinesses}
+use Rattle.oz_semantics.specs.Sights.{Sight, States, Readiness, Steps, Waits, WaitsForState, Offers}
+use Rattle.oz_semantics.specs.Spaces.{ready_in, readinesses}
 use Rattle.oz_semantics.specs.declared.value.Tell.{Tell}
 use Rattle.oz_semantics.specs.declared.configuration.Thread.{Thread}
 use Rattle.oz_semantics.specs.declared.configuration.Layer.{Layer}
 use Rattle.oz_laws.specs.Touched.{Meets, Touches}
 use Rattle.view_laws.specs.Sights.{KeepsSpace, KeepsTells, SeesBesides}
+use Rattle.view_laws.specs.Spaceless.{plain_ready}
 
 -- Where more is told
 
@@ -30,10 +30,11 @@ pub record IsUnmoved (before after : List Tell) (x : Ident) : Type 0 where
 abbrev pub SameClasses : List Tell → List Ident → List Ident → Type 0
 SameClasses view xs ys = (z : Ident) → list_any (same view z) xs ≡ list_any (same view z) ys
 
--- what can step and what offers stays so, and what waits does while none of the classes moves that it waits for, and then for the same
+-- what can step, what offers and what operates on a space stays so, and what waits does while none of the classes moves that it waits for, and then for the same
 abbrev pub Stays : List Tell → List Tell → Readiness → Readiness → Type 0
 Stays before after Steps r = r ≡ Steps
 Stays before after (Offers offer xs) r = r ≡ Offers offer xs
+Stays before after (WaitsForState space) r = r ≡ WaitsForState space
 Stays before after (Waits xs) r = ((x : Ident) → Contains xs x → IsUnmoved before after x) → (ys : List Ident) × (r ≡ Waits ys) × SameClasses after xs ys
 
 -- what a thread of a space goes by that sees this
@@ -44,7 +45,7 @@ seeing statements space view = record { statements = statements; space = space; 
 abbrev pub ReadinessStays : Type 0
 ReadinessStays =
     (statements : List Statement) (space : List ℕ) (before after : List Tell) (t : Thread) → Keeps before after → IsConsistent after
-    → Stays before after (thread_ready (seeing statements space before) t) (thread_ready (seeing statements space after) t)
+    → Stays before after (plain_ready (seeing statements space before) t) (plain_ready (seeing statements space after) t)
 
 -- A class without a value that was not touched has not moved: so the touched classes alone tell whom to wake
 abbrev pub UntouchedUnmoved : Type 0
@@ -54,10 +55,11 @@ UntouchedUnmoved =
 
 -- Where a layer changes
 
--- what a thread of the space can do, and what the threads of a layer of it can, is the same in both lists of layers
+-- by the same states of spaces, what a thread of the space can do, and what the threads of a layer of it can, is the same in both lists
+-- of layers
 pub record GoByTheSame (statements : List Statement) (before after : List Layer) (space : List ℕ) : Type 0 where
-  pub threads : (t : Thread) → thread_ready (sight statements after space) t ≡ thread_ready (sight statements before space) t
-  pub layers : (l : Layer) → l.space ≡ space → readinesses statements after l ≡ readinesses statements before l
+  pub threads : (states : States) (t : Thread) → ready_in statements after states space t ≡ ready_in statements before states space t
+  pub layers : (states : States) (l : Layer) → l.space ≡ space → readinesses statements after states l ≡ readinesses statements before states l
 
 -- So it is after a change of a layer for each space that is not below it
 abbrev pub ChangeReady : Type 0

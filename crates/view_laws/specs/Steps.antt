@@ -1,12 +1,11 @@
 -- Steps that tell nothing, in the words of the machine: what they leave of the layers, and what follows them.
-use Rattle.std.specs.Prelude.{ℕ, ◌≡◌, ◌+◌, ◌<◌, true, false, ◌&&◌, List, [], ◌∷◌, ◌++◌, Contains, Some, is_some, length, map}
+use Rattle.std.specs.Prelude.{ℕ, ◌≡◌, ◌+◌, ◌<◌, ◌≤◌, true, false, ◌&&◌, List, [], ◌∷◌, ◌++◌, Contains, Some, is_some, length, map}
 use Rattle.oz_base.specs.Lists.{holds_of}
 use Rattle.oz_base.specs.declared.names.Ident.{Ident}
 use Rattle.oz_language.specs.declared.kernel.Statement.{Statement}
 use Rattle.oz_semantics.specs.Configurations.{layer_at, thread_at, is_open, in_layer, with_frames, without_terminated}
 use Rattle.oz_semantics.specs.Sights.{can_step}
-use Rattle.oz_semantics.specs.Readiness.{thread_ready}
-use Rattle.oz_semantics.specs.Spaces.{sight}
+use Rattle.oz_semantics.specs.Spaces.{thread_ready}
 use Rattle.oz_semantics.specs.Changes.{Change, GivesOut, CountsProcedure, CountsName, Pushes, Spawns, AddsCell, Holds, AddsPort, EndsAt, AddsTrigger, changed_all}
 use Rattle.oz_semantics.specs.Settling.{Turned, is_inconsistent, is_among, mover_in, runnable_in, runnable, settled}
 use Rattle.oz_semantics.specs.Steps.{without_top, went_on}
@@ -16,6 +15,7 @@ use Rattle.oz_semantics.specs.declared.configuration.Layer.{Layer}
 use Rattle.oz_semantics.specs.declared.configuration.Configuration.{Configuration}
 use Rattle.oz_semantics.specs.declared.outcome.Stepped.TheVariants.{Moved}
 use Rattle.view_laws.specs.Trees.{is_ascending, names_of}
+use Rattle.view_laws.specs.Spaceless.{has_spaces}
 use Rattle.view_laws.specs.Needs.{NoneNeeded}
 use Rattle.view_laws.specs.Queues.{is_once, IsExact, StepsTo, AreNew}
 
@@ -62,8 +62,10 @@ abbrev pub IsRising : List ℕ → Type 0
 IsRising [] = Unit {0}
 IsRising (n ∷ ns) = ((m : ℕ) → Contains ns m → n < m) × IsRising ns
 
--- the threads of a layer stand in the order of their numbers, which it gave out
+-- the threads of a layer stand in the order of their numbers, which it gave out, from 1 on
 pub record IsNumbered (l : Layer) : Type 0 where
+  pub begins : 1 ≤ l.next.thread
+  pub counted : (t : Thread) → Contains l.threads t → 1 ≤ t.number
   pub rising : IsRising (map (λ (t : Thread). t.number) l.threads)
   pub given : (t : Thread) → Contains l.threads t → t.number < l.next.thread
 
@@ -90,7 +92,7 @@ abbrev pub MoverTold : Type 0
 MoverTold =
     (statements : List Statement) (layers : List Layer) (id : Ident) (l : Layer) → is_ascending (names_of layers) ≡ true → layer_at layers id.space ≡ Some l → IsNumbered l
     → is_among (runnable statements layers) id
-    ≡ (is_open l.status && holds_of (λ (t : Thread). can_step (thread_ready (sight statements layers id.space) t)) (thread_at l.threads id.number))
+    ≡ (is_open l.status && holds_of (λ (t : Thread). can_step (thread_ready statements layers id.space t)) (thread_at l.threads id.number))
 
 -- What follows
 
@@ -104,11 +106,11 @@ QuietSound =
     (layers : List Layer) (id : Ident) (before after : Layer) (news : List Thread) → layer_at layers id.space ≡ Some before → StepsTo id.number before after news → IsSound layers
     → IsSound (in_layer id.space (λ l. after) layers)
 
--- Then no space fails after it, and where no trigger is needed, the queue is the rest, and then the thread and the new ones, as far as they can step
+-- Then no space fails after it, and where no space is a value and no trigger is needed, the queue is the rest, and then the thread and the new ones, as far as they can step
 abbrev pub QuietSettles : Type 0
 QuietSettles =
-    (statements : List Statement) (c : Configuration) (id : Ident) (queue : List Ident) (before after : Layer) (news : List Thread) (cost : ℕ) → layer_at c.layers id.space ≡ Some before
-    → StepsTo id.number before after news → IsExact statements c.layers (id ∷ queue) → is_once (id ∷ queue) ≡ true → AreNew id.space news (id ∷ queue) → IsSound c.layers
+    (statements : List Statement) (c : Configuration) (id : Ident) (queue : List Ident) (before after : Layer) (news : List Thread) (cost : ℕ) → has_spaces c.layers ≡ false
+    → layer_at c.layers id.space ≡ Some before → StepsTo id.number before after news → IsExact statements c.layers (id ∷ queue) → is_once (id ∷ queue) ≡ true → AreNew id.space news (id ∷ queue) → IsSound c.layers
     → (layers : List Layer) → layers ≡ in_layer id.space (λ l. after) c.layers → NoneNeeded statements layers
     → ◌≡◌ {A = Turned} (settled statements (Some id) cost (record c { layers = layers; queue = queue })) (
       Moved cost,
@@ -118,7 +120,7 @@ QuietSettles =
 -- So where a thread makes changes that tell nothing
 abbrev pub ChangesSettle : Type 0
 ChangesSettle =
-    (statements : List Statement) (c : Configuration) (id : Ident) (queue : List Ident) (before : Layer) (changes : List Change) (cost : ℕ) → is_ascending (names_of c.layers) ≡ true
+    (statements : List Statement) (c : Configuration) (id : Ident) (queue : List Ident) (before : Layer) (changes : List Change) (cost : ℕ) → has_spaces c.layers ≡ false → is_ascending (names_of c.layers) ≡ true
     → layer_at c.layers id.space ≡ Some before → IsNumbered before → IsExact statements c.layers (id ∷ queue) → is_once (id ∷ queue) ≡ true → IsSound c.layers
     → (layers : List Layer) → layers ≡ in_layer id.space without_terminated (changed_all id changes (without_top id c.layers)) → NoneNeeded statements layers
     → ◌≡◌ {A = Turned} (went_on statements id cost (changed_all id changes (without_top id c.layers)) (record c { queue = queue })) (
@@ -132,7 +134,7 @@ ChangesSettle =
 -- and where it goes on with another stack
 abbrev pub StackSettle : Type 0
 StackSettle =
-    (statements : List Statement) (c : Configuration) (id : Ident) (queue : List Ident) (before : Layer) (frames : List Frame) (cost : ℕ) → is_ascending (names_of c.layers) ≡ true
+    (statements : List Statement) (c : Configuration) (id : Ident) (queue : List Ident) (before : Layer) (frames : List Frame) (cost : ℕ) → has_spaces c.layers ≡ false → is_ascending (names_of c.layers) ≡ true
     → layer_at c.layers id.space ≡ Some before → IsNumbered before → IsExact statements c.layers (id ∷ queue) → is_once (id ∷ queue) ≡ true → IsSound c.layers
     → (layers : List Layer) → layers ≡ in_layer id.space without_terminated (in_layer id.space (with_frames id.number (λ rest. frames)) (without_top id c.layers))
     → NoneNeeded statements layers

@@ -16,17 +16,19 @@ is_ascending (s ∷ ss) = list_all (space_lt s) ss && is_ascending ss
 abbrev pub names_of : List Layer → List (List ℕ)
 names_of layers = map (λ (l : Layer). l.space) layers
 
--- one of the layers gave out the space
+-- one of the layers gave out the space; it numbers its children from 1
 pub record IsGivenOut (layers : List Layer) (space : List ℕ) : Type 0 where
   pub parent : Layer
   pub among : Contains layers parent
   pub number : ℕ
   pub name : space ≡ child_name parent.space number
+  pub counted : 1 ≤ number
   pub given : number < parent.next.child
 
 -- the layers stand in the order of names, and each space but the top was given out by its parent, which is there
 pub record IsTree (layers : List Layer) : Type 0 where
   pub ordered : is_ascending (names_of layers) ≡ true
+  pub begins : (l : Layer) → Contains layers l → 1 ≤ l.next.child
   pub given : (l : Layer) → Contains layers l → is_top l.space ≡ false → IsGivenOut layers l.space
 
 -- Then no layer's space is above that of an earlier layer

@@ -6,6 +6,7 @@
 ghost use Rattle.view_laws.specs.Touched.{TouchedDecide, FirstsDecide, TouchedHold, UntouchedAlike, TouchesNothing, TouchesTwice};
 ghost use Rattle.view_laws.specs.Sights.{ChangeUnseen, QuietUnseen, TellSeen, EndUnseen, FailureUnseen, RaiseUnseen, CreationUnseen, CommitmentUnseen, ViewSplits};
 ghost use Rattle.view_laws.specs.Trees.{TreesLead, ChangeTree, EndTree, FailureTree, RaiseTree, CreationTree};
+ghost use Rattle.view_laws.specs.Spaceless.{SpacelessAnswer, SpacelessReady, QuietSpaceless, TellSpaceless, UntoldSpaceless};
 ghost use Rattle.view_laws.specs.Readies.{ReadinessStays, UntouchedUnmoved, ChangeReady, QuietReady};
 ghost use Rattle.view_laws.specs.Queues.{QueueExact, QueueOnce, QueueTells, QuietQueue};
 ghost use Rattle.view_laws.specs.Needs.{NothingFires};
@@ -42,6 +43,15 @@ pub fn tree_law()
     ensures failure { FailureTree }
     ensures raised { RaiseTree }
     ensures creation { CreationTree }
+{}
+
+/// What a thread goes by where no space is a value. Nothing: it holds laws.
+pub fn spaceless_law()
+    ensures answer { SpacelessAnswer }
+    ensures ready { SpacelessReady }
+    ensures quiet { QuietSpaceless }
+    ensures tell { TellSpaceless }
+    ensures untold { UntoldSpaceless }
 {}
 
 /// What a thread can do where more is told than before, and where a layer changes. Nothing: it holds laws.

@@ -14,14 +14,14 @@ returns-clause-ok c =
     let own = subst (IsAnswer (stack_answer (sight c.args.statements.now c.args.levels.now id.space) (stack_of c.args.levels.now id))) (sym c.insert-answer.ensures.value) c.in_ok-thread_answer.ensures in
     c.in_ok-push.ensures.ok
     ∙ ap (λ (i : Ident). c.args.queue.now ++ i ∷ []) c.in_ok-copied-2.ensures
-    ∙ ap (λ (ids : List Ident). c.args.queue.now ++ ids) (alone_joins c.args.statements.now c.args.levels.now id c.insert-answer.result.now own c.in_default.not-Rests)
+    ∙ ap (λ (ids : List Ident). c.args.queue.now ++ ids) (alone_joins c.args.statements.now c.args.levels.now id c.insert-answer.result.now own (sym c.waits.ensures ∙ c.if-waits.false))
 
-pub returns-in-Rests-clause-ok : goal.returns-in-Rests-clause-ok
-returns-in-Rests-clause-ok c =
+pub returns-then-waits-clause-ok : goal.returns-then-waits-clause-ok
+returns-then-waits-clause-ok c =
     let id = c.args.id.now in
     let queue = c.args.queue.now in
     let own = subst (IsAnswer (stack_answer (sight c.args.statements.now c.args.levels.now id.space) (stack_of c.args.levels.now id))) (sym c.insert-answer.ensures.value) c.in_ok-thread_answer.ensures in
-    sym (append-nil queue) ∙ ap (λ (ids : List Ident). queue ++ ids) (resting_joins c.args.statements.now c.args.levels.now id c.insert-answer.result.now own c.in-Rests.is)
+    sym (append-nil queue) ∙ ap (λ (ids : List Ident). queue ++ ids) (resting_joins c.args.statements.now c.args.levels.now id c.insert-answer.result.now own (sym c.waits.ensures ∙ c.if-waits.true))
 
 pub returns-clause-answer : goal.returns-clause-answer
 returns-clause-answer c =

@@ -5,19 +5,20 @@ use Rattle.oz_semantics.specs.Configurations.{view}
 use Rattle.oz_semantics.specs.Texts.{no_text, term_text}
 use Rattle.oz_semantics.specs.Search.{state_text}
 use Rattle.oz_semantics.specs.declared.outcome.State.{State}
-use Rattle.oz_semantics.specs.declared.outcome.State.TheVariants.{Solved, Stuck, Running, Suspended, Failed, Alternatives}
+use Rattle.oz_semantics.specs.declared.outcome.State.TheVariants.{Solved, Stuck, Running, Suspended, Failed, Merged, Alternatives}
 use Rattle.oz_semantics.specs.declared.configuration.Configuration.{Configuration}
 use Rattle.oz_machine.specs.Answers.{PrintsWithin}
 use Rattle.oz_acts.proofs.PlaceLaws.{place_view}
 use Rattle.oz_machine.proofs.texts.state_text.Goals as goal
 
 -- a state in which there is nothing to show
-shows_nothing : (words : List (List ℕ)) (d : Configuration) (space : List ℕ) (s : State) → (s ≡ Running) ⊎ ((s ≡ Suspended) ⊎ ((s ≡ Failed) ⊎ ((n : ℕ) × (s ≡ Alternatives n))))
+shows_nothing : (words : List (List ℕ)) (d : Configuration) (space : List ℕ) (s : State) → (s ≡ Running) ⊎ ((s ≡ Suspended) ⊎ ((s ≡ Failed) ⊎ ((s ≡ Merged) ⊎ ((n : ℕ) × (s ≡ Alternatives n)))))
     → no_text ≡ state_text words d space s
 shows_nothing words d space s (inl e) = ap (state_text words d space) (sym e)
 shows_nothing words d space s (inr (inl e)) = ap (state_text words d space) (sym e)
 shows_nothing words d space s (inr (inr (inl e))) = ap (state_text words d space) (sym e)
-shows_nothing words d space s (inr (inr (inr (n, e)))) = ap (state_text words d space) (sym e)
+shows_nothing words d space s (inr (inr (inr (inl e)))) = ap (state_text words d space) (sym e)
+shows_nothing words d space s (inr (inr (inr (inr (n, e))))) = ap (state_text words d space) (sym e)
 
 -- and one in which the root variable is shown
 shows_root : (words : List (List ℕ)) (d : Configuration) (space : List ℕ) (s : State) → (s ≡ Solved) ⊎ (s ≡ Stuck) → term_text words (view d.layers space) (root_of space) ≡ state_text words d space s

@@ -12,8 +12,8 @@ use Rattle.oz_machine.proofs.DoingLaws.{course_view}
 use Rattle.oz_machine.proofs.ToldLaws.{told_turn}
 use Rattle.oz_machine.proofs.told.go_on_told.Goals as goal
 
-pub returns-then-has_triggers-clause-turn : goal.returns-then-has_triggers-clause-turn
-returns-then-has_triggers-clause-turn c = λ statements layers ts changes head alone fits is.
+pub returns-then-not-is_plain-clause-turn : goal.returns-then-not-is_plain-clause-turn
+returns-then-not-is_plain-clause-turn c = λ statements layers ts changes head alone fits is.
     let id = c.args.mover.now in
     let old = c.args.course.now in
     let left = c.drop_terminated.new.self in
@@ -34,7 +34,8 @@ returns-clause-turn c = λ statements layers ts changes head alone fits is.
     let old = c.args.course.now in
     let new = c.drop_terminated.new.self in
     let left = c.leave_alone.ensures in
-    let none = none_there statements new (sym c.has_triggers.ensures ∙ c.if-has_triggers.false) in
-    told_turn statements id layers old.levels new (drop 1 old.queue) (asked statements new (Mover id None) (drop 1 old.queue)) old.shown ts changes c.args.cost head alone fits is c.drop_terminated.ensures none
+    let none = none_there statements new (c.is_plain.ensures.triggers c.if-not-is_plain.false) in
+    let spaceless = c.is_plain.ensures.spaces c.if-not-is_plain.false in
+    told_turn statements id layers old.levels new (drop 1 old.queue) (asked statements new (Mover id None) (drop 1 old.queue)) old.shown ts changes c.args.cost head alone fits is c.drop_terminated.ensures none spaceless
     (c.is_single.ensures c.if-not-is_single.false) (append-nil (drop 1 old.queue ++ able_in statements new id))
     ∙ ap (λ d. (Moved c.args.cost, d)) (sym (course_view statements c.leave_alone.new.course new (Mover id None) (drop 1 old.queue) old.shown left.levels (left.due id c.requires) left.queue left.shown))

@@ -2,8 +2,7 @@ use Rattle.std.proofs.Common.{◌∙◌, ap, sym}
 use Rattle.oz_base.specs.declared.names.Ident.{Ident}
 use Rattle.oz_semantics.specs.Answers as answers
 use Rattle.oz_semantics.specs.Steps.{after_answer, raised, raised_kind, without_top}
-use Rattle.builtins.specs.Answers.{act_of}
-use Rattle.settle_laws.proofs.SettleLaws.{nothing_fails}
+use Rattle.builtins.specs.Answers.{act_of, edit_of}
 use Rattle.oz_machine.specs.Courses.{config_of, stepping}
 use Rattle.oz_machine.proofs.DoingLaws.{ok_turn}
 use Rattle.oz_machine.proofs.turn.make_step.Goals as goal
@@ -15,7 +14,26 @@ returns-in-Rests-clause-turn c = λ a h.
     let now = c.args.course.now in
     let rests = rw c.in-Rests.is at h in
     ap (after_answer k id (without_top id now.levels) (stepping now)) rests.1
-    ∙ c.follow.ensures.turn k.statements id now.levels c.requires.head (nothing_fails id.space now.levels c.consistent.ensures)
+    ∙ c.rest.ensures.turn k.statements id c.requires.head
+
+pub returns-in-Operates-clause-turn : goal.returns-in-Operates-clause-turn
+returns-in-Operates-clause-turn c = λ a h.
+    let k = c.args.kernel.now in
+    let id = c.args.id.now in
+    let now = c.args.course.now in
+    let operates = rw c.in-Operates.is at h in
+    ap (after_answer k id (without_top id now.levels) (stepping now)) operates
+    ∙ c.rest-in-Operates.ensures.turn k.statements id c.requires.head
+
+pub returns-in-Edits-clause-turn : goal.returns-in-Edits-clause-turn
+returns-in-Edits-clause-turn c = λ a h.
+    let k = c.args.kernel.now in
+    let id = c.args.id.now in
+    let now = c.args.course.now in
+    let edits = rw c.in-Edits.is at h in
+    let edit = answers.Edits (edit_of c.in-Edits.edit.now) in
+    ok_turn c.make_edit.result (after_answer k id (without_top id now.levels) (stepping now) a) (after_answer k id (without_top id now.levels) (stepping now) edit) (config_of k.statements c.make_edit.new.course)
+    (ap (after_answer k id (without_top id now.levels) (stepping now)) edits) c.make_edit.ensures.turn
 
 pub returns-in-Acts-clause-turn : goal.returns-in-Acts-clause-turn
 returns-in-Acts-clause-turn c = λ a h.

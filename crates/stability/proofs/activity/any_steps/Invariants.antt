@@ -1,11 +1,12 @@
-use Rattle.std.proofs.Common.{◌≡◌, take, false}
+use Rattle.std.proofs.Common.{◌≡◌, drop}
 use Rattle.std.specs.List.{list_any}
-use Rattle.oz_semantics.specs.Sights.{can_step}
-use Rattle.oz_semantics.specs.Readiness.{thread_ready}
-use Rattle.oz_threads.specs.Sights.{sight_of}
+use Rattle.space_core.specs.Levels.{OfLayer}
+use Rattle.stability.specs.Known.{known}
+use Rattle.stability.proofs.ReadyLaws.{thread_steps}
 use Rattle.stability.proofs.activity.any_steps.Given as goal
 
 -- those passed so far cannot
 abbrev pub invariant-loop-thread : goal.invariant-loop-thread
 invariant-loop-thread l =
-    list_any (λ t. can_step (thread_ready (sight_of l.statements l.space l.store) t)) (take l.thread-index l.threads) ≡ false
+    OfLayer l.levels l.place (λ m. list_any (thread_steps l.statements l.levels (known l.levels l.states) m) (drop l.thread-index l.threads)
+    ≡ list_any (thread_steps l.statements l.levels (known l.levels l.states) m) l.threads)

@@ -2,7 +2,7 @@ use Rattle.std.proofs.Common.{◌≡◌}
 use Rattle.std.specs.Prelude.{position}
 use Rattle.stability.specs.Offers.{offers}
 use Rattle.oz_threads.specs.Sights.{sight_of}
-use Rattle.stability.proofs.Firsts.{from_place}
+use Rattle.stability.specs.Places.{from_place}
 use Rattle.stability.proofs.offers.offering.Given as goal
 
 -- those passed so far offer nothing

@@ -1,24 +1,18 @@
-use Rattle.std.proofs.Common.{sym, ◌∙◌, arith, ◌&&◌}
-use Rattle.oz_semantics.specs.Names.{is_below}
+use Rattle.std.proofs.Common.{sym, ap, ◌∙◌, List, ℕ}
+use Rattle.std.specs.List.{list_any}
 use Rattle.oz_semantics.specs.Configurations.{ancestor_variables}
-use Rattle.oz_semantics.specs.Spaces.{layer_waits}
+use Rattle.oz_semantics.specs.Spaces.{layers_below, layer_waits}
 use Rattle.oz_semantics.specs.declared.configuration.Layer.{Layer}
-use Rattle.stability.proofs.Among.{any_found, any_left, any_end, any-filter}
+use Rattle.stability.specs.Known.{known}
+use Rattle.stability.proofs.ReadyLaws.{same_ok}
 use Rattle.stability.proofs.waits.waits_outside.Goals as goal
-
-pub returns-then-branch : goal.returns-then-branch
-returns-then-branch c =
-    any_found (λ (l : Layer). is_below c.args.space.now l.space && layer_waits c.args.statements.now c.args.levels.now (ancestor_variables c.args.levels.now c.args.space.now) l)
-    c.args.levels.now c.loop-place.place _ (omega arith) c.loop-place.invariant (λ l e. sym c.if-branch.true ∙ c.in_ok-waits_below.ensures l e)
-    ∙ sym (any-filter (layer_waits c.args.statements.now c.args.levels.now (ancestor_variables c.args.levels.now c.args.space.now)) (λ (l : Layer). is_below c.args.space.now l.space) c.args.levels.now)
-
-pub loop-place-preserved : goal.loop-place-preserved
-loop-place-preserved c =
-    any_left (λ (l : Layer). is_below c.args.space.now l.space && layer_waits c.args.statements.now c.args.levels.now (ancestor_variables c.args.levels.now c.args.space.now) l)
-    c.args.levels.now c.loop-place.place _ (omega arith) c.loop-place.invariant (λ l e. sym c.if-branch.false ∙ c.in_ok-waits_below.ensures l e)
 
 pub returns : goal.returns
 returns c =
-    any_end (λ (l : Layer). is_below c.args.space.now l.space && layer_waits c.args.statements.now c.args.levels.now (ancestor_variables c.args.levels.now c.args.space.now) l)
-    c.args.levels.now c.loop-place.place _ (omega arith) c.loop-place.invariant
-    ∙ sym (any-filter (layer_waits c.args.statements.now c.args.levels.now (ancestor_variables c.args.levels.now c.args.space.now)) (λ (l : Layer). is_below c.args.space.now l.space) c.args.levels.now)
+    λ l e.
+    let layers = c.args.levels.now in
+    let states = known layers c.args.states.now in
+    same_ok c.part_waits.result
+    (ap (λ (ls : List Layer). list_any (layer_waits c.args.statements.now layers states (ancestor_variables layers c.space_at.result.now)) ls) (sym (c.end_of-end.ensures.all l e))
+    ∙ ap (λ (s : List ℕ). list_any (layer_waits c.args.statements.now layers states (ancestor_variables layers s)) (layers_below layers l.space)) (c.space_at.ensures l e))
+    c.part_waits.ensures

@@ -15,10 +15,10 @@ returns c =
     let xs = variables_of c.args.arguments.now in
     let e : length xs ≡ arguments_of b = sym c.len.ensures ∙ c.if-len-count.false ∙ c.arguments_of-count.ensures in
     IfOk-weaker c.ready_given.result _ _
-    (λ r h statements space.
-    let s : Sight = record { statements = statements; space = space; view = c.args.store.now } in
+    (λ r h statements.
+    let s : Sight = record { statements = statements; space = c.args.space.now; view = c.args.store.now } in
     ready_along c.args.store.now _ _ r (sym (ap answer_ready (call_is s b xs e)))
-    (h statements space (argument xs)
+    (h statements (argument xs)
     (inputs_at b xs c.variable.result.now c.variable-2.result.now c.arguments_of-count.result c.place_within.result c.arguments_of-count.ensures (c.variable.ensures ∙ c.in_ok-first.ensures) c.place_within.ensures
     (c.variable-2.ensures ∙ c.in_ok-second.ensures))))
     c.ready_given.ensures

@@ -12,10 +12,10 @@ pub returns : goal.returns
 returns c =
     let e = c.args.environment.now in
     IfOk-weaker c.ready_called.result _ _
-    (λ r h statements space.
-    let s : Sight = record { statements = statements; space = space; view = c.args.store.now } in
+    (λ r h statements.
+    let s : Sight = record { statements = statements; space = c.args.space.now; view = c.args.store.now } in
     ready_along c.args.store.now _ _ r
     (ap (λ x. answer_ready (called s x (map (bound e) c.as_slice.result.now))) (c.variable.ensures ∙ c.in_ok-procedure.ensures)
     ∙ ap (λ (ns : List Identifier). answer_ready (called s (bound e c.args.procedure) (map (bound e) ns))) c.as_slice.ensures)
-    (h statements space))
+    (h statements))
     c.ready_called.ensures

@@ -12,7 +12,7 @@ use Rattle.statements.proofs.readiness.ready_called.Goals as goal
 pub returns : goal.returns
 returns c =
     IfOk-weaker c.ready_given.result _ _
-    (λ r h statements space.
-    let s : Sight = record { statements = statements; space = space; view = c.args.store.now } in
-    ready_along c.args.store.now _ _ r (ap (λ (o : Option Value). answer_ready (given c.args.procedure.now o (value_called s (variables_of c.args.arguments.now)))) c.value-value.ensures) (h statements space))
+    (λ r h statements.
+    let s : Sight = record { statements = statements; space = c.args.space.now; view = c.args.store.now } in
+    ready_along c.args.store.now _ _ r (ap (λ (o : Option Value). answer_ready (given c.args.procedure.now o (value_called s (variables_of c.args.arguments.now)))) c.value-value.ensures) (h statements))
     c.ready_given.ensures

@@ -9,7 +9,7 @@ use Rattle.statements.proofs.readiness.ready_numbered.Goals as goal
 pub returns-in-Some : goal.returns-in-Some
 returns-in-Some c =
     IfOk-weaker c.ready_statement.result _ _
-    (λ r h statements space.
-    let s : Sight = record { statements = statements; space = space; view = c.args.store.now } in
-    ready_along c.args.store.now _ _ r (ap (λ o. answer_ready (numbered_answer s c.args.environment.now (option_copied o))) (sym c.in-Some.is)) (h statements space))
+    (λ r h statements.
+    let s : Sight = record { statements = statements; space = c.args.space.now; view = c.args.store.now } in
+    ready_along c.args.store.now _ _ r (ap (λ o. answer_ready (numbered_answer s c.args.environment.now (option_copied o))) (sym c.in-Some.is)) (h statements))
     c.ready_statement.ensures

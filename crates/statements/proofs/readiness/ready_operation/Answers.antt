@@ -12,7 +12,7 @@ use Rattle.statements.proofs.readiness.ready_operation.Goals as goal
 pub returns : goal.returns
 returns c =
     IfOk-weaker c.ready_builtin.result _ _
-    (λ r h statements space.
-    let s : Sight = record { statements = statements; space = space; view = c.args.store.now } in
-    ready_along c.args.store.now _ _ r (ap (λ (ns : List Identifier). answer_ready (call_answer s (Operation c.args.operation) (map (bound c.args.environment.now) ns))) c.as_slice.ensures) (h statements space))
+    (λ r h statements.
+    let s : Sight = record { statements = statements; space = c.args.space.now; view = c.args.store.now } in
+    ready_along c.args.store.now _ _ r (ap (λ (ns : List Identifier). answer_ready (call_answer s (Operation c.args.operation) (map (bound c.args.environment.now) ns))) c.as_slice.ensures) (h statements))
     c.ready_builtin.ensures

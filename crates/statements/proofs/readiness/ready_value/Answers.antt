@@ -11,7 +11,7 @@ use Rattle.statements.proofs.readiness.ready_value.Goals as goal
 pub returns-in-Builtin : goal.returns-in-Builtin
 returns-in-Builtin c =
     IfOk-weaker c.ready_builtin.result _ _
-    (λ r h statements space.
-    let s : Sight = record { statements = statements; space = space; view = c.args.store.now } in
-    ready_along c.args.store.now _ _ r (ap (λ (v : Value). answer_ready (value_called s (variables_of c.args.arguments.now) v)) (sym c.in-Builtin.is)) (h statements space))
+    (λ r h statements.
+    let s : Sight = record { statements = statements; space = c.args.space.now; view = c.args.store.now } in
+    ready_along c.args.store.now _ _ r (ap (λ (v : Value). answer_ready (value_called s (variables_of c.args.arguments.now) v)) (sym c.in-Builtin.is)) (h statements))
     c.ready_builtin.ensures

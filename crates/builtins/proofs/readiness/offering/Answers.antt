@@ -1,0 +1,7 @@
+use Rattle.std.proofs.Common.{refl, ap}
+use Rattle.oz_semantics.specs.Sights.{Number}
+use Rattle.builtins.specs.Looks.{offering}
+use Rattle.builtins.proofs.readiness.offering.Goals as goal
+
+pub returns-in-Some : goal.returns-in-Some
+returns-in-Some c = λ view x. (Number c.in-Some.count x, ap (offering x) c.in-Some.is, refl)

@@ -1,0 +1,11 @@
+pub mod NameLaws
+pub mod GraftLaws
+pub mod NumberedLaws
+pub mod TopLaws
+pub mod CopyLaws
+pub mod MergeLaws
+pub mod ViewLaws
+pub mod CopySights
+pub mod MergeSights
+pub mod ToldSights
+pub mod OutsideLaws

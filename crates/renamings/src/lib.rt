@@ -1,0 +1,80 @@
+//! Where names go when a computation space is copied, and when it becomes a part of the space that it is in (Schulte 4).
+#![tactic(auto)]
+
+mod given;
+mod renaming;
+
+pub use given::{GivenOut, Kind};
+pub use renaming::Renaming;
+
+#[cfg(test)]
+mod tests {
+    use super::*;
+    use oz_base::{Ident, SpaceName, same_space};
+    use std::alloc::{AllocError, Global};
+    use std::test::Fail;
+
+    fn space_of(alloc: Global, numbers: &[u64]) -> Result<SpaceName, AllocError> {
+        let mut space = SpaceName::top();
+        for number in numbers {
+            space = space.child(alloc, *number)?;
+        }
+        Ok(space)
+    }
+
+    fn goes(
+        alloc: Global,
+        renaming: &Renaming,
+        from: &[u64],
+        to: &[u64],
+    ) -> Result<bool, AllocError> {
+        let renamed = renaming.space(alloc, &space_of(alloc, from)?)?;
+        Ok(same_space(&renamed, &space_of(alloc, to)?))
+    }
+
+    #[test]
+    fn moves_a_space_and_those_below(rt: HostRuntime) -> Result<(), Fail> {
+        let alloc = rt.alloc();
+        let renaming = Renaming::Move {
+            from: space_of(alloc, &[1, 2])?,
+            to: space_of(alloc, &[1, 7])?,
+        };
+        assert!(rt; goes(alloc, &renaming, &[1, 2], &[1, 7])?);
+        assert!(rt; goes(alloc, &renaming, &[1, 2, 5, 6], &[1, 7, 5, 6])?);
+        assert!(rt; goes(alloc, &renaming, &[1], &[1])?);
+        assert!(rt; goes(alloc, &renaming, &[1, 3], &[1, 3])?);
+        Ok(())
+    }
+
+    #[test]
+    fn merges_behind_what_was_given_out(rt: HostRuntime) -> Result<(), Fail> {
+        let alloc = rt.alloc();
+        let renaming = Renaming::Merge {
+            child: space_of(alloc, &[2])?,
+            parent: SpaceName::top(),
+            given: GivenOut {
+                variables: 40,
+                procedures: 30,
+                names: 20,
+                cells: 10,
+                ports: 5,
+                children: 3,
+            },
+        };
+        assert!(rt; goes(alloc, &renaming, &[2], &[2])?);
+        assert!(rt; goes(alloc, &renaming, &[2, 1, 9], &[4, 9])?);
+        assert!(rt; goes(alloc, &renaming, &[1, 1], &[1, 1])?);
+        let inner = Ident {
+            space: space_of(alloc, &[2])?,
+            number: 7,
+        };
+        assert_eq!(rt; renaming.ident(alloc, Kind::Variable, &inner)?.number, 47);
+        assert_eq!(rt; renaming.ident(alloc, Kind::Port, &inner)?.number, 12);
+        let last = Ident {
+            space: inner.space,
+            number: u64::MAX,
+        };
+        assert!(rt; renaming.ident(alloc, Kind::Cell, &last).is_err());
+        Ok(())
+    }
+}

@@ -1,0 +1,9 @@
+use Rattle.std.proofs.Common.{◌≡◌, map, take}
+use Rattle.oz_semantics.specs.Renamings.{renamed_thread}
+use Rattle.renamed_terms.specs.Meanings.{renaming_of}
+use Rattle.space_core.specs.Merging.{raised_by}
+use Rattle.space_core.proofs.threads.raised_all.Given as goal
+
+-- those so far
+abbrev pub invariant-loop-thread : goal.invariant-loop-thread
+invariant-loop-thread l = l.after.items ≡ map (raised_by l.raise) (map (renamed_thread (renaming_of l.by)) (take l.thread-index l.threads))
