@@ -1,14 +1,10 @@
 -- What acts come to.
-use Rattle.std.proofs.Common.{◌≡◌, ◌<◌, ◌≤◌, ℕ, ◌+◌, ◌-◌, List, [], ◌∷◌, length, map, drop, get_or, refl, sym, ap, ◌∙◌, arith}
-use Rattle.std.proofs.lemmas.Option.{unwrap_or-slice_get}
-use Rattle.std.proofs.lemmas.List.FromFn.{get_or-map-range_with_len, length-map-range_with_len}
+use Rattle.std.proofs.Common.{◌≡◌, ℕ, ◌-◌, List, [], ◌∷◌, length, map, refl, sym, ap, ◌∙◌, arith}
 use Rattle.std.specs.List.{range_with_len}
 use Rattle.oz_base.specs.declared.names.Ident.{Ident}
-use Rattle.environments.specs.Environments.{Environment, binding, binding_all, nowhere}
+use Rattle.environments.specs.Environments.{Environment, binding_all}
 use Rattle.oz_language.specs.declared.kernel.Identifier.{Identifier}
 use Rattle.oz_semantics.specs.Names.{named}
-use Rattle.oz_semantics.specs.Answers.{argument}
-use Rattle.statements.proofs.BindLaws.{bind_front}
 use Rattle.oz_semantics.specs.Terms.{Term, term_tells, nodes_inside}
 use Rattle.oz_semantics.specs.Configurations.{layer_of, fresh_variables, frames_of}
 use Rattle.oz_semantics.specs.Effects.{procedure_made}
@@ -32,18 +28,6 @@ pub declared_frames : (layers : List Layer) (space : List ℕ) (next : Next) (na
     → frames ≡ frames_of (binding_all names (fresh_variables (layer_of layers space) (length names)) environment) body
 declared_frames layers space next names body environment inner frames e g h =
     h ∙ ap (λ inside. frames_of inside body) (g ∙ ap (λ xs. binding_all names xs environment) (fresh_named layers space next (length names) e))
-
--- the last variable but those that are bound
-pub bound_next : (names : List Identifier) (space : List ℕ) (from left number : ℕ) (e : Environment) (d : Identifier) → 0 < left → left ≤ length names → number ≡ from + (left - 1)
-    → binding (get_or names (left - 1) d) (named space number) (binding_all (drop left names) (drop left (map (named space) (range_with_len from (length names)))) e)
-    ≡ binding_all (drop (left - 1) names) (drop (left - 1) (map (named space) (range_with_len from (length names)))) e
-bound_next names space from left number e d p h n =
-    let xs = map (named space) (range_with_len from (length names)) in
-    let there : argument xs (left - 1) ≡ named space number =
-    unwrap_or-slice_get xs (left - 1) nowhere
-    ∙ get_or-map-range_with_len (named space) from (length names) (left - 1) number nowhere (omega arith) (sym n) in
-    ap (λ x. binding (get_or names (left - 1) d) x (binding_all (drop left names) (drop left xs) e)) (sym there)
-    ∙ bind_front names xs e left d p h (sym (length-map-range_with_len (named space) from (length names)))
 
 -- a term has one node less inside
 pub nodes_inside-length : (t : Term) → nodes_inside t ≡ length t - 1

@@ -1,8 +1,6 @@
 //! What a statement's act does to the layers.
-ghost use Rattle.std.specs.Prelude.{◌≡◌, ◌+◌, true, false, is_some, length, map, option_to_list, IfOk, OnOk, OnErr};
-ghost use Rattle.std.specs.List.{range_with_len};
-ghost use Rattle.environments.specs.Environments.{Environment, binding_all};
-ghost use Rattle.oz_semantics.specs.Names.{named};
+ghost use Rattle.std.specs.Prelude.{◌≡◌, true, false, is_some, option_to_list, IfOk, OnErr};
+ghost use Rattle.environments.specs.Environments.{Environment};
 ghost use Rattle.oz_semantics.specs.Terms.{list_term, term_tells};
 ghost use Rattle.oz_semantics.specs.Configurations.{layer_of, layer_at};
 ghost use Rattle.oz_raise.specs.Nodes.{term_of};
@@ -16,44 +14,14 @@ use crate::numbers::next_of;
 use crate::objects::{exchange, make_cell, make_name, make_port, read_cell, send};
 use builtins::{Act, Closure, Declaration};
 use environments::Environment;
-use oz_base::{Copies, Ident, Sequence, Shared, SpaceName};
-use oz_language::{Constant, Identifier};
+use oz_base::{Copies, Ident, Sequence, Shared};
+use oz_language::Constant;
 use oz_raise::{Node, list_term, term_tells};
 use oz_semantics::{Procedure, Tell, Value};
-use space_core::{Given, Levels};
+use space_core::{Given, Levels, bind_from};
 use statements::frames_of;
 use std::alloc::{AllocError, Global};
 use std::mem;
-
-/// The number that comes so many after this one. It refuses where that is more than 2^64 - 1.
-fn number_after(from: u64, count: usize) -> Result<u64, AllocError>
-    ensures { IfOk result (λ number. number ≡ from + count) }
-{
-    match from.checked_add(count as u64) {
-        Some(number) => Ok(number),
-        None => Err(AllocError),
-    }
-}
-
-/// The identifiers stand for as many variables of the space, from this number on.
-fn bind_from(
-    alloc: Global,
-    environment: &mut Environment,
-    names: &[Identifier],
-    space: &SpaceName,
-    from: u64,
-) -> Result<(), AllocError>
-    ensures { OnOk result (environment.new ≡ binding_all names.now (map (named space.now) (range_with_len from (length names.now))) environment.old) }
-{
-    let mut left = names.len();
-    'names: while left > 0 {
-        left -= 1;
-        let number = number_after(from, left)?;
-        let space = space.copied(alloc)?;
-        environment.bind(alloc, names[left], Ident { space, number })?;
-    }
-    Ok(())
-}
 
 /// A body goes on, in which the identifiers stand for new variables.
 fn declare(

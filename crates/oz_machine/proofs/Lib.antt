@@ -10,3 +10,4 @@ pub mod StepEdits
 pub mod RunLaws
 pub mod ToldLaws
 pub mod OpeningLaws
+pub mod EditingLaws

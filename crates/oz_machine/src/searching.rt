@@ -46,7 +46,7 @@ pub fn root(
 }
 
 /// The layers, where a space that offers alternatives is committed to one of them, from 1.
-fn commit_in(
+pub fn commit_in(
     alloc: Global,
     statements: &[Statement],
     space: &SpaceName,

@@ -103,7 +103,8 @@ fn make_edit(
     ensures cost { IfOk result (λ stepped. cost_of stepped ≡ 1) }
     ensures err { OnErr result (course.new ≡ course.old) }
 {
-    if !edit(alloc, &mut course.levels, id, what)? {
+    let statements = kernel.statements.as_slice();
+    if !edit(alloc, statements, &mut course.levels, id, what)? {
         return raise_kind(alloc, id, RaiseKind::FailureTell, course);
     }
     Ok(go_on(id, 1, course))

@@ -14,7 +14,7 @@ use Rattle.space_core.specs.Anew.{IsLoose, IsAnew}
 use Rattle.space_core.specs.Fates.{IsStale}
 use Rattle.space_core.specs.Shown.{shown, shown_all, Fits, IsSound}
 use Rattle.space_core.specs.declared.level.Level.{Level}
-use Rattle.space_core.proofs.FateLaws.{settled_shows, settled_sound}
+use Rattle.space_core.proofs.FateLaws.{fates_show, fates_sound}
 
 module _ (space : List ℕ) (levels : List Level) (loose : IsLoose space levels) where
   abbrev layers : List Layer
@@ -52,8 +52,8 @@ module _ (space : List ℕ) (levels : List Level) (loose : IsLoose space levels)
     pub anew_settles : Settles space layers (shown_all news)
     anew_settles = record {
       below = all_below;
-      left = ap shown_all anew.left ∙ settled_shows space layers loose.tree all_below levels refl anew.fates anew.are.as_many (anew.are.right stale) loose.fits;
+      left = ap shown_all anew.left ∙ fates_show space layers loose.tree all_below levels refl anew.fates anew.are.as_many (anew.are.right stale) loose.fits;
     }
 
     pub anew_sound : IsSound news
-    anew_sound = subst IsSound (sym anew.left) (settled_sound space layers loose.tree all_below levels refl anew.fates anew.are.as_many (anew.are.right stale) loose.fits)
+    anew_sound = subst IsSound (sym anew.left) (fates_sound space layers loose.tree all_below levels refl anew.fates anew.are.as_many (anew.are.right stale) loose.fits)

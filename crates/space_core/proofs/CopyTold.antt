@@ -116,7 +116,7 @@ module _ (levels : List Level) (layers : List Layer) (viewed : shown_all levels 
       ∙ ap (filter (is_in child)) (sym viewed)
 
   pub copy_clash : ClashesAlone (counting_by id.number) place ts levels → (new : List Layer) → new ≡ layers → IsEdited id (Copies child variable) layers new false
-  copy_clash c new e = (sees_are ∙ clash_alone levels id.space place s h (counting_by id.number) ts c, e)
+  copy_clash c new e = λ statements. (sees_are ∙ clash_alone levels id.space place s h (counting_by id.number) ts c, e)
 
   module _ (told : List Level) (t : ToldAlone (counting_by id.number) place ts levels told) (news : List Level) (put : ArePlacedBy (Move child copy) levels told news) where
     told_is : shown_all told ≡ in_layer id.space counting_child before
@@ -173,9 +173,8 @@ module _ (levels : List Level) (layers : List Layer) (viewed : shown_all levels 
       copy_sound = anew_sound id.space news loose_news final anew
 
       pub copy_edited : IsEdited id (Copies child variable) layers (shown_all final) true
-      copy_edited = (
+      copy_edited = λ statements. (
         sees_are ∙ alone_consistent levels id.space place s h (counting_by id.number) (λ k. refl) ts told t,
-        λ statements.
             subst (λ (us : List Tell). Settles id.space (copied id.space child (in_layer id.space (telling us) popped)) (shown_all final)) tells_are
             (subst (λ (ls : List Layer). Settles id.space ls (shown_all final)) shows (anew_settles id.space news loose_news final anew)),
       )

@@ -21,7 +21,7 @@ use Rattle.view_laws.proofs.NameLaws.{below_itself, properly, properly_trans}
 use Rattle.view_laws.proofs.SightLaws.{view_splits}
 use Rattle.view_laws.proofs.TreeLaws.{trees_lead}
 use Rattle.space_core.specs.Ending.{fallen}
-use Rattle.space_core.specs.Fates.{IsSeen, IsFailing, IsUnder, IsAfter, IsDecided, IsChosen, falls, seeing, IsFallen, IsFate, IsStale, EachFate, left_as, settled}
+use Rattle.space_core.specs.Fates.{IsSeen, IsFailing, IsUnder, IsAfter, IsDecided, IsChosen, falls, seeing, IsFallen, IsFate, IsStale, EachFate, left_as, with_fates}
 use Rattle.space_core.specs.Shown.{next_with, shown, shown_all, seen_above, is_home, Traces, Fits, IsSound}
 use Rattle.space_core.specs.declared.fates.Fate.{Fate}
 use Rattle.space_core.specs.declared.fates.Fate.TheVariants.{Stays, Gone, Fails, Sees}
@@ -190,19 +190,19 @@ module _ (space : List ℕ) (layers : List Layer) (tree : IsTree layers) (below 
   one_shows l (Fails store) h = ap (λ (k : Layer). k ∷ []) (shown_fallen store l) ∙ sym (left_fallen layers (shown l) h.1.parent h.1.itself)
   one_shows l (Sees seen) h = ap (λ (k : Layer). k ∷ []) (shown_seeing seen l h.1.tells) ∙ sym (left_standing layers (shown l) h.1.itself)
 
-  all_show : (fates : List Fate) (ls : List Level) → length fates ≡ length ls → EachFate space ls fates layers → shown_all (settled fates ls) ≡ flat_map (left_of bad) (shown_all ls)
+  all_show : (fates : List Fate) (ls : List Level) → length fates ≡ length ls → EachFate space ls fates layers → shown_all (with_fates fates ls) ≡ flat_map (left_of bad) (shown_all ls)
   all_show [] [] e each = refl
   all_show [] (l ∷ ls) e each = absurd (omega (arith, e))
   all_show (fate ∷ fates) [] e each = absurd (omega (arith, e))
   all_show (fate ∷ fates) (l ∷ ls) e each =
-      shown_parts (left_as fate l) (settled fates ls)
+      shown_parts (left_as fate l) (with_fates fates ls)
       ∙ ap₂ (λ (js ks : List Layer). js ++ ks) (one_shows l fate (each 0 l fate refl refl)) (all_show fates ls (omega (arith, e)) (λ n k g a b. each (suc n) k g a b))
 
-  all_from : (fates : List Fate) (ls : List Level) → length fates ≡ length ls → EachFate space ls fates layers → (n : Level) → In n (settled fates ls) → IsFrom space layers ls n
+  all_from : (fates : List Fate) (ls : List Level) → length fates ≡ length ls → EachFate space ls fates layers → (n : Level) → In n (with_fates fates ls) → IsFrom space layers ls n
   all_from [] [] e each n h = elim h [ ]
   all_from [] (l ∷ ls) e each n h = absurd (omega (arith, e))
   all_from (fate ∷ fates) [] e each n h = absurd (omega (arith, e))
-  all_from (fate ∷ fates) (l ∷ ls) e each n h = elim (In-cases n (left_as fate l) (settled fates ls) h) [
+  all_from (fate ∷ fates) (l ∷ ls) e each n h = elim (In-cases n (left_as fate l) (with_fates fates ls) h) [
     | inl k ↦ record { before = l; fate = fate; among = inl refl; right = each 0 l fate refl refl; left = k }
     | inr k ↦ (let r = all_from fates ls (omega (arith, e)) (λ m j g a b. each (suc m) j g a b) n k in record { before = r.before; fate = r.fate; among = inr r.among; right = r.right; left = r.left })
   ]
@@ -233,8 +233,8 @@ module _ (space : List ℕ) (layers : List Layer) (tree : IsTree layers) (below 
   -- All of them
   module _ (levels : List Level) (shows : shown_all levels ≡ layers) (fates : List Fate) (many : length fates ≡ length levels) (each : EachFate space levels fates layers)
       (fits : (l : Level) → Contains levels l → is_properly_below space l.space ≡ false → Fits layers l) where
-    pub settled_shows : shown_all (settled fates levels) ≡ left
-    settled_shows = all_show fates levels many each ∙ ap (flat_map (left_of bad)) shows ∙ sym (fold_left bad layers tree)
+    pub fates_show : shown_all (with_fates fates levels) ≡ left
+    fates_show = all_show fates levels many each ∙ ap (flat_map (left_of bad)) shows ∙ sym (fold_left bad layers tree)
 
     one_fits : (n : Level) → In (shown n) left → IsFrom space layers levels n → Fits left n
     one_fits n there r = by r.fate r.right r.left
@@ -248,11 +248,11 @@ module _ (space : List ℕ) (layers : List Layer) (tree : IsTree layers) (below 
         by (Sees seen) h (inl q) = subst (Fits left) q (fits_standing (seeing seen r.before) h.1.fits h.1.itself)
         by (Sees seen) h (inr q) = elim q [ ]
 
-    pub settled_sound : IsSound (settled fates levels)
-    settled_sound = record {
-      tree = subst IsTree (sym settled_shows) (left_tree layers tree);
+    pub fates_sound : IsSound (with_fates fates levels)
+    fates_sound = record {
+      tree = subst IsTree (sym fates_show) (left_tree layers tree);
       fits = λ n c.
-          subst (λ (ls : List Layer). Fits ls n) (sym settled_shows)
-          (one_fits n (subst (In (shown n)) settled_shows (map_in shown (settled fates levels) n (In-from_contains (settled fates levels) n c)))
-          (all_from fates levels many each n (In-from_contains (settled fates levels) n c)));
+          subst (λ (ls : List Layer). Fits ls n) (sym fates_show)
+          (one_fits n (subst (In (shown n)) fates_show (map_in shown (with_fates fates levels) n (In-from_contains (with_fates fates levels) n c)))
+          (all_from fates levels many each n (In-from_contains (with_fates fates levels) n c)));
     }

@@ -24,7 +24,7 @@ pub mod LayerLaws
 pub mod FallLaws
 pub mod FateLaws
 pub mod RemakeLaws
-pub mod SettledLaws
+pub mod FatedLaws
 pub mod DeclareLaws
 pub mod AdvanceLaws
 pub mod ThroughLaws

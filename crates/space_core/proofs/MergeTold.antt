@@ -168,7 +168,7 @@ module _ (levels : List Level) (layers : List Layer) (viewed : shown_all levels 
   under_parent = let c = child_of id.space child has.below in subst (λ (p : List ℕ). is_properly_below id.space p ≡ true) (sym c.1) (properly_front id.space c.0 [])
 
   pub merge_clash : (r : Renaming) → ClashesAlone (joining_by r inner id.number) place tells levels → (new : List Layer) → new ≡ layers → IsEdited id (TakesIn child variable) layers new false
-  merge_clash r c new e = (sees_are ∙ clash_alone levels id.space place s h (joining_by r inner id.number) tells c, e)
+  merge_clash r c new e = λ statements. (sees_are ∙ clash_alone levels id.space place s h (joining_by r inner id.number) tells c, e)
 
   module _ (by : Names) (is_by : by ≡ Merge inner.space outer.space (given_out_by outer)) (told : List Level) (t : ToldAlone (joining_by (renaming_of by) inner id.number) place tells levels told)
       (cut : List Level) (cutting : cut ≡ filter (λ (l : Level). not (is_properly_below child l.space)) told) (left : ℕ) (hl : PlaceIn cut child left) (lc m : Level) (el : lc ≡ slice_index_or cut left lc) (away : IsMergedAway lc m)
@@ -324,9 +324,8 @@ module _ (levels : List Level) (layers : List Layer) (viewed : shown_all levels 
       merge_sound = anew_sound id.space news loose_news final anew
 
       pub merge_edited : IsEdited id (TakesIn child variable) layers (shown_all final) true
-      merge_edited = (
+      merge_edited = λ statements. (
         sees_are ∙ alone_consistent levels id.space place s h join (λ k. refl) tells told t,
-        λ statements.
             subst (λ (us : List Tell). Settles id.space (taken_in id.space child (in_layer id.space (telling us) popped)) (shown_all final)) tells_are
             (subst (λ (ls : List Layer). Settles id.space ls (shown_all final)) shows (anew_settles id.space news loose_news final anew)),
       )

@@ -23,7 +23,7 @@ use Rattle.view_laws.proofs.Members.{decide, not_both, each}
 use Rattle.view_laws.proofs.ListLaws.{map_in}
 use Rattle.view_laws.proofs.NameLaws.{properly, names_equal, equal_names}
 use Rattle.view_laws.proofs.TreeLaws.{above_not_less, one_of_name}
-use Rattle.space_core.specs.Fates.{IsFate, IsStale, EachFate, AreFates, left_as, settled}
+use Rattle.space_core.specs.Fates.{IsFate, IsStale, EachFate, AreFates, left_as, with_fates}
 use Rattle.space_core.specs.Places.{IsFirst}
 use Rattle.space_core.specs.Shown.{shown, shown_all, is_home, Fits, IsSound}
 use Rattle.space_core.specs.Telling.{has_below, IsToldMore, IsAlone, IsRemade, IsLeft}
@@ -31,7 +31,7 @@ use Rattle.space_core.specs.declared.fates.Fate.{Fate}
 use Rattle.space_core.specs.declared.fates.Fate.TheVariants.{Stays, Gone, Fails, Sees}
 use Rattle.space_core.specs.declared.level.Level.{Level}
 use Rattle.space_core.proofs.AnswerLaws.{PlaceIn}
-use Rattle.space_core.proofs.FateLaws.{got_in, not_under_itself, settled_shows, settled_sound}
+use Rattle.space_core.proofs.FateLaws.{got_in, not_under_itself, fates_show, fates_sound}
 use Rattle.space_core.proofs.Firsts.{Found, position_here, position_later, found_by_position}
 use Rattle.space_core.proofs.MemberLaws.{IsElsewhere, elsewhere_in, set_member}
 use Rattle.space_core.proofs.SoundLaws.{all_home, none_inconsistent, place_within, place_member}
@@ -87,14 +87,14 @@ less_before (i ∷ ls) zero (suc m) j k o l e f =
 less_before (i ∷ ls) (suc n) (suc m) j k o l e f = less_before ls n m j k (and-right _ _ o) (omega (arith, l)) e f
 
 -- where all up to a place stay as they are, so does what stands there
-settled_at : (fates : List Fate) (ls : List Level) (n : ℕ) (l : Level) → ((m : ℕ) → m ≤ n → (fate : Fate) → slice_get fates m ≡ Some fate → fate ≡ Stays) → slice_get ls n ≡ Some l
-    → slice_get (settled fates ls) n ≡ Some l
-settled_at [] ls n l stay e = e
-settled_at (fate ∷ fates) [] n l stay e = cc
-settled_at (fate ∷ fates) (k ∷ ls) zero l stay e = ap (λ (f : Fate). slice_get (left_as f k ++ settled fates ls) 0) (stay 0 (omega arith) fate refl) ∙ e
-settled_at (fate ∷ fates) (k ∷ ls) (suc n) l stay e =
-    ap (λ (f : Fate). slice_get (left_as f k ++ settled fates ls) (suc n)) (stay 0 (omega arith) fate refl)
-    ∙ settled_at fates ls n l (λ m w f h. stay (suc m) (omega (arith, w)) f h) e
+fates_at : (fates : List Fate) (ls : List Level) (n : ℕ) (l : Level) → ((m : ℕ) → m ≤ n → (fate : Fate) → slice_get fates m ≡ Some fate → fate ≡ Stays) → slice_get ls n ≡ Some l
+    → slice_get (with_fates fates ls) n ≡ Some l
+fates_at [] ls n l stay e = e
+fates_at (fate ∷ fates) [] n l stay e = cc
+fates_at (fate ∷ fates) (k ∷ ls) zero l stay e = ap (λ (f : Fate). slice_get (left_as f k ++ with_fates fates ls) 0) (stay 0 (omega arith) fate refl) ∙ e
+fates_at (fate ∷ fates) (k ∷ ls) (suc n) l stay e =
+    ap (λ (f : Fate). slice_get (left_as f k ++ with_fates fates ls) (suc n)) (stay 0 (omega arith) fate refl)
+    ∙ fates_at fates ls n l (λ m w f h. stay (suc m) (omega (arith, w)) f h) e
 
 -- What is not below the space stays
 stays_apart : (space : List ℕ) (layers : List Layer) (l : Level) (fate : Fate) → is_properly_below space l.space ≡ false → IsFate space layers l fate → fate ≡ Stays
@@ -272,17 +272,17 @@ module _ (levels : List Level) (space : List ℕ) (place : ℕ) (x : Layer) (h :
                 by true f = inr (grind (arith, nat_tests, f))
                 by false f = inl (grind (arith, nat_tests, f, w))
 
-    item_stays : slice_get (settled fates told_levels) place ≡ Some m
-    item_stays = settled_at fates told_levels place m before_stays (set_there levels place m within)
+    item_stays : slice_get (with_fates fates told_levels) place ≡ Some m
+    item_stays = fates_at fates told_levels place m before_stays (set_there levels place m within)
 
-    sound_after : IsSound (settled fates told_levels)
-    sound_after = settled_sound space after tree below told_levels told_shows fates many told_right told_fits
+    sound_after : IsSound (with_fates fates told_levels)
+    sound_after = fates_sound space after tree below told_levels told_shows fates many told_right told_fits
 
-    remade_by : Told levels (settled fates told_levels) space place ts m
+    remade_by : Told levels (with_fates fates told_levels) space place ts m
     remade_by = record {
-      settles = record { below = below; left = settled_shows space after tree below told_levels told_shows fates many told_right told_fits };
+      settles = record { below = below; left = fates_show space after tree below told_levels told_shows fates many told_right told_fits };
       sound = sound_after;
-      here = subst (λ (p : List ℕ). PlaceIn (settled fates told_levels) p place) told_name (here_at (settled fates told_levels) sound_after place m item_stays);
+      here = subst (λ (p : List ℕ). PlaceIn (with_fates fates told_levels) p place) told_name (here_at (with_fates fates told_levels) sound_after place m item_stays);
       item = item_stays;
     }
 

@@ -105,65 +105,50 @@ module _ (id : Ident) (old : List Layer) (there : is_some (layer_at old id.space
     sees_are = ap₂ (λ (us vs : List Tell). is_consistent (us ++ vs)) (pop_view id old id.space) (sym tells_are)
 
     pub create_clash : (mid : List Layer) → IsAdvanced id ts [] old mid false → IsEdited id (Creates procedure variable) old old false
-    create_clash mid a = (sees_are ∙ a.0, refl)
+    create_clash mid a = λ statements. (sees_are ∙ a.0, refl)
 
     pub create_there : (mid : List Layer) → IsAdvanced id ts [] old mid true → is_some (layer_at mid id.space) ≡ true
     create_there mid a = ap is_some ((keeps_own id.space (told ts) mid a.1).at ∙ told_at ts)
 
     pub create_done : IsTree old → (mid new : List Layer) → IsAdvanced id ts [] old mid true → new ≡ created id.space procedure mid → IsEdited id (Creates procedure variable) old new true
-    create_done tree mid new a e = (
+    create_done tree mid new a e = λ statements. (
       sees_are ∙ a.0,
-      λ statements.
           subst (λ (us : List Tell). Settles id.space (created id.space procedure (told us)) new) tells_are
           (subst (Settles id.space (created id.space procedure (told ts))) (sym e)
           (create_settles id.space procedure (told ts) (telling ts (pop own)) (told_tree ts tree) (told_at ts) (ap is_consistent (told_view ts tree) ∙ a.0) mid a.1)),
     )
 
+  -- Where its space is told nothing
+  pub untold : in_layer id.space (telling []) (without_top id old) ≡ without_top id old
+  untold =
+      ap (λ (f : Layer → Layer). in_layer id.space f (without_top id old)) (λ i l. record l { tells = append-nil l.tells i })
+      ∙ edit_same (is_of id.space) (without_top id old)
+
+  pub untold_consistent : (place : ℕ) → Some place ≡ position (is_of id.space) old → (store : List Tell) → OfLayer old place (λ l. store ≡ view old l.space) → is_consistent store ≡ true
+      → is_consistent (view (without_top id old) id.space ++ []) ≡ true
+  untold_consistent place p store sees consistent =
+      let s = stands_at old id.space place p in
+      ap is_consistent (append-nil (view (without_top id old) id.space) ∙ pop_view id old id.space ∙ sym (ap (view old) (space_of old id.space s.layer s.found)) ∙ sym (sees s.layer s.at)) ∙ consistent
+
+  pub child_apart : (child : List ℕ) → HasChild old id.space child → (l : Layer) → is_of child l ≡ true → is_of id.space l ≡ false
+  child_apart child has l e = elim (decide (is_of id.space l)) [
+    | inl k ↦ absurd (not_both _ (below_itself child) (subst (λ (s : List ℕ). is_below child s ≡ false) (sym (equal_names l.space id.space k) ∙ equal_names l.space child e) (child_above id.space child has.below)))
+    | inr k ↦ k
+  ]
+
   -- A procedure is applied in a child
   module _ (child : List ℕ) (procedure : Ident) (has : HasChild old id.space child) (frames : List Frame) (is_frames : frames ≡ applying procedure (root_of child) ∷ []) where
-    not_own : (l : Layer) → is_of child l ≡ true → is_of id.space l ≡ false
-    not_own l e = elim (decide (is_of id.space l)) [
-      | inl k ↦ absurd (not_both _ (below_itself child) (subst (λ (s : List ℕ). is_below child s ≡ false) (sym (equal_names l.space id.space k) ∙ equal_names l.space child e) (child_above id.space child has.below)))
-      | inr k ↦ k
-    ]
-
-    told_nothing : in_layer id.space (telling []) (without_top id old) ≡ without_top id old
-    told_nothing =
-        ap (λ (f : Layer → Layer). in_layer id.space f (without_top id old)) (λ i l. record l { tells = append-nil l.tells i })
-        ∙ edit_same (is_of id.space) (without_top id old)
-
     started : injected child procedure (without_top id old) ≡ in_layer id.space pop (in_layer child (spawning frames) old)
     started =
         edits_agree child (starting procedure) (spawning frames) (without_top id old)
         (λ l e. ap (λ (fs : List Frame). spawning fs l) (ap (λ (s : List ℕ). applying procedure (root_of s) ∷ []) (space_of (without_top id old) child l e) ∙ sym is_frames))
-        ∙ edits_apart (is_of child) (is_of id.space) (spawning frames) pop (λ l. refl) (λ l. refl) not_own old
+        ∙ edits_apart (is_of child) (is_of id.space) (spawning frames) pop (λ l. refl) (λ l. refl) (child_apart child has) old
 
     pub inject_done : (place : ℕ) → Some place ≡ position (is_of id.space) old → (store : List Tell) → OfLayer old place (λ l. store ≡ view old l.space) → is_consistent store ≡ true → (spawned new : List Layer)
         → spawned ≡ in_layer child (spawning frames) old → new ≡ in_layer id.space pop spawned → inconsistent_spaces new ≡ [] → IsEdited id (Injects child procedure) old new true
     inject_done place p store sees consistent spawned new e f none =
-        let s = stands_at old id.space place p in
-        let is_new : injected child procedure (in_layer id.space (telling []) (without_top id old)) ≡ new = ap (injected child procedure) told_nothing ∙ started ∙ sym (f ∙ ap (in_layer id.space pop) e) in (
-          ap is_consistent (append-nil (view (without_top id old) id.space) ∙ pop_view id old id.space ∙ sym (ap (view old) (space_of old id.space s.layer s.found)) ∙ sym (sees s.layer s.at)) ∙ consistent,
-          λ statements. subst (λ (ls : List Layer). Settles id.space ls new) (sym is_new) (nothing_fails id.space new none),
+        let is_new : injected child procedure (in_layer id.space (telling []) (without_top id old)) ≡ new = ap (injected child procedure) untold ∙ started ∙ sym (f ∙ ap (in_layer id.space pop) e) in
+        λ statements. (
+          untold_consistent place p store sees consistent,
+          subst (λ (ls : List Layer). Settles id.space ls new) (sym is_new) (nothing_fails id.space new none),
         )
-
--- What a tell came to, by what it was a tell of
-pub advanced_by : (id : Ident) {before old : List Layer} {given ts : List Tell} (mid : List Layer) {b d : Bool} → before ≡ old → given ≡ ts → b ≡ d → IsAdvanced id given [] before mid b → IsAdvanced id ts [] old mid d
-advanced_by id {before} {old} {given} {ts} mid {b} {d} e f g a =
-    subst (IsAdvanced id ts [] old mid) g (subst (λ (ls : List Layer). IsAdvanced id ts [] ls mid b) e (subst (λ (us : List Tell). IsAdvanced id us [] before mid b) f a))
-
--- Whether a space is a child of one that is there
-pub named_child : (parent child : List ℕ) → is_top child ≡ false → list_eq parent (parent_of child) ≡ true → is_child_of parent child ≡ true
-named_child parent child inner e =
-    let same : parent_of child ≡ parent = sym (equal_names parent (parent_of child) e) in
-    and_both _ _ (ap not inner) (subst (λ (p : List ℕ). list_eq (parent_of child) p ≡ true) same (names_equal (parent_of child)))
-
-pub position_there : (layers : List Layer) (space : List ℕ) → is_some (position (is_of space) layers) ≡ true → is_some (layer_at layers space) ≡ true
-position_there layers space e = by (position (is_of space) layers) refl e
-  where
-    by : (o : Option ℕ) → o ≡ position (is_of space) layers → is_some o ≡ true → is_some (layer_at layers space) ≡ true
-    by None p k = absurd (false≢true k)
-    by (Some place) p k = ap is_some (stands_at layers space place p).found
-
-pub has_child_by : (layers : List Layer) (parent child : List ℕ) → is_child_of parent child ≡ true → is_some (position (is_of parent) layers) ≡ true → is_some (position (is_of child) layers) ≡ true → HasChild layers parent child
-has_child_by layers parent child c p q = record { below = c; parent_there = position_there layers parent p; child_there = position_there layers child q }

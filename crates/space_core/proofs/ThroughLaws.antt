@@ -9,7 +9,7 @@ use Rattle.oz_semantics.specs.Names.{is_top}
 use Rattle.oz_semantics.specs.declared.value.Tell.{Tell}
 use Rattle.view_laws.specs.Spaceless.{gives_space}
 use Rattle.term_store.specs.Telling.{IsTold}
-use Rattle.space_core.specs.Fates.{IsChosen, IsFate, IsStale, EachFate, AreFates, settled}
+use Rattle.space_core.specs.Fates.{IsChosen, IsFate, IsStale, EachFate, AreFates, with_fates}
 use Rattle.space_core.specs.Shown.{shown_all, is_other}
 use Rattle.space_core.specs.Telling.{has_below, IsMarked, IsToldMore, IsLevelTold, IsStoreAt, sees_at, ToldThrough, IsToldThrough}
 use Rattle.space_core.specs.declared.fates.Fate.{Fate}
@@ -107,7 +107,7 @@ module _ (levels : List Level) (place : ℕ) (within : place < length levels) (s
   put_within = omega (arith, within, ap length p.left, length-set levels place (record p.before { store = store }))
 
   pub told_below : (home : Bool) (ts : List Tell) (noted : List Ident) (l k m : Level) → l ≡ slice_index_or levels place l → IsTold l.store ts store [] noted true → k ≡ slice_index_or put place k → IsMarked home ts noted k m
-      → (news : List Level) → news ≡ settled fates (slice_set put place m) → ToldThrough place home ts levels news
+      → (news : List Level) → news ≡ with_fates fates (slice_set put place m) → ToldThrough place home ts levels news
   told_below home ts noted l k m r t rk q news e =
       let same : k ≡ record p.before { store = store } = read_set levels place (record p.before { store = store }) k within (subst (λ (ls : List Level). k ≡ slice_index_or ls place k) p.left rk) in
       let first : l ≡ p.before = r ∙ get_or_default levels place l p.before within ∙ sym p.read in
@@ -121,7 +121,7 @@ module _ (levels : List Level) (place : ℕ) (within : place < length levels) (s
         left = inr (record {
           fates = fates;
           are = subst (λ (us : List Tell). AreFates p.before.space (sees_at place p.before us levels) fates) (sym sees) (subst (λ (ls : List Level). AreFates p.before.space ls fates) p.left p.are);
-          left = e ∙ ap (λ (ls : List Level). settled fates (slice_set ls place m)) p.left ∙ ap (settled fates) (set-set levels place (record p.before { store = store }) m);
+          left = e ∙ ap (λ (ls : List Level). with_fates fates (slice_set ls place m)) p.left ∙ ap (with_fates fates) (set-set levels place (record p.before { store = store }) m);
         });
       }
 

@@ -132,13 +132,13 @@ left_as (Fails store) l = fallen store l ∷ []
 left_as (Sees seen) l = seeing seen l ∷ []
 
 -- where the space at a place has its fate
-abbrev pub turned : ℕ → Fate → List Level → List Level
-turned n fate [] = []
-turned zero fate (l ∷ ls) = left_as fate l ++ ls
-turned (suc n) fate (l ∷ ls) = l ∷ turned n fate ls
+abbrev pub with_fate : ℕ → Fate → List Level → List Level
+with_fate n fate [] = []
+with_fate zero fate (l ∷ ls) = left_as fate l ++ ls
+with_fate (suc n) fate (l ∷ ls) = l ∷ with_fate n fate ls
 
 -- and where each has
-abbrev pub settled : List Fate → List Level → List Level
-settled [] ls = ls
-settled (fate ∷ fates) [] = []
-settled (fate ∷ fates) (l ∷ ls) = left_as fate l ++ settled fates ls
+abbrev pub with_fates : List Fate → List Level → List Level
+with_fates [] ls = ls
+with_fates (fate ∷ fates) [] = []
+with_fates (fate ∷ fates) (l ∷ ls) = left_as fate l ++ with_fates fates ls

@@ -15,12 +15,16 @@ abbrev pub tells_with : Ident → Edit → List Layer → List Tell
 tells_with id edit layers = edit_tells layers (layer_of layers id.space) edit
 
 -- it was told that, the edit was made, and each space below it failed that then saw what is inconsistent
-abbrev pub Edits : Ident → Edit → List Layer → List Layer → Type 0
-Edits id edit layers new =
-    (statements : List Statement) → Settles id.space (edited statements id.space edit (in_layer id.space (telling (tells_with id edit layers)) layers)) new
+abbrev pub Edits : List Statement → Ident → Edit → List Layer → List Layer → Type 0
+Edits statements id edit layers new = Settles id.space (edited statements id.space edit (in_layer id.space (telling (tells_with id edit layers)) layers)) new
 
 -- the statement was taken off the thread's stack, and the edit was made; or what is told clashes with what the space sees, and nothing was done
+abbrev pub IsEditedBy : List Statement → Ident → Edit → List Layer → List Layer → Bool → Type 0
+IsEditedBy statements id edit old new true =
+    (is_consistent (view (without_top id old) id.space ++ tells_with id edit (without_top id old)) ≡ true) × Edits statements id edit (without_top id old) new
+IsEditedBy statements id edit old new false =
+    (is_consistent (view (without_top id old) id.space ++ tells_with id edit (without_top id old)) ≡ false) × (new ≡ old)
+
+-- whatever the statements of the program are
 abbrev pub IsEdited : Ident → Edit → List Layer → List Layer → Bool → Type 0
-IsEdited id edit old new true =
-    (is_consistent (view (without_top id old) id.space ++ tells_with id edit (without_top id old)) ≡ true) × Edits id edit (without_top id old) new
-IsEdited id edit old new false = (is_consistent (view (without_top id old) id.space ++ tells_with id edit (without_top id old)) ≡ false) × (new ≡ old)
+IsEdited id edit old new done = (statements : List Statement) → IsEditedBy statements id edit old new done

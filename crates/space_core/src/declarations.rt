@@ -24,7 +24,7 @@ pub fn number_after(from: u64, count: usize) -> Result<u64, AllocError>
 }
 
 /// The identifiers stand for as many variables of the space, from this number on.
-fn bind_from(
+pub fn bind_from(
     alloc: Global,
     environment: &mut Environment,
     names: &[Identifier],

@@ -277,7 +277,8 @@ impl Levels {
     }
 
     /// Tells a space that is there, and fails each space below it that then sees what is inconsistent. False exactly where it is
-    /// inconsistent with what the space sees: then nothing changes. It refuses for want of memory: then nothing changes either.
+    /// inconsistent with what the space sees: then nothing changes. It refuses for want of memory, and where a space below had ended, was
+    /// told something since, and would see what is inconsistent: then nothing changes either.
     pub fn tell(
         &mut self,
         alloc: Global,
@@ -460,7 +461,8 @@ impl Levels {
 
     /// The statement on top of a thread's stack is taken off, its space is told this and gives out what comes with it, its cells and
     /// ports change by that, and each space below fails that then sees what is inconsistent. False exactly where it is inconsistent with
-    /// what the space sees: then nothing changes. It refuses for want of memory, and where the space gave out 2^64 - 1 of a kind.
+    /// what the space sees: then nothing changes. It refuses for want of memory, where the space gave out 2^64 - 1 of a kind, and as `tell`
+    /// does for a space below that had ended.
     pub fn tell_by(
         &mut self,
         alloc: Global,
@@ -500,7 +502,7 @@ impl Levels {
     }
 
     /// The same, where the thread's space is told the exception's term besides, by so many variables that it gives out. What is told
-    /// of new variables never clashes.
+    /// of new variables never clashes. It refuses as `tell_by` does.
     pub fn raise(
         &mut self,
         alloc: Global,

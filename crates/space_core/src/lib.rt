@@ -24,6 +24,7 @@ mod telling;
 mod threads;
 mod tree;
 
+pub use declarations::bind_from;
 pub use given::Given;
 pub use levels::Levels;
 

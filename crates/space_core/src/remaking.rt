@@ -1,7 +1,7 @@
 //! Tells that the spaces below see too.
 ghost use Rattle.std.specs.Prelude.{◌≡◌, ◌<◌, ◌≤◌, length, slice_index_or, IfOk, OnOk, OnErr};
 ghost use Rattle.space_core.specs.Anew.{IsAnew};
-ghost use Rattle.space_core.specs.Fates.{seeing, turned, settled};
+ghost use Rattle.space_core.specs.Fates.{seeing, with_fate, with_fates};
 ghost use Rattle.space_core.specs.Telling.{IsToldThrough, IsStoreAt};
 ghost use Rattle.space_core.specs.declared.level.Level.{Level};
 
@@ -27,9 +27,9 @@ fn see(level: &mut Level, seen: Seen)
 }
 
 /// The space at a place has its fate.
-fn turn(alloc: Global, levels: &mut Vec<Level>, place: usize, fate: Fate)
+fn meet(alloc: Global, levels: &mut Vec<Level>, place: usize, fate: Fate)
     requires { place < length levels.old.items }
-    ensures { levels.new.items ≡ turned place fate levels.old.items }
+    ensures { levels.new.items ≡ with_fate place fate levels.old.items }
 {
     match fate {
         Fate::Stays => {}
@@ -42,13 +42,13 @@ fn turn(alloc: Global, levels: &mut Vec<Level>, place: usize, fate: Fate)
 }
 
 /// Each space has its fate, the last one first. It takes no memory.
-fn settle(alloc: Global, levels: &mut Vec<Level>, mut fates: Vec<Fate>)
+fn meet_all(alloc: Global, levels: &mut Vec<Level>, mut fates: Vec<Fate>)
     requires { length fates.items ≤ length levels.old.items }
-    ensures { levels.new.items ≡ settled fates.items levels.old.items }
+    ensures { levels.new.items ≡ with_fates fates.items levels.old.items }
 {
     while let Some(fate) = fates.pop() {
         let place = fates.len();
-        turn(alloc, levels, place, fate);
+        meet(alloc, levels, place, fate);
     }
 }
 
@@ -64,7 +64,7 @@ pub fn remake(
     ensures err { OnErr result (levels.new.items ≡ levels.old.items) }
 {
     let fates = fates_below(alloc, levels.as_slice(), place, space)?;
-    settle(alloc, levels, fates);
+    meet_all(alloc, levels, fates);
     Ok(())
 }
 
@@ -117,7 +117,7 @@ fn tell_all(
     }
     let fates = put_store(alloc, levels, place, store)?;
     note(&mut levels[place], home, tells, noted);
-    settle(alloc, levels, fates);
+    meet_all(alloc, levels, fates);
     Ok(true)
 }
 

@@ -52,4 +52,4 @@ returns-clause-turn c =
     let made : List Layer = edited k.statements id.space what (in_layer id.space (telling (tells_with id what wt)) wt) in
     let d = rw c.if-not-branch.false at c.in_ok-edit.ensures.ok in
     ap (λ (b : Bool). if b then went_on k.statements id 1 made (stepping now) else raised_kind k.statements id FailureTell wt (stepping now)) d.0
-    ∙ c.go_on.ensures.turn k.statements made (d.1 k.statements)
+    ∙ c.go_on.ensures.turn k.statements made d.1

@@ -1,4 +1,4 @@
-use Rattle.space_core.proofs.SettledLaws.{took_more, took_none}
+use Rattle.space_core.proofs.FatedLaws.{took_more, took_none}
 use Rattle.space_core.proofs.fates.told_from.Goals.{in-Some+in_ok-copied+in_ok-push, in_default}
 use Rattle.space_core.proofs.fates.told_from.Goals as goal
 

@@ -22,4 +22,4 @@ returns-clause-told c =
     (subst (λ (us : List Tell). IsTold us c.args.tells.now c.tell.new.self [] c.tell.new.touched.items true) c.in_ok-store.ensures
     (subst (λ (xs : List Ident). IsTold c.in_ok-store.store c.args.tells.now c.tell.new.self xs c.tell.new.touched.items true) c.new-noted.ensures.items
     (subst (IsTold c.in_ok-store.store c.args.tells.now c.tell.new.self c.new-noted.result.items c.tell.new.touched.items) c.if-not-branch.false c.in_ok-tell.ensures.told)))
-    c.index_mut.ensures.value c.note.ensures c.settle.new.levels.items c.settle.ensures
+    c.index_mut.ensures.value c.note.ensures c.meet_all.new.levels.items c.meet_all.ensures
