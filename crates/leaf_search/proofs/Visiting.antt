@@ -21,7 +21,7 @@ use Rattle.oz_machine.specs.declared.runs.Ran.{Ran}
 use Rattle.oz_machine.specs.declared.runs.Ran.TheVariants.{Ended, TopEnded, OutOfFuel}
 use Rattle.oz_machine.specs.declared.texts.Text.{Text}
 use Rattle.leaf_search.specs.declared.open.Rest.{Rest}
-use Rattle.leaf_search.specs.Searching.{is_running, Restless, RestsBy, children_by, leaf_by}
+use Rattle.leaf_search.specs.Searching.{is_no_node, Restless, RestsBy, children_by, leaf_by}
 
 -- ---- nodes that are there
 
@@ -32,7 +32,7 @@ record IsKind (k : Kernel) (space : List ℕ) (d : Configuration) (s : State) (t
   leaf : leaf_by s text ≡ leaf_of kind
   children : children_by k space d s ≡ children_of k space d kind
 
-kind_by : (k : Kernel) (space : List ℕ) (d : Configuration) (s : State) (text : List ℕ) → is_running s ≡ false → IsKind k space d s text
+kind_by : (k : Kernel) (space : List ℕ) (d : Configuration) (s : State) (text : List ℕ) → is_no_node s ≡ false → IsKind k space d s text
 kind_by k space d states.Solved text n = record { kind = kinds.End (outcome.Solved text); known = refl; leaf = refl; children = refl }
 kind_by k space d states.Stuck text n = record { kind = kinds.End (outcome.Stuck text); known = refl; leaf = refl; children = refl }
 kind_by k space d (states.Raised x) text n = record { kind = kinds.End (outcome.Raised text); known = refl; leaf = refl; children = refl }
@@ -40,9 +40,10 @@ kind_by k space d states.Suspended text n = record { kind = kinds.End outcome.Su
 kind_by k space d states.Failed text n = record { kind = kinds.End outcome.Failed; known = refl; leaf = refl; children = refl }
 kind_by k space d (states.Alternatives m) text n = record { kind = kinds.Alternatives m; known = refl; leaf = refl; children = refl }
 kind_by k space d states.Running text n = absurd (cc)
+kind_by k space d states.Merged text n = absurd (cc)
 
 visited_by : (k : Kernel) (c : Configuration) (d : Loaded) (space : List ℕ) (fuel steps : ℕ) (s : State) (text : Text) (opened after : List Configuration) (leaves leaves_after : List Outcome) → fuel ≢ 0
-    → IsRun d space (fuel - 1) (runs.run k space c (fuel - 1)) (Ended (Some s) steps) → d.kernel ≡ k → is_running s ≡ false
+    → IsRun d space (fuel - 1) (runs.run k space c (fuel - 1)) (Ended (Some s) steps) → d.kernel ≡ k → is_no_node s ≡ false
     → PrintsWithin (state_text k.words d.config space s) (fuel - 1 - steps) (Some text)
     → after ≡ children_by k space d.config s ++ opened → leaves_after ≡ leaves ++ leaf_by s text.bytes
     → Visits k space c fuel (fuel - 1 - steps - text.steps) opened after leaves leaves_after
@@ -84,14 +85,15 @@ either_none : (b : Bool) → ◌≡◌ {A = Option (Reached Configuration Outcom
 either_none true = refl
 either_none false = refl
 
-running_none : (k : Kernel) (space : List ℕ) (fuel left : ℕ) (d : Configuration) (s : State) → is_running s ≡ true → node_in_state k space fuel d left (Some s) ≡ None
-running_none k space fuel left d states.Running e = either_none (nat_le 0 left)
-running_none k space fuel left d states.Solved e = absurd (cc)
-running_none k space fuel left d states.Stuck e = absurd (cc)
-running_none k space fuel left d (states.Raised x) e = absurd (cc)
-running_none k space fuel left d states.Suspended e = absurd (cc)
-running_none k space fuel left d states.Failed e = absurd (cc)
-running_none k space fuel left d (states.Alternatives m) e = absurd (cc)
+none_there : (k : Kernel) (space : List ℕ) (fuel left : ℕ) (d : Configuration) (s : State) → is_no_node s ≡ true → node_in_state k space fuel d left (Some s) ≡ None
+none_there k space fuel left d states.Running e = either_none (nat_le 0 left)
+none_there k space fuel left d states.Merged e = either_none (nat_le 0 left)
+none_there k space fuel left d states.Solved e = absurd (cc)
+none_there k space fuel left d states.Stuck e = absurd (cc)
+none_there k space fuel left d (states.Raised x) e = absurd (cc)
+none_there k space fuel left d states.Suspended e = absurd (cc)
+none_there k space fuel left d states.Failed e = absurd (cc)
+none_there k space fuel left d (states.Alternatives m) e = absurd (cc)
 
 ran_none : (k : Kernel) (c : Configuration) (d : Loaded) (space : List ℕ) (f : ℕ) (r : Ran) → IsRun d space f (runs.run k space c f) r → d.kernel ≡ k → Restless r
     → node_of_run k space (suc f) (runs.run k space c f) ≡ None
@@ -103,7 +105,7 @@ ran_none k c d space f (Ended None steps) r e h =
 ran_none k c d space f (Ended (Some s) steps) r e h =
     ap (node_of_run k space (suc f)) r.1
     ∙ ap (node_in_state k space (suc f) d.config (f - steps)) (sym (r.2 ∙ ap (λ (q : Kernel). state q.statements d.config.layers space) e))
-    ∙ running_none k space (suc f) (f - steps) d.config s h
+    ∙ none_there k space (suc f) (f - steps) d.config s h
 
 pub no_node : (m d : Loaded) (space : List ℕ) (fuel : ℕ) (r : Ran) → fuel ≢ 0 → IsRun d space (fuel - 1) (runs.run m.kernel space m.config (fuel - 1)) r → d.kernel ≡ m.kernel
     → Restless r → node_at m.kernel space fuel m.config ≡ None

@@ -34,31 +34,34 @@ pub record OpensNext (space : List ℕ) (old new : List Open) (m : Loaded) : Typ
   pub first : waiting space old ≡ m.config ∷ waiting space new
   pub kernel : (k : Kernel) → AreOf k old → (m.kernel ≡ k) × AreOf k new
 
-abbrev pub is_running : State → Bool
-is_running states.Running = true
-is_running states.Suspended = false
-is_running states.Failed = false
-is_running (states.Raised x) = false
-is_running (states.Alternatives n) = false
-is_running states.Solved = false
-is_running states.Stuck = false
+-- no node is in such a state: the space still runs, or has become a part of another one
+abbrev pub is_no_node : State → Bool
+is_no_node states.Running = true
+is_no_node states.Merged = true
+is_no_node states.Suspended = false
+is_no_node states.Failed = false
+is_no_node (states.Raised x) = false
+is_no_node (states.Alternatives n) = false
+is_no_node states.Solved = false
+is_no_node states.Stuck = false
 
 -- in a run that ends so the space has not come to rest: the fuel was wanting, or what no search comes to
 abbrev pub Restless : Ran → Type 0
 Restless ran.OutOfFuel = Unit {0}
 Restless (ran.TopEnded exception steps) = Unit {0}
 Restless (ran.Ended None steps) = Unit {0}
-Restless (ran.Ended (Some s) steps) = is_running s ≡ true
+Restless (ran.Ended (Some s) steps) = is_no_node s ≡ true
 
 -- how a space came to rest by a run, if it did
 abbrev pub RestsBy : Ran → Option Rest → Type 0
 RestsBy r None = Restless r
-RestsBy r (Some rest) = (r ≡ ran.Ended (Some rest.state) rest.steps) × (is_running rest.state ≡ false)
+RestsBy r (Some rest) = (r ≡ ran.Ended (Some rest.state) rest.steps) × (is_no_node rest.state ≡ false)
 
 -- what a node in this state adds to what waits, and to the leaves
 abbrev pub children_by : Kernel → List ℕ → Configuration → State → List Configuration
 children_by k space c (states.Alternatives n) = map (λ i. chosen_in k.statements space i c) (range_with_len 1 n)
 children_by k space c states.Running = []
+children_by k space c states.Merged = []
 children_by k space c states.Suspended = []
 children_by k space c states.Failed = []
 children_by k space c (states.Raised x) = []
@@ -73,6 +76,7 @@ leaf_by states.Suspended text = outcome.Suspended ∷ []
 leaf_by states.Failed text = []
 leaf_by (states.Alternatives n) text = []
 leaf_by states.Running text = []
+leaf_by states.Merged text = []
 
 -- the leaves that were found
 abbrev pub leaves_of : Found Outcome → Option (List Outcome)

@@ -4,7 +4,7 @@ ghost use Rattle.std.specs.Prelude.{◌≡◌, ◌+◌, ◌<◌, ◌++◌, ◌�
 ghost use Rattle.oz_language.specs.declared.kernel.Kernel.{Kernel};
 ghost use Rattle.oz_semantics.specs.Search.{node_at};
 ghost use Rattle.machine_search.specs.Visits.{Visits, found_below};
-ghost use Rattle.leaf_search.specs.Searching.{waiting, AreOf, OpensNext, is_running, RestsBy, children_by, leaf_by, leaves_of};
+ghost use Rattle.leaf_search.specs.Searching.{waiting, AreOf, OpensNext, is_no_node, RestsBy, children_by, leaf_by, leaves_of};
 
 use crate::open::{Open, Rest};
 use oz_base::{Sequence, SpaceName, Stack};
@@ -76,7 +76,7 @@ fn keep(
     ensures kernel { (k : Kernel) → AreOf k opened.old → machine.kernel ≡ k → OnOk result (AreOf k opened.new) }
 {
     match state {
-        State::Failed | State::Running => Ok(()),
+        State::Failed | State::Running | State::Merged => Ok(()),
         State::Alternatives(count) => opened.push(Open {
             machine,
             taken: 0,
@@ -89,10 +89,11 @@ fn keep(
     }
 }
 
-fn is_running(state: &State) -> bool
-    ensures { result ≡ is_running state.now }
+/// Whether a node is never in this state: the space still runs, or has become a part of another one, as the search makes none.
+fn is_no_node(state: &State) -> bool
+    ensures { result ≡ is_no_node state.now }
 {
-    matches!(state, State::Running)
+    matches!(state, State::Running | State::Merged)
 }
 
 fn in_state(state: Option<State>, steps: u64) -> Option<Rest>
@@ -101,7 +102,7 @@ fn in_state(state: Option<State>, steps: u64) -> Option<Rest>
     match state {
         None => None,
         Some(state) => {
-            if is_running(&state) {
+            if is_no_node(&state) {
                 return None;
             }
             Some(Rest { state, steps })

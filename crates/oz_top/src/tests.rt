@@ -159,7 +159,7 @@ fn writes_kernels_and_what_is_not_served(rt: HostRuntime) -> Result<(), Fail> {
     let rows: [Row<'_>; 6] = [
         (&["kernel"], b"", "skip\n", 0),
         (&["kernel"], b"thread skip end", "thread skip end\n", 0),
-        (&["run"], b"X in {NewSpace 1 X}", "refused syntax 6\n", 3),
+        (&["run"], b"X in X=FD", "refused syntax 7\n", 3),
         (&["run"], b"{Show 'a b'|nil}", "'a b'|nil\n", 0),
         (&["all"], b"local FD in skip end", "refused syntax 6\n", 3),
         (

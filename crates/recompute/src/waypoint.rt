@@ -60,7 +60,7 @@ fn kind_of(state: State, text: Sequence<u8>) -> Result<Option<Kind<Outcome>>, Al
     ensures { IfOk result (λ kind. kind ≡ kind_of state text) }
 {
     let outcome = match state {
-        State::Running => return Ok(None),
+        State::Running | State::Merged => return Ok(None),
         State::Alternatives(count) => return Ok(Some(choice(count)?)),
         State::Failed => Outcome::Failed,
         State::Solved => Outcome::Solved(text),

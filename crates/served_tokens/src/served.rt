@@ -15,16 +15,7 @@ use std::alloc::{AllocError, Global};
 static TOKENS: [&[u8]; 8] = [b"::", b":::", b"=:", b"\\=:", b"<:", b"=<:", b">:", b">=:"];
 
 /// Variables, whether the text binds them itself or not.
-static NAMES: [&[u8]; 8] = [
-    b"NewSpace",
-    b"Ask",
-    b"Choose",
-    b"Commit",
-    b"Clone",
-    b"Inject",
-    b"Merge",
-    b"FD",
-];
+static NAMES: [&[u8]; 1] = [b"FD"];
 
 fn same_bytes(left: &[u8], right: &[u8]) -> bool
     ensures { result ≡ list_eq left.now right.now }
