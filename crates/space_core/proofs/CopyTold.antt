@@ -175,7 +175,7 @@ module _ (levels : List Level) (layers : List Layer) (viewed : shown_all levels 
       pub copy_edited : IsEdited id (Copies child variable) layers (shown_all final) true
       copy_edited = λ statements. (
         sees_are ∙ alone_consistent levels id.space place s h (counting_by id.number) (λ k. refl) ts told t,
-            subst (λ (us : List Tell). Settles id.space (copied id.space child (in_layer id.space (telling us) popped)) (shown_all final)) tells_are
+        subst (λ (us : List Tell). Settles id.space (copied id.space child (in_layer id.space (telling us) popped)) (shown_all final)) tells_are
             (subst (λ (ls : List Layer). Settles id.space ls (shown_all final)) shows (anew_settles id.space news loose_news final anew)),
       )
 

@@ -326,7 +326,7 @@ module _ (levels : List Level) (layers : List Layer) (viewed : shown_all levels 
       pub merge_edited : IsEdited id (TakesIn child variable) layers (shown_all final) true
       merge_edited = λ statements. (
         sees_are ∙ alone_consistent levels id.space place s h join (λ k. refl) tells told t,
-            subst (λ (us : List Tell). Settles id.space (taken_in id.space child (in_layer id.space (telling us) popped)) (shown_all final)) tells_are
+        subst (λ (us : List Tell). Settles id.space (taken_in id.space child (in_layer id.space (telling us) popped)) (shown_all final)) tells_are
             (subst (λ (ls : List Layer). Settles id.space ls (shown_all final)) shows (anew_settles id.space news loose_news final anew)),
       )
 

@@ -113,7 +113,7 @@ module _ (id : Ident) (old : List Layer) (there : is_some (layer_at old id.space
     pub create_done : IsTree old → (mid new : List Layer) → IsAdvanced id ts [] old mid true → new ≡ created id.space procedure mid → IsEdited id (Creates procedure variable) old new true
     create_done tree mid new a e = λ statements. (
       sees_are ∙ a.0,
-          subst (λ (us : List Tell). Settles id.space (created id.space procedure (told us)) new) tells_are
+      subst (λ (us : List Tell). Settles id.space (created id.space procedure (told us)) new) tells_are
           (subst (Settles id.space (created id.space procedure (told ts))) (sym e)
           (create_settles id.space procedure (told ts) (telling ts (pop own)) (told_tree ts tree) (told_at ts) (ap is_consistent (told_view ts tree) ∙ a.0) mid a.1)),
     )
