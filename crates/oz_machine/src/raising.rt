@@ -13,6 +13,7 @@ ghost use Rattle.oz_semantics.specs.declared.outcome.RaiseKind.{RaiseKind};
 ghost use Rattle.settle_laws.specs.Settles.{Settles};
 ghost use Rattle.space_core.specs.Advances.{taken_on};
 ghost use Rattle.space_core.specs.Shown.{seen_above};
+ghost use Rattle.oz_semantics.specs.declared.outcome.RaiseKind.TheVariants.{FailureTell};
 ghost use Rattle.oz_machine.specs.Courses.{config_of, stepping};
 ghost use Rattle.oz_machine.specs.Quiet.{IsHead, KeepsHead};
 ghost use Rattle.oz_machine.specs.Raising.{EndsOver, IsTermOf};
@@ -209,4 +210,16 @@ pub fn raise_kind(
     let nodes = term(alloc, kind)?;
     let made = new_term(alloc, &id.space, next.variable, &nodes)?;
     raise_new(alloc, id, made, nodes.len() as u64, course)
+}
+
+/// What the thread's space was to be told clashes with what it sees: that is a failure.
+pub fn clash(alloc: Global, id: &Ident, course: &mut Course) -> Result<Stepped, AllocError>
+    requires head { first course.old.queue ≡ Some id.now }
+    requires there { is_some (layer_at course.old.levels id.now.space) ≡ true }
+    ensures turn { (statements : List Statement) → IfOk result (λ stepped.
+        raised_kind statements id.now FailureTell (without_top id.now course.old.levels) (stepping course.old) ≡ (stepped, config_of statements course.new)) }
+    ensures cost { IfOk result (λ stepped. cost_of stepped ≡ 1) }
+    ensures err { OnErr result (course.new ≡ course.old) }
+{
+    raise_kind(alloc, id, RaiseKind::FailureTell, course)
 }

@@ -27,7 +27,7 @@ use crate::declarations::declaration;
 use crate::editing::edit;
 use crate::following::{follow, go_on};
 use crate::quiet::go_on_quietly;
-use crate::raising::{raise, raise_kind};
+use crate::raising::{clash, raise, raise_kind};
 use crate::settling::{settle, top_answer};
 use crate::told::go_on_told;
 use builtins::{Act, Answer, Edit};
@@ -36,7 +36,7 @@ use oz_acts::{act, give_term, is_quiet, started, take_off};
 use oz_base::{Copies, Ident, Sequence};
 use oz_language::{Identifier, Kernel, Statement};
 use oz_raise::Node;
-use oz_semantics::{RaiseKind, Stepped};
+use oz_semantics::Stepped;
 use space_core::Levels;
 use stability::{answer_in, states_of};
 use std::alloc::{AllocError, Global};
@@ -77,7 +77,7 @@ fn make_act(
     let lowest = is_known_lowest(&course.levels, id, kept, quiet);
     let started = started(alloc, &course.levels, id, what)?;
     if !act(alloc, &mut course.levels, id, what)? {
-        return raise_kind(alloc, id, RaiseKind::FailureTell, course);
+        return clash(alloc, id, course);
     }
     if quiet {
         return Ok(go_on_quietly(id, started, 1, course));
@@ -105,7 +105,7 @@ fn make_edit(
 {
     let statements = kernel.statements.as_slice();
     if !edit(alloc, statements, &mut course.levels, id, what)? {
-        return raise_kind(alloc, id, RaiseKind::FailureTell, course);
+        return clash(alloc, id, course);
     }
     Ok(go_on(id, 1, course))
 }
@@ -126,7 +126,7 @@ fn make_term(
     ensures err { OnErr result (course.new ≡ course.old) }
 {
     if !give_term(alloc, &mut course.levels, id, variable, nodes)? {
-        return raise_kind(alloc, id, RaiseKind::FailureTell, course);
+        return clash(alloc, id, course);
     }
     course.levels.consistent();
     Ok(go_on(id, 1, course))

@@ -1,5 +1,5 @@
 -- What becomes of the spaces below one that was told more is what is left where those fail that see what is inconsistent.
-use Rattle.std.proofs.Common.{◌≡◌, inl, inr, ℕ, zero, suc, true, false, not, List, [], ◌∷◌, ◌++◌, length, drop, slice_get, refl, sym, ap, ap₂, subst, ◌∙◌, arith, Contains, Some, filter, flat_map}
+use Rattle.std.proofs.Common.{◌≡◌, ◌⊎◌, inl, inr, ℕ, zero, suc, true, false, not, List, [], ◌∷◌, ◌++◌, length, drop, slice_get, refl, sym, ap, ap₂, subst, ◌∙◌, arith, Contains, Some, filter, flat_map}
 use Rattle.std.specs.List.{list_any, list_all}
 use Rattle.std.proofs.lemmas.Bool.{false≢true}
 use Rattle.std.proofs.lemmas.List.{append-nil}
@@ -27,6 +27,7 @@ use Rattle.space_core.specs.declared.fates.Fate.{Fate}
 use Rattle.space_core.specs.declared.fates.Fate.TheVariants.{Stays, Gone, Fails, Sees}
 use Rattle.space_core.specs.declared.fates.Seen.{Seen}
 use Rattle.space_core.specs.declared.level.Level.{Level}
+use Rattle.space_core.proofs.MemberLaws.{all_flat}
 use Rattle.space_core.proofs.FallLaws.{left_of, fold_left, falls_under, stands_above, stands_itself, left_standing, left_fallen, left_gone, view_left, above_left, homes_left}
 use Rattle.space_core.proofs.SoundLaws.{shown_member, fits_after, above_is}
 use Rattle.space_core.proofs.TellLaws.{view_is, found_by}
@@ -86,22 +87,26 @@ module _ (space : List ℕ) (levels : List Level) (stale : IsStale space levels)
         contains-from_In (inconsistent_spaces layers) l.space (map_in (λ (n : Layer). n.space) (filter (is_inconsistent layers) layers) (shown l)
         (in_filter (is_inconsistent layers) layers (shown l) (In-from_contains layers (shown l) (shown_member levels l c)) (and_both _ _ h.may (ap not (ap is_consistent (sym with_own) ∙ h.clash)))))
 
-    tells_same : (seen : Seen) → IsSeen above l seen → (shown (seeing seen l)).tells ≡ (shown l).tells
+    tells_same : (seen : Seen) → IsSeen layers above l seen → (shown (seeing seen l)).tells ≡ (shown l).tells
     tells_same seen h = ap₂ (λ (n : ℕ) (ts : List Tell). drop n ts) h.from h.store ∙ drop-append_seam above (shown l).tells
 
-    fits_seen : (seen : Seen) → IsSeen above l seen → Fits layers (seeing seen l)
+    own_home : (l.traced ≡ true) ⊎ (list_all (λ t. list_all (is_home layers l.space) (named_by t)) (shown l).tells ≡ true) → list_all (is_home layers l.space) (flat_map named_by (shown l).tells) ≡ true
+    own_home (inl t) = stale.home l c t under
+    own_home (inr all) = all_flat (is_home layers l.space) named_by (shown l).tells ∙ all
+
+    fits_seen : (seen : Seen) → IsSeen layers above l seen → Fits layers (seeing seen l)
     fits_seen seen h = record {
       seen = h.store ∙ with_own;
       from = h.from ∙ ap length (sees ∙ sym (above_is layers l.space inner));
       consistent = h.consistent;
-      home = λ t. ap (λ (ts : List Tell). list_all (is_home layers l.space) (flat_map named_by ts)) (tells_same seen h) ∙ stale.home l c (sym h.traced ∙ t) under;
+      home = λ t. ap (λ (ts : List Tell). list_all (is_home layers l.space) (flat_map named_by ts)) (tells_same seen h) ∙ own_home (h.traced t);
       touches = λ t n.
           subst (λ (us : List Tell). Traces l.space us (shown (seeing seen l)).tells seen.touched) (sees ∙ sym (above_is layers l.space inner))
           (subst (λ (us : List Tell). Traces l.space above us seen.touched) (sym (tells_same seen h)) h.touches);
       known = λ k. ap (list_any gives_space) (tells_same seen h) ∙ stale.known l c k under;
     }
 
-    under_right : (fate : Fate) → IsUnder above l fate → IsFate space layers l fate
+    under_right : (fate : Fate) → IsUnder layers above l fate → IsFate space layers l fate
     under_right Stays h = elim h [ ]
     under_right Gone h = elim h [ ]
     under_right (Fails store) h = (under, record { parent = stands; itself = fails_itself store h; store = h.store ∙ sees; consistent = ap is_consistent h.store ∙ consistent })
@@ -126,7 +131,7 @@ module _ (space : List ℕ) (levels : List Level) (stale : IsStale space levels)
       gone : falls layers d.parent.space ≡ true → fate ≡ Gone → IsFate space layers l fate
       gone e q = subst (IsFate space layers l) (sym q) (under, record { parent = subst (λ (t : List ℕ). falls layers t ≡ true) d.name e })
 
-      by : (above : Fate) → IsFate space layers d.parent above → IsAfter d.parent above l fate → IsFate space layers l fate
+      by : (above : Fate) → IsFate space layers d.parent above → IsAfter layers d.parent above l fate → IsFate space layers l fate
       by Stays f a =
           under_right d.parent.store (stale.seen d.parent among f ∙ ap (view layers) d.name) (stale.consistent d.parent among f)
           (parent_stands (apart_stands space layers stale.below d.parent.space f)) fate a

@@ -152,3 +152,24 @@ module _ (id : Ident) (old : List Layer) (there : is_some (layer_at old id.space
           untold_consistent place p store sees consistent,
           subst (λ (ls : List Layer). Settles id.space ls new) (sym is_new) (nothing_fails id.space new none),
         )
+
+-- What a tell came to, by what it was a tell of
+pub advanced_by : (id : Ident) {before old : List Layer} {given ts : List Tell} (mid : List Layer) {b d : Bool} → before ≡ old → given ≡ ts → b ≡ d → IsAdvanced id given [] before mid b → IsAdvanced id ts [] old mid d
+advanced_by id {before} {old} {given} {ts} mid {b} {d} e f g a =
+    subst (IsAdvanced id ts [] old mid) g (subst (λ (ls : List Layer). IsAdvanced id ts [] ls mid b) e (subst (λ (us : List Tell). IsAdvanced id us [] before mid b) f a))
+
+-- Whether a space is a child of one that is there
+pub named_child : (parent child : List ℕ) → is_top child ≡ false → list_eq parent (parent_of child) ≡ true → is_child_of parent child ≡ true
+named_child parent child inner e =
+    let same : parent_of child ≡ parent = sym (equal_names parent (parent_of child) e) in
+    and_both _ _ (ap not inner) (subst (λ (p : List ℕ). list_eq (parent_of child) p ≡ true) same (names_equal (parent_of child)))
+
+pub position_there : (layers : List Layer) (space : List ℕ) → is_some (position (is_of space) layers) ≡ true → is_some (layer_at layers space) ≡ true
+position_there layers space e = by (position (is_of space) layers) refl e
+  where
+    by : (o : Option ℕ) → o ≡ position (is_of space) layers → is_some o ≡ true → is_some (layer_at layers space) ≡ true
+    by None p k = absurd (false≢true k)
+    by (Some place) p k = ap is_some (stands_at layers space place p).found
+
+pub has_child_by : (layers : List Layer) (parent child : List ℕ) → is_child_of parent child ≡ true → is_some (position (is_of parent) layers) ≡ true → is_some (position (is_of child) layers) ≡ true → HasChild layers parent child
+has_child_by layers parent child c p q = record { below = c; parent_there = position_there layers parent p; child_there = position_there layers child q }

@@ -8,7 +8,7 @@ use Rattle.oz_semantics.specs.declared.value.Tell.{Tell}
 use Rattle.oz_semantics.specs.declared.configuration.Layer.{Layer}
 use Rattle.view_laws.specs.Trees.{IsTree}
 use Rattle.view_laws.specs.Spaceless.{gives_space}
-use Rattle.space_core.specs.Fates.{AreFates, settled}
+use Rattle.space_core.specs.Fates.{AreFates, with_fates}
 use Rattle.space_core.specs.Shown.{shown, shown_all, is_home, Fits, IsQuiet}
 use Rattle.space_core.specs.Telling.{IsToldMore}
 use Rattle.space_core.specs.declared.fates.Fate.{Fate}
@@ -25,7 +25,7 @@ pub record IsLoose (space : List ℕ) (levels : List Level) : Type 0 where
 pub record IsAnew (space : List ℕ) (old new : List Level) : Type 0 where
   pub fates : List Fate
   pub are : AreFates space old fates
-  pub left : new ≡ settled fates old
+  pub left : new ≡ with_fates fates old
 
 -- The space at a place was changed quietly and told this, and those below it still see what they saw
 pub record ToldAlone (change : Layer → Layer) (place : ℕ) (ts : List Tell) (old new : List Level) : Type 0 where

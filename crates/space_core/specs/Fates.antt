@@ -19,17 +19,17 @@ use Rattle.space_core.specs.declared.level.Level.{Level}
 -- How it is found out
 
 -- what a space sees that was told the same under a parent that sees this
-pub record IsSeen (above : List Tell) (l : Level) (seen : Seen) : Type 0 where
+pub record IsSeen (layers : List Layer) (above : List Tell) (l : Level) (seen : Seen) : Type 0 where
   pub store : seen.store ≡ above ++ (shown l).tells
   pub consistent : is_consistent seen.store ≡ true
   pub from : seen.told_from ≡ length above
-  pub traced : seen.traced ≡ l.traced
+  pub traced : seen.traced ≡ true → (l.traced ≡ true) ⊎ (list_all (λ t. list_all (is_home layers l.space) (named_by t)) (shown l).tells ≡ true)
   pub touches : Traces l.space above (shown l).tells seen.touched
 
 -- or that is inconsistent
-abbrev pub IsSeenUnder : List Tell → Level → Option Seen → Type 0
-IsSeenUnder above l (Some seen) = IsSeen above l seen
-IsSeenUnder above l None = is_consistent (above ++ (shown l).tells) ≡ false
+abbrev pub IsSeenUnder : List Layer → List Tell → Level → Option Seen → Type 0
+IsSeenUnder layers above l (Some seen) = IsSeen layers above l seen
+IsSeenUnder layers above l None = is_consistent (above ++ (shown l).tells) ≡ false
 
 -- then a space that may fail does, over what its parent sees
 pub record IsFailing (above : List Tell) (l : Level) (kept : List Tell) : Type 0 where
@@ -38,18 +38,18 @@ pub record IsFailing (above : List Tell) (l : Level) (kept : List Tell) : Type 0
   pub clash : is_consistent (above ++ (shown l).tells) ≡ false
 
 -- what becomes of a space under a parent that sees this
-abbrev pub IsUnder : List Tell → Level → Fate → Type 0
-IsUnder above l (Sees seen) = IsSeen above l seen
-IsUnder above l (Fails store) = IsFailing above l store
-IsUnder above l Gone = ⊥
-IsUnder above l Stays = ⊥
+abbrev pub IsUnder : List Layer → List Tell → Level → Fate → Type 0
+IsUnder layers above l (Sees seen) = IsSeen layers above l seen
+IsUnder layers above l (Fails store) = IsFailing above l store
+IsUnder layers above l Gone = ⊥
+IsUnder layers above l Stays = ⊥
 
 -- and by what becomes of the parent
-abbrev pub IsAfter : Level → Fate → Level → Fate → Type 0
-IsAfter parent Stays l fate = IsUnder parent.store l fate
-IsAfter parent (Sees seen) l fate = IsUnder seen.store l fate
-IsAfter parent (Fails store) l fate = fate ≡ Gone
-IsAfter parent Gone l fate = fate ≡ Gone
+abbrev pub IsAfter : List Layer → Level → Fate → Level → Fate → Type 0
+IsAfter layers parent Stays l fate = IsUnder layers parent.store l fate
+IsAfter layers parent (Sees seen) l fate = IsUnder layers seen.store l fate
+IsAfter layers parent (Fails store) l fate = fate ≡ Gone
+IsAfter layers parent Gone l fate = fate ≡ Gone
 
 -- the space at a place is the parent of a space
 pub record IsParentAt (levels : List Level) (place : ℕ) (space : List ℕ) : Type 0 where
@@ -64,7 +64,7 @@ pub record IsDecided (levels : List Level) (fates : List Fate) (l : Level) (fate
   pub stands : slice_get levels place ≡ Some parent
   pub has : slice_get fates place ≡ Some above
   pub name : parent.space ≡ parent_of l.space
-  pub after : IsAfter parent above l fate
+  pub after : IsAfter (shown_all levels) parent above l fate
 
 -- of a space that is below the one that was told; all others stay as they are
 abbrev pub IsChosen : List ℕ → List Level → List Fate → Level → Fate → Type 0

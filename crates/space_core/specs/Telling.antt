@@ -9,7 +9,7 @@ use Rattle.oz_semantics.specs.declared.value.Tell.{Tell}
 use Rattle.oz_semantics.specs.declared.configuration.Frame.{Frame}
 use Rattle.oz_semantics.specs.declared.configuration.Layer.{Layer}
 use Rattle.view_laws.specs.Spaceless.{gives_space}
-use Rattle.space_core.specs.Fates.{AreFates, settled}
+use Rattle.space_core.specs.Fates.{AreFates, with_fates}
 use Rattle.space_core.specs.Giving.{after_giving}
 use Rattle.space_core.specs.Shown.{shown_all, is_home, is_other, Traces, IsQuiet}
 use Rattle.space_core.specs.declared.fates.Fate.{Fate}
@@ -74,7 +74,7 @@ sees_at place l store levels = slice_set levels place (record l { store = store 
 pub record IsRemade (place : ℕ) (before told : Level) (old new : List Level) : Type 0 where
   pub fates : List Fate
   pub are : AreFates before.space (sees_at place before told.store old) fates
-  pub left : new ≡ settled fates (slice_set old place told)
+  pub left : new ≡ with_fates fates (slice_set old place told)
 
 -- the space at a place sees what is in the store, and this becomes of the spaces by that
 pub record IsStoreAt (place : ℕ) (store : List Tell) (old new : List Level) (fates : List Fate) : Type 0 where

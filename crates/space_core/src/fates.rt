@@ -1,9 +1,12 @@
 //! What becomes of the spaces below one that was told more.
-ghost use Rattle.std.specs.Prelude.{◌≡◌, true, drop, IfOk, IfSome};
+ghost use Rattle.std.specs.Prelude.{◌≡◌, ◌⊎◌, true, drop, IfOk, IfSome};
+ghost use Rattle.std.specs.List.{list_all};
+ghost use Rattle.oz_semantics.specs.Store.{named_by};
 ghost use Rattle.oz_semantics.specs.Settling.{may_fail};
+ghost use Rattle.space_core.specs.Shown.{shown, shown_all, is_home};
 ghost use Rattle.space_core.specs.Fates.{IsSeenUnder, IsUnder, IsAfter, IsParentAt, IsDecided, IsChosen, AreFates};
 
-use crate::homes::is_properly_above;
+use crate::homes::{all_home, is_properly_above};
 use crate::level::Level;
 use crate::telling::drop_own;
 use crate::tree::is_parent;
@@ -48,9 +51,25 @@ pub fn told_from(alloc: Global, store: &Store, from: u64) -> Result<Vec<Tell>, A
     Ok(tells)
 }
 
+/// Whether all variables that the space was told of are known or found to be those of the space and of spaces above it.
+fn is_traced(levels: &[Level], level: &Level, tells: &[Tell]) -> bool
+    requires { tells.now ≡ (shown level.now).tells }
+    ensures { result ≡ true → (level.now.traced ≡ true) ⊎ (list_all (λ t. list_all (is_home (shown_all levels.now) level.now.space) (named_by t)) (shown level.now).tells ≡ true) }
+{
+    if level.traced {
+        return true;
+    }
+    all_home(levels, &level.space, tells)
+}
+
 /// What a space sees that was told the same under a parent that sees this. None where that is inconsistent.
-fn seen_under(alloc: Global, above: &Store, level: &Level) -> Result<Option<Seen>, AllocError>
-    ensures { IfOk result (IsSeenUnder above.now level.now) }
+fn seen_under(
+    alloc: Global,
+    levels: &[Level],
+    above: &Store,
+    level: &Level,
+) -> Result<Option<Seen>, AllocError>
+    ensures { IfOk result (IsSeenUnder (shown_all levels.now) above.now level.now) }
 {
     let tells = told_from(alloc, &level.store, level.told_from)?;
     let mut store = above.copied(alloc)?;
@@ -63,7 +82,7 @@ fn seen_under(alloc: Global, above: &Store, level: &Level) -> Result<Option<Seen
         store,
         told_from: above.len(),
         touched: Sequence::from_vec(touched),
-        traced: level.traced,
+        traced: is_traced(levels, level, tells.as_slice()),
     }))
 }
 
@@ -80,9 +99,9 @@ fn may_fail(status: &Status) -> bool
 /// What becomes of a space that sees what is inconsistent, under a parent that sees this. It refuses where the space has failed
 /// or become a part of another one before, and was told something since then: it would be left with what is inconsistent. No thread is
 /// left in it that could tell it.
-fn fall(alloc: Global, above: &Store, level: &Level) -> Result<Fate, AllocError>
-    requires { IsSeenUnder above.now level.now None }
-    ensures { IfOk result (IsUnder above.now level.now) }
+fn fall(alloc: Global, levels: &[Level], above: &Store, level: &Level) -> Result<Fate, AllocError>
+    requires { IsSeenUnder (shown_all levels.now) above.now level.now None }
+    ensures { IfOk result (IsUnder (shown_all levels.now) above.now level.now) }
 {
     if !may_fail(&level.status) {
         return Err(AllocError);
@@ -91,11 +110,16 @@ fn fall(alloc: Global, above: &Store, level: &Level) -> Result<Fate, AllocError>
 }
 
 /// What becomes of a space under a parent that sees this.
-fn fate_under(alloc: Global, above: &Store, level: &Level) -> Result<Fate, AllocError>
-    ensures { IfOk result (IsUnder above.now level.now) }
+fn fate_under(
+    alloc: Global,
+    levels: &[Level],
+    above: &Store,
+    level: &Level,
+) -> Result<Fate, AllocError>
+    ensures { IfOk result (IsUnder (shown_all levels.now) above.now level.now) }
 {
-    match seen_under(alloc, above, level)? {
-        None => fall(alloc, above, level),
+    match seen_under(alloc, levels, above, level)? {
+        None => fall(alloc, levels, above, level),
         Some(seen) => Ok(Fate::Sees(seen)),
     }
 }
@@ -103,15 +127,16 @@ fn fate_under(alloc: Global, above: &Store, level: &Level) -> Result<Fate, Alloc
 /// What becomes of a space, by what becomes of its parent.
 fn fate_after(
     alloc: Global,
+    levels: &[Level],
     parent: &Level,
     above: &Fate,
     level: &Level,
 ) -> Result<Fate, AllocError>
-    ensures { IfOk result (IsAfter parent.now above.now level.now) }
+    ensures { IfOk result (IsAfter (shown_all levels.now) parent.now above.now level.now) }
 {
     match above {
-        Fate::Stays => fate_under(alloc, &parent.store, level),
-        Fate::Sees(seen) => fate_under(alloc, &seen.store, level),
+        Fate::Stays => fate_under(alloc, levels, &parent.store, level),
+        Fate::Sees(seen) => fate_under(alloc, levels, &seen.store, level),
         Fate::Fails(_) | Fate::Gone => Ok(Fate::Gone),
     }
 }
@@ -153,7 +178,7 @@ fn fate_below(
     let Some(above) = fates.get(place) else {
         return Err(AllocError);
     };
-    fate_after(alloc, &levels[place], above, level)
+    fate_after(alloc, levels, &levels[place], above, level)
 }
 
 /// What becomes of the next space, by what becomes of those before it.

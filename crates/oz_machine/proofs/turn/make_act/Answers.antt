@@ -17,8 +17,8 @@ use Rattle.oz_machine.proofs.StepEdits.{effect_popped}
 use Rattle.oz_machine.proofs.ToldLaws.{not_true, told_done, none_fails, done_below, pop_below, alone_there}
 use Rattle.oz_machine.proofs.turn.make_act.Goals as goal
 
-pub raise_kind-requires : goal.raise_kind-requires
-raise_kind-requires c =
+pub clash-requires : goal.clash-requires
+clash-requires c =
     let id = c.args.id.now in
     let now = c.args.course.now in
     let effect = act_effect (layer_of now.levels id.space) (act_of c.args.what.now) in
@@ -31,7 +31,7 @@ returns-then-not-branch-clause-err c =
     let now = c.args.course.now in
     let effect = act_effect (layer_of now.levels id.space) (act_of c.args.what.now) in
     let d = done_clashes c.args.kernel.now id effect now.levels c.act.new.levels (stepping now) (rw c.if-not-branch.true at c.in_ok-act.ensures.ok) in
-    subst (λ (ls : List Layer). OnErr c.raise_kind.result (c.raise_kind.new.course ≡ record now { levels = ls })) d.0 c.raise_kind.ensures.err
+    subst (λ (ls : List Layer). OnErr c.clash.result (c.clash.new.course ≡ record now { levels = ls })) d.0 c.clash.ensures.err
 
 pub returns-then-not-branch-clause-turn : goal.returns-then-not-branch-clause-turn
 returns-then-not-branch-clause-turn c =
@@ -43,14 +43,14 @@ returns-then-not-branch-clause-turn c =
     let act = act_of c.args.what.now in
     let wt = without_top id old in
     let d = done_clashes k id (act_effect (layer_of old id.space) act) old new (stepping now) (rw c.if-not-branch.true at c.in_ok-act.ensures.ok) in
-    ok_turn c.raise_kind.result (after_effect k id wt (stepping now) (act_effect (layer_of wt id.space) act))
-    (raised_kind k.statements id FailureTell (without_top id new) (stepping (record now { levels = new }))) (config_of k.statements c.raise_kind.new.course)
+    ok_turn c.clash.result (after_effect k id wt (stepping now) (act_effect (layer_of wt id.space) act))
+    (raised_kind k.statements id FailureTell (without_top id new) (stepping (record now { levels = new }))) (config_of k.statements c.clash.new.course)
     (
     ap (after_effect k id wt (stepping now)) (effect_popped id old act c.requires.there)
     ∙ d.1
     ∙ ap (λ (ls : List Layer). raised_kind k.statements id FailureTell (without_top id ls) (stepping (record now { levels = ls }))) (sym d.0)
     )
-    (c.raise_kind.ensures.turn k.statements)
+    (c.clash.ensures.turn k.statements)
 
 pub returns-then-quiet-clause-turn : goal.returns-then-quiet-clause-turn
 returns-then-quiet-clause-turn c =

@@ -12,8 +12,8 @@ use Rattle.oz_machine.specs.Courses.{config_of, stepping}
 use Rattle.oz_machine.proofs.DoingLaws.{ok_turn}
 use Rattle.oz_machine.proofs.turn.make_edit.Goals as goal
 
-pub raise_kind-requires : goal.raise_kind-requires
-raise_kind-requires c =
+pub clash-requires : goal.clash-requires
+clash-requires c =
     let id = c.args.id.now in
     let d = rw c.if-not-branch.true at c.in_ok-edit.ensures.ok in
     record { head = c.requires.head; there = ap (λ (ls : List Layer). is_some (layer_at ls id.space)) d.1 ∙ c.requires.there }
@@ -22,7 +22,7 @@ pub returns-then-not-branch-clause-err : goal.returns-then-not-branch-clause-err
 returns-then-not-branch-clause-err c =
     let now = c.args.course.now in
     let d = rw c.if-not-branch.true at c.in_ok-edit.ensures.ok in
-    subst (λ (ls : List Layer). OnErr c.raise_kind.result (c.raise_kind.new.course ≡ record now { levels = ls })) d.1 c.raise_kind.ensures.err
+    subst (λ (ls : List Layer). OnErr c.clash.result (c.clash.new.course ≡ record now { levels = ls })) d.1 c.clash.ensures.err
 
 pub returns-then-not-branch-clause-turn : goal.returns-then-not-branch-clause-turn
 returns-then-not-branch-clause-turn c =
@@ -34,13 +34,13 @@ returns-then-not-branch-clause-turn c =
     let what = edit_of c.args.what.now in
     let wt = without_top id old in
     let d = rw c.if-not-branch.true at c.in_ok-edit.ensures.ok in
-    ok_turn c.raise_kind.result (after_answer k id wt (stepping now) (answers.Edits what))
-    (raised_kind k.statements id FailureTell (without_top id new) (stepping (record now { levels = new }))) (config_of k.statements c.raise_kind.new.course)
+    ok_turn c.clash.result (after_answer k id wt (stepping now) (answers.Edits what))
+    (raised_kind k.statements id FailureTell (without_top id new) (stepping (record now { levels = new }))) (config_of k.statements c.clash.new.course)
     (
     ap (λ (b : Bool). if b then went_on k.statements id 1 (edited k.statements id.space what (in_layer id.space (telling (tells_with id what wt)) wt)) (stepping now) else raised_kind k.statements id FailureTell wt (stepping now)) d.0
     ∙ ap (λ (ls : List Layer). raised_kind k.statements id FailureTell (without_top id ls) (stepping (record now { levels = ls }))) (sym d.1)
     )
-    (c.raise_kind.ensures.turn k.statements)
+    (c.clash.ensures.turn k.statements)
 
 pub returns-clause-turn : goal.returns-clause-turn
 returns-clause-turn c =
