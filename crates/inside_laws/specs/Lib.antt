@@ -1,0 +1,3 @@
+pub mod Settled
+pub mod Outside
+pub mod Contents
