@@ -26,7 +26,7 @@ child_below s t e = elim (decide (list_eq s t)) [
     parent : is_below s (parent_of t) ≡ true
     parent = subst (λ u. is_below s u ≡ true) (sym (equal_names (parent_of t) s (and-right (not (is_top t)) _ e))) (below_itself s)
 
--- a child is the space itself or below it only where its parent is below it too
+-- where a space is not below t, a child of it that is not t is not below t
 pub child_outside : (t u c : List ℕ) → is_child_of u c ≡ true → is_below t u ≡ false → list_eq t c ≡ false → is_below t c ≡ false
 child_outside t u c k e n = above_parent t c n ∙ ap (is_below t) (equal_names (parent_of c) u (and-right (not (is_top c)) _ k)) ∙ e
 

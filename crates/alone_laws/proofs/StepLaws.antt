@@ -47,7 +47,7 @@ EditIsOf parent (Copies child x) = IsChildOf parent child
 EditIsOf parent (Injects child procedure) = IsChildOf parent child
 EditIsOf parent (TakesIn child x) = IsChildOf parent child
 
--- and what it shows, it shows in the top
+-- so of what its statement answers
 abbrev pub AnswerIsOf : List ℕ → Answer → Type 0
 AnswerIsOf parent (Acts act) = Unit {0}
 AnswerIsOf parent (Edits edit) = EditIsOf parent edit

@@ -17,6 +17,7 @@ is_kept space l = is_below l.space space || is_below space l.space
 abbrev pub quieted : List ℕ → Layer → Layer
 quieted space l = if is_properly_below l.space space then record l { threads = []; triggers = [] } else l
 
+-- the layers of these
 abbrev pub alone_layers : List ℕ → List Layer → List Layer
 alone_layers space layers = map (quieted space) (filter (is_kept space) layers)
 
@@ -24,6 +25,7 @@ alone_layers space layers = map (quieted space) (filter (is_kept space) layers)
 abbrev pub is_own : List ℕ → Ident → Bool
 is_own space id = is_below space id.space
 
+-- these layers, and of the queue the threads of the space and of those below it
 abbrev pub alone : List ℕ → Configuration → Configuration
 alone space c = record c { layers = alone_layers space c.layers; queue = filter (is_own space) c.queue }
 
