@@ -1,0 +1,16 @@
+pub mod Lists
+pub mod OrderLaws
+pub mod OutsideLaws
+pub mod ShowLaws
+pub mod WaitLaws
+pub mod RestLaws
+pub mod StepLaws
+pub mod AloneLaws
+pub mod AloneStates
+pub mod AloneParts
+pub mod AloneRest
+pub mod AloneEdits
+pub mod AloneSteps
+pub mod AloneTurns
+pub mod AloneRests
+pub mod AloneRunLaws
