@@ -1,10 +1,11 @@
 -- A child that goes on with an alternative.
-use Rattle.std.proofs.Common.{◌≡◌, ℕ, true, List, [], drop, refl, sym, ap, subst, ◌∙◌, Some}
-use Rattle.std.specs.Prelude.{position}
+use Rattle.std.proofs.Common.{◌≡◌, ℕ, Bool, true, List, [], drop, refl, sym, ap, subst, ◌∙◌, Some}
+use Rattle.std.specs.Prelude.{position, Result, Ok, Err, IfOk}
+use Rattle.std.specs.declared.alloc.AllocError.{AllocError}
 use Rattle.oz_base.specs.declared.names.Ident.{Ident}
 use Rattle.oz_language.specs.declared.kernel.Statement.{Statement}
 use Rattle.oz_semantics.specs.Store.{View, is_consistent}
-use Rattle.oz_semantics.specs.Answers.{Commits}
+use Rattle.oz_semantics.specs.Answers.{Edit, Commits}
 use Rattle.oz_semantics.specs.Configurations.{is_of, view, in_layer, with_frames, telling}
 use Rattle.oz_semantics.specs.Edits.{committing, committed}
 use Rattle.oz_semantics.specs.Settling.{inconsistent_spaces}
@@ -18,7 +19,7 @@ use Rattle.settle_laws.proofs.ListEdits.{edits_apart}
 use Rattle.settle_laws.proofs.SettleLaws.{nothing_fails}
 use Rattle.edit_laws.specs.Edits.{HasChild}
 use Rattle.space_core.specs.Levels.{OfLayer}
-use Rattle.space_core.specs.SpaceEdits.{IsEditedBy}
+use Rattle.space_core.specs.SpaceEdits.{IsEdited, IsEditedBy}
 use Rattle.space_core.proofs.SpaceEditLaws.{untold, untold_consistent, child_apart}
 
 module _ (statements : List Statement) (id : Ident) (old : List Layer) (child : List ℕ) (i : ℕ) (has : HasChild old id.space child) where
@@ -37,3 +38,8 @@ module _ (statements : List Statement) (id : Ident) (old : List Layer) (child : 
         untold_consistent id old has.parent_there place p store sees consistent,
         subst (λ (ls : List Layer). Settles id.space ls new) (sym is_new) (nothing_fails id.space new none),
       )
+
+-- what holds whatever the statements are holds of these
+pub by_these : (statements : List Statement) (id : Ident) (edit : Edit) (old new : List Layer) (r : Result Bool AllocError) → IfOk r (IsEdited id edit old new) → IfOk r (IsEditedBy statements id edit old new)
+by_these statements id edit old new (Ok done) h = h statements
+by_these statements id edit old new (Err fault) h = h

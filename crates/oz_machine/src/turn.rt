@@ -28,7 +28,7 @@ use crate::editing::edit;
 use crate::following::{follow, go_on};
 use crate::quiet::go_on_quietly;
 use crate::raising::{clash, raise, raise_kind};
-use crate::settling::{settle, top_answer};
+use crate::settling::{settle_only, top_answer};
 use crate::told::go_on_told;
 use builtins::{Act, Answer, Edit};
 use operations::Outcome;
@@ -424,10 +424,7 @@ fn step_answering(
 {
     let statements = kernel.statements.as_slice();
     let mut answer = top_answer(alloc, statements, &course.levels, place, id)?;
-    if operates(&answer) {
-        return step_operating(alloc, kernel, place, id, kept, course, fuel);
-    }
-    step_as(alloc, kernel, place, id, &mut answer, kept, course, fuel)
+    step_answered(alloc, kernel, place, id, &mut answer, kept, course, fuel)
 }
 
 /// A step of the thread at the head of the queue, whose answer was not made. A declaration needs none.
@@ -572,6 +569,25 @@ pub fn turn(
     Ok(turned)
 }
 
+/// A turn, where nobody is due and no answer was made already.
+fn turn_anew(
+    alloc: Global,
+    kernel: &Kernel,
+    course: &mut Course,
+    kept: &mut bool,
+    fuel: u64,
+) -> Result<Option<Stepped>, AllocError>
+    requires due { course.old.due ≡ Nobody }
+    requires kept { Keeps kernel.now.statements kept.old course.old }
+    ensures turn { IfOk result (IsTurn (turn kernel.now (config_of kernel.now.statements course.old)) fuel (config_of kernel.now.statements course.old) (config_of kernel.now.statements course.new)) }
+    ensures cost { IfOk result (λ turned. IfSome turned (CostsWithin fuel)) }
+    ensures kept { Keeps kernel.now.statements kept.new course.new }
+    ensures err { OnErr result (course.new ≡ course.old) }
+{
+    let mut answered = None;
+    turn(alloc, kernel, &mut answered, course, kept, fuel)
+}
+
 /// A turn, after those who are due were asked.
 pub fn step(
     alloc: Global,
@@ -586,7 +602,6 @@ pub fn step(
     ensures kept { Keeps kernel.now.statements kept.new course.new }
     ensures err { OnErr result (config_of kernel.now.statements course.new ≡ config_of kernel.now.statements course.old) }
 {
-    let mut answered = None;
-    settle(alloc, kernel.statements.as_slice(), course, &mut answered)?;
-    turn(alloc, kernel, &mut answered, course, kept, fuel)
+    settle_only(alloc, kernel.statements.as_slice(), course)?;
+    turn_anew(alloc, kernel, course, kept, fuel)
 }

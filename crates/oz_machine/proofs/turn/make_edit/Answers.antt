@@ -1,12 +1,13 @@
-use Rattle.std.proofs.Common.{◌≡◌, ◌∙◌, Bool, false, true, if◌then◌else◌, List, ap, sym, subst}
+use Rattle.std.proofs.Common.{◌≡◌, ◌∙◌, Bool, if◌then◌else◌, List, ap, sym, subst}
 use Rattle.std.specs.Prelude.{is_some, OnErr}
+use Rattle.oz_language.specs.declared.kernel.Statement.{Statement}
 use Rattle.oz_semantics.specs.Answers as answers
 use Rattle.oz_semantics.specs.Configurations.{in_layer, layer_at, telling}
-use Rattle.oz_semantics.specs.Settling.{Turned}
 use Rattle.oz_semantics.specs.Steps.{after_answer, edited, went_on, raised_kind, without_top}
 use Rattle.oz_semantics.specs.declared.configuration.Layer.{Layer}
 use Rattle.oz_semantics.specs.declared.outcome.RaiseKind.TheVariants.{FailureTell}
 use Rattle.builtins.specs.Answers.{edit_of}
+use Rattle.settle_laws.specs.Settles.{Settles}
 use Rattle.space_core.specs.SpaceEdits.{tells_with}
 use Rattle.oz_machine.specs.Courses.{config_of, stepping}
 use Rattle.oz_machine.proofs.DoingLaws.{ok_turn}
@@ -52,4 +53,6 @@ returns-clause-turn c =
     let made : List Layer = edited k.statements id.space what (in_layer id.space (telling (tells_with id what wt)) wt) in
     let d = rw c.if-not-branch.false at c.in_ok-edit.ensures.ok in
     ap (λ (b : Bool). if b then went_on k.statements id 1 made (stepping now) else raised_kind k.statements id FailureTell wt (stepping now)) d.0
-    ∙ c.go_on.ensures.turn k.statements made d.1
+    ∙ c.go_on.ensures.turn k.statements made (
+    subst (λ (st : List Statement). Settles id.space (edited st id.space what (in_layer id.space (telling (tells_with id what wt)) wt)) c.edit.new.levels) c.as_slice-statements.ensures d.1
+    )

@@ -31,7 +31,7 @@ returns-in-Edits-clause-turn c = λ a h.
     let id = c.args.id.now in
     let now = c.args.course.now in
     let edits = rw c.in-Edits.is at h in
-    let edit = answers.Edits (edit_of c.in-Edits.edit.now) in
+    let edit = answers.Edits (edit_of c.in-Edits.edit) in
     ok_turn c.make_edit.result (after_answer k id (without_top id now.levels) (stepping now) a) (after_answer k id (without_top id now.levels) (stepping now) edit) (config_of k.statements c.make_edit.new.course)
     (ap (after_answer k id (without_top id now.levels) (stepping now)) edits) c.make_edit.ensures.turn
 

@@ -1,5 +1,4 @@
 use Rattle.settle_laws.proofs.SettleLaws.{nothing_fails}
-use Rattle.oz_semantics.specs.declared.configuration.Layer.{Layer}
 use Rattle.oz_machine.proofs.turn.rest.Goals as goal
 
 pub returns-clause-turn : goal.returns-clause-turn

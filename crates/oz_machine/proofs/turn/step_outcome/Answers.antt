@@ -1,5 +1,8 @@
-use Rattle.std.proofs.Common.{◌∙◌, ap}
+use Rattle.std.proofs.Common.{List, sym, ap, ◌∙◌}
+use Rattle.oz_semantics.specs.Answers as answers
 use Rattle.oz_semantics.specs.Steps.{after_answer, without_top}
+use Rattle.oz_raise.specs.Nodes.{term_of}
+use Rattle.oz_raise.specs.declared.node.Node.{Node}
 use Rattle.oz_machine.specs.Courses.{stepping}
 use Rattle.oz_acts.proofs.PlaceLaws.{place_there}
 use Rattle.oz_machine.proofs.turn.step_outcome.Goals as goal
@@ -9,3 +12,12 @@ make_term-requires c = record { head = c.requires.head; there = place_there c.ar
 
 pub returns-in-Answers-clause-turn : goal.returns-in-Answers-clause-turn
 returns-in-Answers-clause-turn c = λ a h. c.step_as.ensures.turn a (rw c.in-Answers.is at h)
+
+pub returns-in_ok-make_term-in-GivesTerm-clause-turn : goal.returns-in_ok-make_term-in-GivesTerm-clause-turn
+returns-in_ok-make_term-in-GivesTerm-clause-turn c = λ a h.
+    let id = c.args.id.now in
+    let now = c.args.course.now in
+    let gives = rw c.in-GivesTerm.is at h in
+    ap (after_answer c.args.kernel.now id (without_top id now.levels) (stepping now)) gives
+    ∙ ap (λ (ns : List Node). after_answer c.args.kernel.now id (without_top id now.levels) (stepping now) (answers.Acts (answers.GivesTerm c.in-GivesTerm.variable (term_of ns)))) (sym c.as_slice.ensures)
+    ∙ c.in_ok-make_term-in-GivesTerm.ensures.turn
