@@ -182,8 +182,7 @@ fn a_failed_space_has_no_cells(rt: HostRuntime) -> Result<(), Fail> {
     let alloc = rt.alloc();
     let top = SpaceName::top();
     let mut levels = with_objects(alloc)?;
-    let above = levels.store_above(alloc, &top)?;
-    levels.fail_over(&top, above);
+    levels.fail(&top);
     assert_eq!(rt; levels.len(), 1);
     assert_eq!(rt; levels.cell_count_at(0), 0);
     assert_eq!(rt; levels.port_count_at(0), 0);
