@@ -1,6 +1,7 @@
 -- What is kept of the spaces fits their layers where a space is created.
 use Rattle.std.proofs.Common.{◌≡◌, inl, inr, ℕ, ◌+◌, nat_eq, Bool, true, false, ◌&&◌, if◌then◌else◌, cond, List, [], ◌∷◌, ◌++◌, flat_map, length, slice_set, slice_index_or, refl, sym, ap, ap₂, subst, ◌∙◌, arith, Contains, Option, Some, unwrap_or}
 use Rattle.std.specs.List.{list_any, list_all, find}
+use Rattle.std.proofs.lemmas.Bool.{false≢true}
 use Rattle.oz_base.specs.Lists.{list_eq, edit_first, put_before}
 use Rattle.oz_base.specs.declared.names.Ident.{Ident}
 use Rattle.oz_semantics.specs.Names.{parent_of, space_lt, child_name}
@@ -158,7 +159,7 @@ module _ (levels : List Level) (s : IsSound levels) (parent : List ℕ) (place :
   fits_child = fits_at after name m (sym (ap (λ (k : Layer). k.space) child.shows)) (record {
     seen = λ b. child.untold.store ∙ sym (child_view ∙ sees_parent);
     from = λ b. child.untold.told_from ∙ ap length (sym above_child);
-    bare = λ b. absurd (not_both _ b child.untold.kept);
+    bare = λ b. absurd (false≢true (sym child.untold.kept ∙ b));
     consistent = ap is_consistent child_view ∙ ap (λ (p : List ℕ). is_consistent (view layers p)) (sym own_name) ∙ own_fits.consistent;
     home = λ t. ap (λ (ts : List Tell). list_all (is_home after name) (flat_map named_by ts)) no_tells;
     touches = λ t n.

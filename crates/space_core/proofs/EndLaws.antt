@@ -16,7 +16,7 @@ use Rattle.view_laws.specs.Spaceless.{gives_space}
 use Rattle.view_laws.proofs.Members.{decide, not_both, some_of}
 use Rattle.view_laws.proofs.NameLaws.{below_itself, properly_trans}
 use Rattle.view_laws.proofs.ListLaws.{in_filter}
-use Rattle.view_laws.proofs.SightLaws.{quiet_unseen, raise_unseen, parent_above, space_of}
+use Rattle.view_laws.proofs.SightLaws.{quiet_unseen, raise_unseen, parent_above, space_of, not_false}
 use Rattle.view_laws.proofs.TreeLaws.{tree_left}
 use Rattle.space_core.specs.Ending.{fallen}
 use Rattle.space_core.specs.Places.{IsFirst}
@@ -91,13 +91,9 @@ module _ (levels : List Level) (space : List ℕ) (s : IsSound levels) where
 -- A space that fails, of which none is below
 
 -- the top has none above it
-above_top : (layers : List Layer) (space : List ℕ) → is_top space ≡ true → seen_above layers space ≡ []
-above_top layers [] e = refl
-above_top layers (n ∷ s) e = absurd (false≢true e)
-
-not_false : (b : Bool) → not b ≡ false → b ≡ true
-not_false true e = refl
-not_false false e = absurd (false≢true (sym e))
+above_top : (ls : List Layer) (space : List ℕ) → is_top space ≡ true → seen_above ls space ≡ []
+above_top ls [] e = refl
+above_top ls (n ∷ s) e = absurd (false≢true e)
 
 module _ (levels : List Level) (space : List ℕ) (place : ℕ) (x : Layer) (h : IsFirst (is_of space) (shown_all levels) place x) (l : Level) (e : l ≡ slice_index_or levels place l) (s : IsSound levels)
     (none : has_below (shown_all levels) space ≡ false) where

@@ -102,7 +102,7 @@ fits_after before after l v a h f = record {
   known = f.known;
 }
 
-pub drop_nothing : {A : Type 0} (n : ℕ) → drop n ([] : List A) ≡ []
+pub drop_nothing : {A : Type 0} (n : ℕ) → ◌≡◌ {A = List A} (drop n []) []
 drop_nothing zero = refl
 drop_nothing (suc n) = refl
 

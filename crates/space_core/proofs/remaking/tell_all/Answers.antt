@@ -10,7 +10,7 @@ pub returns-then-not-branch-clause-told : goal.returns-then-not-branch-clause-to
 returns-then-not-branch-clause-told c = record {
   before = c.index-level.result.now;
   read = c.index-level.ensures;
-  kept = c.if-bare.false;
+  kept = c.if-level.false;
   clash = subst (λ (us : List Tell). is_consistent (us ++ c.args.tells.now) ≡ false) c.in_ok-store.ensures
       (subst (IsTold c.in_ok-store.store c.args.tells.now c.tell.new.self c.new-noted.result.items c.tell.new.touched.items) c.if-not-branch.true c.in_ok-tell.ensures.told).1;
   left = refl;
@@ -23,4 +23,4 @@ returns-clause-told c =
     (subst (λ (us : List Tell). IsTold us c.args.tells.now c.tell.new.self [] c.tell.new.touched.items true) c.in_ok-store.ensures
     (subst (λ (xs : List Ident). IsTold c.in_ok-store.store c.args.tells.now c.tell.new.self xs c.tell.new.touched.items true) c.new-noted.ensures.items
     (subst (IsTold c.in_ok-store.store c.args.tells.now c.tell.new.self c.new-noted.result.items c.tell.new.touched.items) c.if-not-branch.false c.in_ok-tell.ensures.told)))
-    c.index_mut.ensures.value c.note.ensures c.if-bare.false c.meet_all.new.levels.items c.meet_all.ensures
+    c.index_mut.ensures.value c.note.ensures c.if-level.false c.meet_all.new.levels.items c.meet_all.ensures
