@@ -1,18 +1,14 @@
 -- What is kept of the spaces fits their layers where a space ends.
-use Rattle.std.proofs.Common.{◌≡◌, inl, inr, ℕ, Bool, true, false, not, List, [], ◌∷◌, ◌++◌, filter, flat_map, length, drop, slice_set, slice_index_or, refl, sym, ap, ap₂, subst, ◌∙◌, arith, Contains}
-use Rattle.std.specs.List.{list_any, list_all}
+use Rattle.std.proofs.Common.{◌≡◌, inl, inr, ℕ, Bool, true, false, not, List, [], ◌∷◌, ◌++◌, filter, length, slice_set, slice_index_or, refl, sym, ap, subst, ◌∙◌, arith, Contains}
 use Rattle.std.proofs.lemmas.Bool.{false≢true}
 use Rattle.std.proofs.lemmas.List.{append-nil}
-use Rattle.std.proofs.Math.Seq.{drop-length}
 use Rattle.oz_semantics.specs.Names.{is_below, is_properly_below, is_top, parent_of, named}
-use Rattle.oz_semantics.specs.Store.{named_by, is_consistent}
+use Rattle.oz_semantics.specs.Store.{is_consistent}
 use Rattle.oz_semantics.specs.Configurations.{is_of, view, raised_by, failed}
-use Rattle.oz_semantics.specs.declared.value.Tell.{Tell}
 use Rattle.oz_semantics.specs.declared.configuration.Layer.{Layer}
 use Rattle.oz_laws.proofs.SameLaws.{In-from_contains, contains-from_In}
 use Rattle.term_store.proofs.ClosingLaws.{consistent_prefix}
 use Rattle.view_laws.specs.Trees.{IsTree}
-use Rattle.view_laws.specs.Spaceless.{gives_space}
 use Rattle.view_laws.proofs.Members.{decide, not_both, some_of}
 use Rattle.view_laws.proofs.NameLaws.{below_itself, properly_trans}
 use Rattle.view_laws.proofs.ListLaws.{in_filter}
@@ -20,7 +16,7 @@ use Rattle.view_laws.proofs.SightLaws.{quiet_unseen, raise_unseen, parent_above,
 use Rattle.view_laws.proofs.TreeLaws.{tree_left}
 use Rattle.space_core.specs.Ending.{fallen}
 use Rattle.space_core.specs.Places.{IsFirst}
-use Rattle.space_core.specs.Shown.{next_with, shown, shown_all, seen_above, is_home, Traces, Fits, IsSound}
+use Rattle.space_core.specs.Shown.{shown, shown_all, seen_above, Fits, IsSound}
 use Rattle.space_core.specs.Telling.{has_below}
 use Rattle.space_core.specs.declared.level.Level.{Level}
 use Rattle.space_core.proofs.MemberLaws.{filter_member, map_filter}

@@ -3,12 +3,11 @@ use Rattle.std.proofs.Common.{◌≡◌, ◌⊎◌, inl, inr, ℕ, zero, suc, tr
 use Rattle.std.specs.List.{list_any, list_all}
 use Rattle.std.proofs.lemmas.Bool.{false≢true}
 use Rattle.std.proofs.lemmas.List.{append-nil}
-use Rattle.std.proofs.Math.Seq.{drop-length, drop-append_seam}
+use Rattle.std.proofs.Math.Seq.{drop-append_seam}
 use Rattle.oz_semantics.specs.Names.{is_below, is_properly_below, is_top, parent_of}
 use Rattle.oz_semantics.specs.Store.{named_by, is_consistent}
 use Rattle.oz_semantics.specs.Configurations.{view, failed}
 use Rattle.oz_semantics.specs.Settling.{may_fail, is_inconsistent, inconsistent_spaces, without_inconsistent}
-use Rattle.oz_semantics.specs.declared.configuration.Status.TheVariants.{Failed}
 use Rattle.oz_semantics.specs.declared.value.Tell.{Tell}
 use Rattle.oz_semantics.specs.declared.configuration.Layer.{Layer}
 use Rattle.oz_laws.proofs.SameLaws.{In, In-from_contains, contains-from_In, and-right}

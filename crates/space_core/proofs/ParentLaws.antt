@@ -1,10 +1,8 @@
 -- The name of the parent of a space.
 use Rattle.std.proofs.Common.{◌≡◌, ℕ, suc, ◌-◌, ◌<◌, arith, Bool, true, false, List, [], ◌∷◌, take, length, refl, sym, ◌∙◌, ap, Contains, slice_index_or}
-use Rattle.std.proofs.lemmas.Bool.{false≢true}
 use Rattle.std.proofs.lemmas.List.{get_or_default}
 use Rattle.oz_base.specs.Lists.{is_empty, list_eq}
 use Rattle.oz_semantics.specs.Names.{is_top, parent_of}
-use Rattle.oz_semantics.specs.declared.value.Tell.{Tell}
 use Rattle.oz_laws.proofs.SameLaws.{contains-from_In}
 use Rattle.view_laws.proofs.NameLaws.{equal_names}
 use Rattle.view_laws.proofs.ListLaws.{found_in}

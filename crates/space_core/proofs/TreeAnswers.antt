@@ -1,5 +1,5 @@
 -- Tells and ends of the space that was looked up.
-use Rattle.std.proofs.Common.{◌≡◌, inl, inr, ℕ, zero, suc, ◌<◌, ◌+◌, length, slice_get, arith, Option, unwrap_or, Bool, true, false, not, ◌&&◌, List, [], ◌∷◌, ◌++◌, filter, slice_set, slice_index_or, refl, sym, ap, ap₂, subst, ◌∙◌, Result, Ok, Err, Some, None, Contains}
+use Rattle.std.proofs.Common.{◌≡◌, inl, inr, ℕ, zero, suc, ◌<◌, ◌+◌, length, slice_get, arith, Option, unwrap_or, Bool, true, false, not, List, [], ◌∷◌, ◌++◌, filter, slice_set, slice_index_or, refl, sym, ap, ap₂, subst, ◌∙◌, Result, Ok, Err, Some, None, Contains}
 use Rattle.std.specs.Prelude.{OnErr, IfOk, insert}
 use Rattle.std.specs.List.{list_all, find}
 use Rattle.oz_base.specs.Lists.{list_eq}
@@ -14,19 +14,18 @@ use Rattle.oz_semantics.specs.declared.value.Tell.{Tell}
 use Rattle.oz_semantics.specs.declared.configuration.Layer.{Layer}
 use Rattle.settle_laws.specs.Settles.{Settles}
 use Rattle.view_laws.proofs.Members.{has-cases}
-use Rattle.view_laws.proofs.NameLaws.{below_itself, names_equal}
 use Rattle.view_laws.proofs.SightLaws.{space_of}
 use Rattle.oz_laws.proofs.SameLaws.{In, In-from_contains}
 use Rattle.space_core.specs.Ending.{fallen, IsChild, IsAdded}
 use Rattle.space_core.specs.Levels.{IsToldTo}
 use Rattle.space_core.specs.Places.{IsFirst, IsAbsent}
-use Rattle.space_core.specs.Shown.{shown, shown_all, seen_above, is_home, IsSound, IsQuiet}
+use Rattle.space_core.specs.Shown.{shown, shown_all, is_home, IsSound, IsQuiet}
 use Rattle.space_core.specs.Telling.{ToldThrough, IsToldThrough, has_below}
 use Rattle.space_core.specs.declared.level.Level.{Level}
 use Rattle.space_core.proofs.AdvanceLaws.{clash_shows}
 use Rattle.space_core.proofs.AnswerLaws.{PlaceIn, quiet_sound, quiet_shows}
 use Rattle.space_core.proofs.CreateLaws.{find_put, not_own_child, create_sound, create_shows}
-use Rattle.space_core.proofs.EndLaws.{is_left, left_sound, left_shown, left_above, none_left, fail_edit}
+use Rattle.space_core.proofs.EndLaws.{is_left, left_sound, left_shown, none_left, fail_edit}
 use Rattle.space_core.proofs.MemberLaws.{insert_member, map_insert}
 use Rattle.space_core.proofs.RemakeLaws.{Told, told_all}
 use Rattle.space_core.proofs.SoundLaws.{Edited, read_shown, place_member}
