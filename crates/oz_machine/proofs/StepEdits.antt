@@ -1,17 +1,17 @@
 -- What the edits of a step make of the layers, with the statement that it takes off.
-use Rattle.std.proofs.Common.{◌≡◌, ◌∙◌, ◌+◌, inl, inr, ℕ, Bool, true, false, cond, List, [], ◌∷◌, drop, length, Option, Some, None, is_some, refl, sym, ap, ap₂, subst}
+use Rattle.std.proofs.Common.{◌≡◌, ◌∙◌, ◌+◌, ℕ, Bool, true, false, cond, List, [], ◌∷◌, drop, length, Option, Some, None, is_some, refl, sym, ap, ap₂, subst}
 use Rattle.std.specs.Prelude.{unwrap_or}
 use Rattle.std.specs.List.{find}
-use Rattle.oz_base.specs.Lists.{list_eq}
+use Rattle.oz_base.specs.Lists.{list_eq, is_empty}
 use Rattle.oz_base.specs.ListLaws.{list_eq-equivalence}
 use Rattle.oz_base.specs.declared.names.Ident.{Ident}
-use Rattle.oz_semantics.specs.Names.{is_properly_below, named, parent_of}
+use Rattle.oz_semantics.specs.Names.{is_top, named}
 use Rattle.oz_semantics.specs.Configurations.{is_of, is_numbered, layer_at, layer_of, new_layer, thread_at, frames_in, stack_of, in_layer, in_thread, with_frames, telling, giving_out}
 use Rattle.oz_semantics.specs.Answers.{Act, Passes, GoesOn, Declares, Starts, GivesValue, GivesTerm, GivesVariable, MakesProcedure, MakesName, MakesCell, Reads, Writes, Exchanges, MakesPort, Sends, Delays, Shows}
 use Rattle.oz_semantics.specs.Changes.{GivesOut, done}
 use Rattle.oz_semantics.specs.Effects.{act_effect}
 use Rattle.oz_semantics.specs.Exceptions.{raise_term, new_term_tells, with_term, unwound}
-use Rattle.oz_semantics.specs.Settling.{failing, with_raised, term_variable}
+use Rattle.oz_semantics.specs.Settling.{with_raised, term_variable}
 use Rattle.oz_semantics.specs.Steps.{without_top}
 use Rattle.oz_semantics.specs.Terms.{Term, term_tells}
 use Rattle.oz_semantics.specs.declared.value.Tell.{Tell}
@@ -20,18 +20,19 @@ use Rattle.oz_semantics.specs.declared.configuration.Thread.{Thread}
 use Rattle.oz_semantics.specs.declared.configuration.Next.{Next}
 use Rattle.oz_semantics.specs.declared.configuration.Layer.{Layer}
 use Rattle.oz_semantics.specs.declared.outcome.RaiseKind.{RaiseKind}
-use Rattle.view_laws.proofs.NameLaws.{above_parent, equal_names, not_above_parent, properly}
-use Rattle.view_laws.proofs.Members.{decide}
-use Rattle.view_laws.proofs.SightLaws.{change_unseen, failure_unseen}
 use Rattle.settle_laws.specs.Settles.{Settles}
 use Rattle.settle_laws.proofs.ListEdits.{edit_twice, is_found_edit}
 use Rattle.settle_laws.proofs.EditLaws.{edits_join, edits_agree, term_settles}
-use Rattle.settle_laws.proofs.SettleLaws.{not_above, settled_same, keeps_own}
+use Rattle.settle_laws.proofs.SettleLaws.{keeps_own}
 use Rattle.space_core.specs.Advances.{taken_on}
-use Rattle.space_core.specs.Shown.{seen_above}
-use Rattle.oz_machine.specs.Raising.{EndsOver}
 use Rattle.oz_acts.proofs.PlaceLaws.{layer_of_name}
 use Rattle.oz_machine.proofs.QuietLaws.{edited_at, popped_layer, popped_next}
+
+-- Names
+
+pub empty_top : (s : List ℕ) → is_empty s ≡ is_top s
+empty_top [] = refl
+empty_top (n ∷ s) = refl
 
 -- A space that is there
 
@@ -144,40 +145,7 @@ pub raised_taken : (id : Ident) (kind : RaiseKind) (ts : List Tell) (n : ℕ) (f
     → taken_on id frames (done id ts (GivesOut n ∷ []) layers) ≡ taken_on id frames (with_raised kind id.space (without_top id layers))
 raised_taken id kind ts n frames layers e told count = sym (told_taken id frames ts n layers) ∙ ap (taken_on id frames) (term_told id kind ts n layers e told count)
 
--- What is seen above a space
-
--- no change of the space is seen there
-edit_above : (space : List ℕ) (edit : Layer → Layer) (layers : List Layer) → ((l : Layer) → (edit l).space ≡ l.space) → seen_above (in_layer space edit layers) space ≡ seen_above layers space
-edit_above [] edit layers names = refl
-edit_above (n ∷ s) edit layers names =
-    change_unseen edit layers (n ∷ s) (parent_of (n ∷ s)) (λ l at. names l) (not_above_parent (n ∷ s) refl)
-
--- nor that spaces below it fail
-failing_above : (space t : List ℕ) (layers : List Layer) → is_properly_below space t ≡ true → seen_above (failing layers t) space ≡ seen_above layers space
-failing_above [] t layers lower = refl
-failing_above (n ∷ s) t layers lower = failure_unseen layers t (parent_of (n ∷ s)) (sym (above_parent t (n ∷ s) other) ∙ not_above (n ∷ s) t lower)
-  where
-    other : list_eq t (n ∷ s) ≡ false
-    other = elim (decide (list_eq t (n ∷ s))) [
-      | inl e ↦ absurd ((properly (n ∷ s) t lower).1 (sym (equal_names t (n ∷ s) e)))
-      | inr e ↦ e
-    ]
-
-pub settled_above : (space : List ℕ) (before after : List Layer) → Settles space before after → seen_above after space ≡ seen_above before space
-settled_above space before after h = settled_same space before after h (λ ls. seen_above ls space) (λ t ls lower. failing_above space t ls lower)
-
-pub pop_above : (id : Ident) (layers : List Layer) → seen_above (without_top id layers) id.space ≡ seen_above layers id.space
-pop_above id layers = edit_above id.space (with_frames id.number (λ frames. drop 1 frames)) layers (λ l. refl)
-
--- of a space that was told something in place of a statement
-pub told_above : (id : Ident) (ts : List Tell) (n : ℕ) (layers after : List Layer) → Settles id.space (done id ts (GivesOut n ∷ []) (without_top id layers)) after
-    → seen_above after id.space ≡ seen_above layers id.space
-told_above id ts n layers after h =
-    let popped = without_top id layers in
-    let told = in_layer id.space (telling ts) popped in
-    settled_above id.space (in_layer id.space (giving_out n) told) after h
-    ∙ edit_above id.space (giving_out n) told (λ l. refl) ∙ edit_above id.space (telling ts) popped (λ l. refl) ∙ pop_above id layers
-
+-- A space that was told something in place of a statement is still there
 pub told_there : (id : Ident) (ts : List Tell) (n : ℕ) (layers after : List Layer) → Settles id.space (done id ts (GivesOut n ∷ []) (without_top id layers)) after
     → is_some (layer_at layers id.space) ≡ true → is_some (layer_at after id.space) ≡ true
 told_there id ts n layers after h e =
@@ -185,18 +153,6 @@ told_there id ts n layers after h e =
     let told = in_layer id.space (telling ts) popped in
     ap is_some (keeps_own id.space (in_layer id.space (giving_out n) told) after h).at
     ∙ edit_there told id.space id.space (giving_out n) (λ l. refl) ∙ edit_there popped id.space id.space (telling ts) (λ l. refl) ∙ pop_there id layers e
-
--- so a child may end over what was seen above it before
-ends_same : (layers after : List Layer) (space : List ℕ) (above : Option (List Tell)) → seen_above after space ≡ seen_above layers space → EndsOver layers space above → EndsOver after space above
-ends_same layers after space None e h = h
-ends_same layers after space (Some above) e h = (h.0, h.1 ∙ sym e)
-
-pub ends_popped : (id : Ident) (layers : List Layer) (above : Option (List Tell)) → EndsOver layers id.space above → EndsOver (without_top id layers) id.space above
-ends_popped id layers above h = ends_same layers (without_top id layers) id.space above (pop_above id layers) h
-
-pub ends_told : (id : Ident) (ts : List Tell) (n : ℕ) (layers after : List Layer) (above : Option (List Tell))
-    → Settles id.space (done id ts (GivesOut n ∷ []) (without_top id layers)) after → EndsOver layers id.space above → EndsOver after id.space above
-ends_told id ts n layers after above settles h = ends_same layers after id.space above (told_above id ts n layers after settles) h
 
 -- The effect of an act
 

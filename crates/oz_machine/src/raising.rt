@@ -12,11 +12,10 @@ ghost use Rattle.oz_semantics.specs.declared.configuration.Layer.{Layer};
 ghost use Rattle.oz_semantics.specs.declared.outcome.RaiseKind.{RaiseKind};
 ghost use Rattle.settle_laws.specs.Settles.{Settles};
 ghost use Rattle.space_core.specs.Advances.{taken_on};
-ghost use Rattle.space_core.specs.Shown.{seen_above};
 ghost use Rattle.oz_semantics.specs.declared.outcome.RaiseKind.TheVariants.{FailureTell};
 ghost use Rattle.oz_machine.specs.Courses.{config_of, stepping};
 ghost use Rattle.oz_machine.specs.Quiet.{IsHead, KeepsHead};
-ghost use Rattle.oz_machine.specs.Raising.{EndsOver, IsTermOf};
+ghost use Rattle.oz_machine.specs.Raising.{IsTermOf};
 ghost use Rattle.oz_machine.specs.Turns.{cost_of};
 
 use crate::course::Course;
@@ -28,7 +27,6 @@ use oz_raise::{NewTerm, is_failure, new_term, term};
 use oz_semantics::{RaiseKind, Stepped};
 use space_core::{Given, Levels};
 use std::alloc::{AllocError, Global};
-use term_store::Store;
 
 /// Whether an exception is a failure, as a space sees it that is there.
 fn fails(levels: &Levels, space: &SpaceName, exception: &Ident) -> bool
@@ -41,29 +39,27 @@ fn fails(levels: &Levels, space: &SpaceName, exception: &Ident) -> bool
 }
 
 /// A space fails, or is ended by the exception. It takes no memory.
-fn end_levels(levels: &mut Levels, space: &SpaceName, exception: Ident, fails: bool, above: Store)
-    requires { above ≡ seen_above levels.old space.now }
+fn end_levels(levels: &mut Levels, space: &SpaceName, exception: Ident, fails: bool)
     ensures { levels.new ≡ ending space.now (λ l. if fails then failed l else raised_by exception l) levels.old }
 {
     if fails {
-        levels.fail_over(space, above);
+        levels.fail(space);
     } else {
         levels.end(space, exception);
     }
 }
 
 /// Ends the child space of a thread that raised an exception which no mark takes.
-fn end_child(id: &Ident, exception: Ident, above: Store, course: &mut Course) -> Stepped
+fn end_child(id: &Ident, exception: Ident, course: &mut Course) -> Stepped
     requires head { first course.old.queue ≡ Some id.now }
     requires there { is_some (layer_at course.old.levels id.now.space) ≡ true }
     requires child { is_top id.now.space ≡ false }
-    requires above { above ≡ seen_above course.old.levels id.now.space }
     ensures turn { (statements : List Statement) (before : List Layer) → Settles id.now.space before course.old.levels
         → uncaught statements id.now exception before (stepping course.old) ≡ (result, config_of statements course.new) }
     ensures cost { cost_of result ≡ 1 }
 {
     let fails = fails(&course.levels, &id.space, &exception);
-    end_levels(&mut course.levels, &id.space, exception, fails, above);
+    end_levels(&mut course.levels, &id.space, exception, fails);
     course.levels.consistent();
     follow(1, course)
 }
@@ -81,30 +77,18 @@ fn end_top(id: &Ident, exception: Ident, course: &mut Course) -> Stepped
     Stepped::TopEnded { exception, cost: 1 }
 }
 
-/// What the end of a space needs: a store of what is seen above a child, and nothing for the top.
-fn above(alloc: Global, levels: &Levels, space: &SpaceName) -> Result<Option<Store>, AllocError>
-    ensures { IfOk result (λ above. EndsOver levels.now space.now above) }
-{
-    if space.is_top() {
-        Ok(None)
-    } else {
-        Ok(Some(levels.store_above(alloc, space)?))
-    }
-}
-
 /// An exception that no mark takes ends the run, or the child space. It takes no memory.
-fn end_space(id: &Ident, exception: Ident, above: Option<Store>, course: &mut Course) -> Stepped
+fn end_space(id: &Ident, exception: Ident, course: &mut Course) -> Stepped
     requires head { first course.old.queue ≡ Some id.now }
     requires there { is_some (layer_at course.old.levels id.now.space) ≡ true }
-    requires above { EndsOver course.old.levels id.now.space above }
     ensures turn { (statements : List Statement) (before : List Layer) → Settles id.now.space before course.old.levels
         → uncaught statements id.now exception before (stepping course.old) ≡ (result, config_of statements course.new) }
     ensures cost { cost_of result ≡ 1 }
 {
-    match above {
-        None => end_top(id, exception, course),
-        Some(above) => end_child(id, exception, above, course),
+    if id.space.is_top() {
+        return end_top(id, exception, course);
     }
+    end_child(id, exception, course)
 }
 
 /// A thread goes on with the stack that an exception left.
@@ -141,10 +125,9 @@ pub fn raise(
     if course.levels.unwind_from(alloc, id, &exception)? {
         return Ok(go_on_caught(id, kept, course));
     }
-    let above = above(alloc, &course.levels, &id.space)?;
     take_off(&mut course.levels, id);
     course.levels.consistent();
-    Ok(end_space(id, exception, above, course))
+    Ok(end_space(id, exception, course))
 }
 
 /// The space is told an exception's term, in place of the statement that raised it. What is told of new variables never clashes.
@@ -187,9 +170,8 @@ fn raise_new(
     {
         return Ok(go_on(id, 1, course));
     }
-    let above = above(alloc, &course.levels, &id.space)?;
     tell_term(alloc, id, &made, count, &mut course.levels)?;
-    Ok(end_space(id, made.variable, above, course))
+    Ok(end_space(id, made.variable, course))
 }
 
 /// An exception of the machine.

@@ -61,14 +61,14 @@ pub read_set : (levels : List Level) (place : ℕ) (m l : Level) → place < len
 read_set levels place m l within e = e ∙ get_or-set_same levels place m l within
 
 pub gives_quietly : (given : Given) (l : Level) → IsQuiet (giving given) l (after_giving given l)
-gives_quietly Nothing l = record { becomes = refl; space = refl; store = refl; told_from = refl; touched = refl; traced = refl; knows = refl; variables = omega arith; children = omega arith }
-gives_quietly (Variables n) l = record { becomes = refl; space = refl; store = refl; told_from = refl; touched = refl; traced = refl; knows = refl; variables = omega arith; children = omega arith }
-gives_quietly Procedure l = record { becomes = refl; space = refl; store = refl; told_from = refl; touched = refl; traced = refl; knows = refl; variables = omega arith; children = omega arith }
-gives_quietly Name l = record { becomes = refl; space = refl; store = refl; told_from = refl; touched = refl; traced = refl; knows = refl; variables = omega arith; children = omega arith }
-gives_quietly (Cell content) l = record { becomes = refl; space = refl; store = refl; told_from = refl; touched = refl; traced = refl; knows = refl; variables = omega arith; children = omega arith }
-gives_quietly (Content n content) l = record { becomes = refl; space = refl; store = refl; told_from = refl; touched = refl; traced = refl; knows = refl; variables = omega arith; children = omega arith }
-gives_quietly (Port stream) l = record { becomes = refl; space = refl; store = refl; told_from = refl; touched = refl; traced = refl; knows = refl; variables = omega arith; children = omega arith }
-gives_quietly (End n end) l = record { becomes = refl; space = refl; store = refl; told_from = refl; touched = refl; traced = refl; knows = refl; variables = omega arith; children = omega arith }
+gives_quietly Nothing l = record { becomes = refl; space = refl; store = refl; told_from = refl; touched = refl; traced = refl; knows = refl; bare = refl; variables = omega arith; children = omega arith }
+gives_quietly (Variables n) l = record { becomes = refl; space = refl; store = refl; told_from = refl; touched = refl; traced = refl; knows = refl; bare = refl; variables = omega arith; children = omega arith }
+gives_quietly Procedure l = record { becomes = refl; space = refl; store = refl; told_from = refl; touched = refl; traced = refl; knows = refl; bare = refl; variables = omega arith; children = omega arith }
+gives_quietly Name l = record { becomes = refl; space = refl; store = refl; told_from = refl; touched = refl; traced = refl; knows = refl; bare = refl; variables = omega arith; children = omega arith }
+gives_quietly (Cell content) l = record { becomes = refl; space = refl; store = refl; told_from = refl; touched = refl; traced = refl; knows = refl; bare = refl; variables = omega arith; children = omega arith }
+gives_quietly (Content n content) l = record { becomes = refl; space = refl; store = refl; told_from = refl; touched = refl; traced = refl; knows = refl; bare = refl; variables = omega arith; children = omega arith }
+gives_quietly (Port stream) l = record { becomes = refl; space = refl; store = refl; told_from = refl; touched = refl; traced = refl; knows = refl; bare = refl; variables = omega arith; children = omega arith }
+gives_quietly (End n end) l = record { becomes = refl; space = refl; store = refl; told_from = refl; touched = refl; traced = refl; knows = refl; bare = refl; variables = omega arith; children = omega arith }
 
 -- A space gives something out and is told more
 module _ (levels : List Level) (id : Ident) (place : ℕ) (s : IsSound levels) (h : PlaceIn levels id.space place)
@@ -111,7 +111,7 @@ module _ (levels : List Level) (id : Ident) (place : ℕ) (s : IsSound levels) (
 
   pub sees_more : is_consistent (view (shown_all levels) id.space ++ ts) ≡ true
   sees_more =
-      ap (λ (us : List Tell). is_consistent (us ++ ts)) (sym ((s.fits t.before (place_member levels id.space place h.0 h.1 t.before t.read)).seen ∙ ap (view (shown_all levels)) name))
+      ap (λ (us : List Tell). is_consistent (us ++ ts)) (sym ((s.fits t.before (place_member levels id.space place h.0 h.1 t.before t.read)).seen t.tells.kept ∙ ap (view (shown_all levels)) name))
       ∙ t.tells.consistent
 
 -- What is left after a quiet change of the space itself
@@ -238,7 +238,7 @@ pub clash_shows : (levels : List Level) (value : List Layer) → shown_all level
     → (is_consistent (view value space ++ ts) ≡ false) × (shown_all news ≡ value)
 clash_shows levels value viewed s space place h ts news t = (
   ap (λ (ls : List Layer). is_consistent (view ls space ++ ts)) (sym viewed)
-      ∙ ap (λ (us : List Tell). is_consistent (us ++ ts)) (sym ((s.fits t.before (place_member levels space place h.0 h.1 t.before t.read)).seen ∙ ap (view (shown_all levels)) name))
+      ∙ ap (λ (us : List Tell). is_consistent (us ++ ts)) (sym ((s.fits t.before (place_member levels space place h.0 h.1 t.before t.read)).seen t.kept ∙ ap (view (shown_all levels)) name))
       ∙ t.clash,
   ap shown_all t.left ∙ viewed,
 )

@@ -23,7 +23,7 @@ module _ (space : List ℕ) (levels : List Level) (loose : IsLoose space levels)
   -- what fits is consistent
   fitting_consistent : (l : Level) → Fits layers l → is_inconsistent layers (shown l) ≡ true → ⊥
   fitting_consistent l f e =
-      let sees : is_consistent (view layers l.space) ≡ true = ap is_consistent (sym f.seen) ∙ f.consistent in
+      let sees : is_consistent (view layers l.space) ≡ true = f.consistent in
       false≢true (sym (ap not sees) ∙ and-right (may_fail l.status) _ e)
 
   pub all_below : (t : List ℕ) → Contains (inconsistent_spaces layers) t → is_properly_below space t ≡ true
@@ -46,6 +46,7 @@ module _ (space : List ℕ) (levels : List Level) (loose : IsLoose space levels)
     consistent = λ l c a. (loose.fits l c a).consistent;
     home = loose.home;
     known = loose.known;
+    bare = loose.bare;
   }
 
   module _ (news : List Level) (anew : IsAnew space levels news) where

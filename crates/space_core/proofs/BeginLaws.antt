@@ -31,9 +31,10 @@ module _ (l : Level) (b : IsTopLevel l) where
 
   fits_top : Fits (new_layer [] ∷ []) l
   fits_top = record {
-    seen = b.store ∙ sym (ap (view (new_layer [] ∷ [])) own_space);
-    from = b.told_from ∙ sym (ap (λ (s : List ℕ). length (seen_above (new_layer [] ∷ []) s)) own_space);
-    consistent = ap is_consistent b.store;
+    seen = λ k. b.store ∙ sym (ap (view (new_layer [] ∷ [])) own_space);
+    from = λ k. b.told_from ∙ sym (ap (λ (s : List ℕ). length (seen_above (new_layer [] ∷ []) s)) own_space);
+    bare = λ k. absurd (false≢true (sym b.kept ∙ k));
+    consistent = ap (λ (s : List ℕ). is_consistent (view (new_layer [] ∷ []) s)) own_space;
     home = λ t. ap (λ (ts : List Tell). list_all (is_home (new_layer [] ∷ []) l.space) (flat_map named_by ts))
         (ap (λ (k : Layer). k.tells) b.shows);
     touches = λ t n. absurd (false≢true (sym n ∙ ap is_top own_space));

@@ -23,6 +23,7 @@ quiet_twice f g l m n p q = record {
   touched = q.touched ∙ p.touched;
   traced = q.traced ∙ p.traced;
   knows = q.knows ∙ p.knows;
+  bare = q.bare ∙ p.bare;
   variables = let a = p.variables in let b = q.variables in omega (arith, a, b);
   children = let a = p.children in let b = q.children in omega (arith, a, b);
 }
@@ -37,6 +38,7 @@ quiet_as f g l m q e = record {
   touched = q.touched;
   traced = q.traced;
   knows = q.knows;
+  bare = q.bare;
   variables = q.variables;
   children = q.children;
 }
@@ -60,6 +62,7 @@ quiet_same l m q = λ i. record {
   numbers = record { variable = (q.becomes i).next.variable; procedure = (q.becomes i).next.procedure; name = (q.becomes i).next.name; child = (q.becomes i).next.child };
   traced = q.traced i;
   knows_space = q.knows i;
+  bare = q.bare i;
 }
 
 module _ (n : ℕ) (handler : List Frame) (l l1 : Level) (q : IsQuiet (with_frames n (λ stack. handler ++ stack)) l l1) where

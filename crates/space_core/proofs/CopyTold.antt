@@ -1,6 +1,7 @@
 -- A copy of a child, where the parent is told of it.
 use Rattle.std.proofs.Common.{◌≡◌, ◌⊎◌, inl, inr, ℕ, Bool, true, false, if◌then◌else◌, List, [], ◌∷◌, ◌++◌, cond, map, filter, drop, length, refl, sym, ap, ap₂, subst, ◌∙◌, arith, Contains, Option, Some, is_some, unwrap_or, slice_index_or}
 use Rattle.std.specs.List.{find}
+use Rattle.std.proofs.lemmas.Bool.{false≢true}
 use Rattle.oz_base.specs.Lists.{list_eq, edit_first}
 use Rattle.oz_base.specs.declared.names.Ident.{Ident}
 use Rattle.oz_semantics.specs.Names.{is_below, is_properly_below, is_top, parent_of, child_name}
@@ -37,7 +38,7 @@ use Rattle.space_core.specs.SpaceEdits.{IsEdited}
 use Rattle.space_core.specs.declared.level.Level.{Level}
 use Rattle.space_core.proofs.AnewLaws.{anew_settles, anew_sound}
 use Rattle.space_core.proofs.AnswerLaws.{PlaceIn}
-use Rattle.space_core.proofs.GraftLoose.{alone_consistent, alone_loose, alone_shows, clash_alone, Stays, IsNewBelow, graft_loose, renamed_known}
+use Rattle.space_core.proofs.GraftLoose.{alone_consistent, alone_loose, alone_shows, clash_alone, Stays, IsNewBelow, graft_loose, renamed_bare, renamed_known}
 use Rattle.space_core.proofs.SoundLaws.{homes_kept, above_same, read_shown}
 use Rattle.space_core.proofs.SpaceEditLaws.{popped_next, told_at, told_tree}
 
@@ -150,6 +151,9 @@ module _ (levels : List Level) (layers : List Layer) (viewed : shown_all levels 
         ap (λ (k : Layer). k.space) o.renamed.shows
         ∙ ap (λ (b : Bool). if b then copy ++ drop (length child) o.before.space else o.before.space) o.named
 
+    new_under : (n : Level) → IsOneOf (Move child copy) levels n → is_properly_below id.space n.space ≡ true
+    new_under n o = properly_trans id.space copy n.space under_copy (subst (λ (p : List ℕ). is_below copy p ≡ true) (sym (new_name n o)) (below_front copy (drop (length child) o.before.space)))
+
     each : (n : Level) → Contains news n → Stays id.space told after n ⊎ IsNewBelow id.space n
     each n c = elim (put.member n c) [
       | inl d ↦ inl (record {
@@ -159,9 +163,10 @@ module _ (levels : List Level) (layers : List Layer) (viewed : shown_all levels 
         above = λ a. above_same (shown_all told) after n.space (λ inner. unseen (parent_of n.space) (apart_parent n.space inner a));
       })
       | inr o ↦ inr (record {
-        under = properly_trans id.space copy n.space under_copy (subst (λ (p : List ℕ). is_below copy p ≡ true) (sym (new_name n o)) (below_front copy (drop (length child) o.before.space)));
-        traced = o.renamed.traced;
+        under = new_under n o;
+        home = λ t. absurd (false≢true (sym o.renamed.traced ∙ t));
         known = renamed_known (renaming_of (Move child copy)) o.before n o.renamed (s.fits o.before o.among).known;
+        bare = renamed_bare (renaming_of (Move child copy)) id.space o.before n o.renamed (s.fits o.before o.among).bare (new_under n o);
       })
     ]
 

@@ -1,6 +1,7 @@
 -- What is kept of the spaces fits their layers where a space is created.
 use Rattle.std.proofs.Common.{◌≡◌, inl, inr, ℕ, ◌+◌, nat_eq, Bool, true, false, ◌&&◌, if◌then◌else◌, cond, List, [], ◌∷◌, ◌++◌, flat_map, length, slice_set, slice_index_or, refl, sym, ap, ap₂, subst, ◌∙◌, arith, Contains, Option, Some, unwrap_or}
 use Rattle.std.specs.List.{list_any, list_all, find}
+use Rattle.std.proofs.lemmas.Bool.{false≢true}
 use Rattle.oz_base.specs.Lists.{list_eq, edit_first, put_before}
 use Rattle.oz_base.specs.declared.names.Ident.{Ident}
 use Rattle.oz_semantics.specs.Names.{parent_of, space_lt, child_name}
@@ -71,7 +72,7 @@ view_parent (k ∷ ls) space h =
 -- Creation
 
 module _ (levels : List Level) (s : IsSound levels) (parent : List ℕ) (place : ℕ) (x : Layer) (h : IsFirst (is_of parent) (shown_all levels) place x) (l : Level) (e : l ≡ slice_index_or levels place l)
-    (procedure : Ident) (m : Level) (child : IsChild (next_child (shown l)) procedure l.store m) (news : List Level) (added : IsAdded levels news m)
+    (procedure : Ident) (m : Level) (child : IsChild (next_child (shown l)) procedure l.store m) (kept : l.bare ≡ false) (news : List Level) (added : IsAdded levels news m)
     (place2 : ℕ) (x2 : Layer) (h2 : IsFirst (is_of parent) (shown_all news) place2 x2) (l2 : Level) (e2 : l2 ≡ slice_index_or news place2 l2) where
   abbrev layers : List Layer
   layers = shown_all levels
@@ -143,23 +144,27 @@ module _ (levels : List Level) (s : IsSound levels) (parent : List ℕ) (place :
   ]
 
   sees_parent : view layers parent ≡ l.store
-  sees_parent = sym (own_fits.seen ∙ ap (view layers) own_name)
+  sees_parent = sym (own_fits.seen kept ∙ ap (view layers) own_name)
 
   above_child : seen_above after name ≡ l.store
   above_child = above_is after name (not_top_child l.space l.numbers.child) ∙ after_view (parent_of name) ∙ ap (view layers) child_parent ∙ sees_parent
+
+  child_view : view after name ≡ view layers parent
+  child_view = after_view name ∙ view_parent layers name fresh ∙ ap (view layers) child_parent
 
   no_tells : (shown m).tells ≡ []
   no_tells = ap (λ (k : Layer). k.tells) child.shows
 
   fits_child : Fits after m
   fits_child = fits_at after name m (sym (ap (λ (k : Layer). k.space) child.shows)) (record {
-    seen = child.bare.store ∙ sym (after_view name ∙ view_parent layers name fresh ∙ ap (view layers) child_parent ∙ sees_parent);
-    from = child.bare.told_from ∙ ap length (sym above_child);
-    consistent = ap is_consistent child.bare.store ∙ own_fits.consistent;
+    seen = λ b. child.untold.store ∙ sym (child_view ∙ sees_parent);
+    from = λ b. child.untold.told_from ∙ ap length (sym above_child);
+    bare = λ b. absurd (false≢true (sym child.untold.kept ∙ b));
+    consistent = ap is_consistent child_view ∙ ap (λ (p : List ℕ). is_consistent (view layers p)) (sym own_name) ∙ own_fits.consistent;
     home = λ t. ap (λ (ts : List Tell). list_all (is_home after name) (flat_map named_by ts)) no_tells;
     touches = λ t n.
         subst (λ (ts : List Tell). Traces name (seen_above after name) ts m.touched) (sym no_tells)
-        (subst (Traces name (seen_above after name) []) (sym child.bare.touched) (traces_nothing name (seen_above after name)));
+        (subst (Traces name (seen_above after name) []) (sym child.untold.touched) (traces_nothing name (seen_above after name)));
     known = λ k. ap (list_any gives_space) no_tells;
   })
 
@@ -178,7 +183,7 @@ module _ (levels : List Level) (s : IsSound levels) (parent : List ℕ) (place :
     fits_counted : Fits after counted
     fits_counted =
         subst (Fits after) (sym is)
-        (fits_alike after l2 (record l2 { numbers = record l2.numbers { child = count } }) (record { space = refl; store = refl; told_from = refl; touched = refl; traced = refl; knows = refl })
+        (fits_alike after l2 (record l2 { numbers = record l2.numbers { child = count } }) (record { space = refl; store = refl; told_from = refl; touched = refl; traced = refl; knows = refl; bare = refl })
         (fits_new l2 (place_member news parent place2 x2 h2 l2 e2)))
 
     pub create_shows : shown_all (slice_set news place2 counted) ≡ created parent procedure (shown_all levels)

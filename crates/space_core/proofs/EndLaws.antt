@@ -1,31 +1,28 @@
 -- What is kept of the spaces fits their layers where a space ends.
-use Rattle.std.proofs.Common.{◌≡◌, inl, inr, ℕ, Bool, true, false, not, List, [], ◌∷◌, ◌++◌, filter, flat_map, length, drop, slice_set, slice_index_or, refl, sym, ap, ap₂, subst, ◌∙◌, arith, Contains}
-use Rattle.std.specs.List.{list_any, list_all}
+use Rattle.std.proofs.Common.{◌≡◌, inl, inr, ℕ, Bool, true, false, not, List, [], ◌∷◌, ◌++◌, filter, length, slice_set, slice_index_or, refl, sym, ap, subst, ◌∙◌, arith, Contains}
 use Rattle.std.proofs.lemmas.Bool.{false≢true}
 use Rattle.std.proofs.lemmas.List.{append-nil}
-use Rattle.std.proofs.Math.Seq.{drop-length}
 use Rattle.oz_semantics.specs.Names.{is_below, is_properly_below, is_top, parent_of, named}
-use Rattle.oz_semantics.specs.Store.{named_by, is_consistent}
+use Rattle.oz_semantics.specs.Store.{is_consistent}
 use Rattle.oz_semantics.specs.Configurations.{is_of, view, raised_by, failed}
-use Rattle.oz_semantics.specs.declared.value.Tell.{Tell}
 use Rattle.oz_semantics.specs.declared.configuration.Layer.{Layer}
 use Rattle.oz_laws.proofs.SameLaws.{In-from_contains, contains-from_In}
+use Rattle.term_store.proofs.ClosingLaws.{consistent_prefix}
 use Rattle.view_laws.specs.Trees.{IsTree}
-use Rattle.view_laws.specs.Spaceless.{gives_space}
 use Rattle.view_laws.proofs.Members.{decide, not_both, some_of}
 use Rattle.view_laws.proofs.NameLaws.{below_itself, properly_trans}
 use Rattle.view_laws.proofs.ListLaws.{in_filter}
-use Rattle.view_laws.proofs.SightLaws.{quiet_unseen, raise_unseen, parent_above}
+use Rattle.view_laws.proofs.SightLaws.{quiet_unseen, raise_unseen, parent_above, space_of, not_false}
 use Rattle.view_laws.proofs.TreeLaws.{tree_left}
-use Rattle.space_core.specs.Ending.{IsAbove, IsFailure}
+use Rattle.space_core.specs.Ending.{fallen}
 use Rattle.space_core.specs.Places.{IsFirst}
-use Rattle.space_core.specs.Shown.{next_with, shown, shown_all, seen_above, is_home, Traces, Fits, IsSound}
+use Rattle.space_core.specs.Shown.{shown, shown_all, seen_above, Fits, IsSound}
 use Rattle.space_core.specs.Telling.{has_below}
 use Rattle.space_core.specs.declared.level.Level.{Level}
 use Rattle.space_core.proofs.MemberLaws.{filter_member, map_filter}
 use Rattle.space_core.proofs.TraceLaws.{traces_nothing}
-use Rattle.space_core.proofs.SoundLaws.{Edited, fits_after, above_same, homes_kept}
-use Rattle.space_core.proofs.TellLaws.{edit_above}
+use Rattle.space_core.proofs.SoundLaws.{Edited, fits_after, above_same, homes_kept, read_shown, place_member}
+use Rattle.space_core.proofs.TellLaws.{view_is, layer_found, edit_above}
 
 -- whether a space is left where those below this one are gone
 abbrev pub is_left : List ℕ → Layer → Bool
@@ -87,33 +84,38 @@ module _ (levels : List Level) (space : List ℕ) (s : IsSound levels) where
     | inr e ↦ e
   ]
 
--- What the parent sees
-
-pub above_sees : (levels : List Level) → IsSound levels → (space : List ℕ) (tells : List Tell) → IsAbove levels space tells → (tells ≡ seen_above (shown_all levels) space) × (is_consistent tells ≡ true)
-above_sees levels s [] tells a = (a.top refl, ap is_consistent (a.top refl))
-above_sees levels s (n ∷ r) tells a =
-    let p = a.inner refl in
-    let f = s.fits p.0 p.1 in
-    (p.3 ∙ f.seen ∙ ap (view (shown_all levels)) p.2, ap is_consistent p.3 ∙ f.consistent)
-
 -- A space that fails, of which none is below
 
-module _ (levels : List Level) (space : List ℕ) (place : ℕ) (x : Layer) (h : IsFirst (is_of space) (shown_all levels) place x) (l m : Level) (e : l ≡ slice_index_or levels place l) (s : IsSound levels)
-    (none : has_below (shown_all levels) space ≡ false) (tells : List Tell) (f : IsFailure tells l m) (sees : tells ≡ seen_above (shown_all levels) space) (consistent : is_consistent tells ≡ true) where
-  no_tells : (shown m).tells ≡ []
-  no_tells = ap₂ (λ (n : ℕ) (ts : List Tell). drop n ts) f.bare.told_from f.bare.store ∙ drop-length tells
+-- the top has none above it
+above_top : (ls : List Layer) (space : List ℕ) → is_top space ≡ true → seen_above ls space ≡ []
+above_top ls [] e = refl
+above_top ls (n ∷ s) e = absurd (false≢true e)
 
-  shows_failed : shown m ≡ failed (shown l)
-  shows_failed = λ i. record { space = f.space i; status = f.status i; tells = no_tells i; threads = (f.threads i).list; triggers = f.triggers i; cells = (f.objects i).cells; ports = (f.objects i).ports; next = next_with (f.threads i).next (f.numbers i) }
+module _ (levels : List Level) (space : List ℕ) (place : ℕ) (x : Layer) (h : IsFirst (is_of space) (shown_all levels) place x) (l : Level) (e : l ≡ slice_index_or levels place l) (s : IsSound levels)
+    (none : has_below (shown_all levels) space ≡ false) where
+  abbrev now : List Layer
+  now = shown_all levels
 
-  pub fail_edit : Edited levels (slice_set levels place m) space failed
-  fail_edit = edit_above levels space place x h l m e failed shows_failed f.space f.numbers s none (record {
-    store = f.bare.store ∙ sees ∙ sym (append-nil (seen_above (shown_all levels) space)) ∙ ap (λ (ts : List Tell). seen_above (shown_all levels) space ++ ts) (sym no_tells);
-    from = f.bare.told_from ∙ ap length sees;
-    consistent = ap is_consistent f.bare.store ∙ consistent;
-    home = λ t. ap (λ (ts : List Tell). list_all (is_home (shown_all levels) space) (flat_map named_by ts)) no_tells;
-    touches = λ t n.
-        subst (λ (ts : List Tell). Traces space (seen_above (shown_all levels) space) ts m.touched) (sym no_tells)
-        (subst (Traces space (seen_above (shown_all levels) space) []) (sym f.bare.touched) (traces_nothing space (seen_above (shown_all levels) space)));
-    known = λ k. ap (list_any gives_space) no_tells;
+  name : l.space ≡ space
+  name = ap (λ (k : Layer). k.space) (read_shown levels space place x h l e) ∙ space_of now space x h.found
+
+  above_consistent : is_consistent (seen_above now space) ≡ true
+  above_consistent =
+      let c = place_member levels space place x h l e in
+      consistent_prefix (seen_above now space) (shown l).tells
+      (subst (λ (p : List ℕ). is_consistent (seen_above now p ++ (shown l).tells) ≡ true) name
+      (ap is_consistent (sym (view_is now l.space (shown l) s.tree (layer_found levels s l c))) ∙ (s.fits l c).consistent))
+
+  at_top : (fallen l).bare ≡ false → [] ≡ seen_above now space
+  at_top b = sym (above_top now space (ap is_top (sym name) ∙ not_false (is_top l.space) b))
+
+  pub fail_edit : Edited levels (slice_set levels place (fallen l)) space failed
+  fail_edit = edit_above levels space place x h l (fallen l) e failed refl refl refl s none (record {
+    store = λ b. at_top b ∙ sym (append-nil (seen_above now space));
+    from = λ b. ap length (at_top b);
+    bare = λ b. record { inner = not_true (is_top l.space) b; store = refl; touched = refl };
+    consistent = ap is_consistent (append-nil (seen_above now space)) ∙ above_consistent;
+    home = λ t. refl;
+    touches = λ t n. traces_nothing space (seen_above now space);
+    known = λ k. refl;
   })

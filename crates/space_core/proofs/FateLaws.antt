@@ -3,12 +3,11 @@ use Rattle.std.proofs.Common.{◌≡◌, ◌⊎◌, inl, inr, ℕ, zero, suc, tr
 use Rattle.std.specs.List.{list_any, list_all}
 use Rattle.std.proofs.lemmas.Bool.{false≢true}
 use Rattle.std.proofs.lemmas.List.{append-nil}
-use Rattle.std.proofs.Math.Seq.{drop-length, drop-append_seam}
+use Rattle.std.proofs.Math.Seq.{drop-append_seam}
 use Rattle.oz_semantics.specs.Names.{is_below, is_properly_below, is_top, parent_of}
 use Rattle.oz_semantics.specs.Store.{named_by, is_consistent}
 use Rattle.oz_semantics.specs.Configurations.{view, failed}
 use Rattle.oz_semantics.specs.Settling.{may_fail, is_inconsistent, inconsistent_spaces, without_inconsistent}
-use Rattle.oz_semantics.specs.declared.configuration.Status.TheVariants.{Failed}
 use Rattle.oz_semantics.specs.declared.value.Tell.{Tell}
 use Rattle.oz_semantics.specs.declared.configuration.Layer.{Layer}
 use Rattle.oz_laws.proofs.SameLaws.{In, In-from_contains, contains-from_In, and-right}
@@ -24,18 +23,17 @@ use Rattle.space_core.specs.Ending.{fallen}
 use Rattle.space_core.specs.Fates.{IsSeen, IsFailing, IsUnder, IsAfter, IsDecided, IsChosen, falls, seeing, IsFallen, IsFate, IsStale, EachFate, left_as, with_fates}
 use Rattle.space_core.specs.Shown.{next_with, shown, shown_all, seen_above, is_home, Traces, Fits, IsSound}
 use Rattle.space_core.specs.declared.fates.Fate.{Fate}
-use Rattle.space_core.specs.declared.fates.Fate.TheVariants.{Stays, Gone, Fails, Sees}
+use Rattle.space_core.specs.declared.fates.Fate.TheVariants.{Stays, Gone, Fails, Sees, Bare}
 use Rattle.space_core.specs.declared.fates.Seen.{Seen}
 use Rattle.space_core.specs.declared.level.Level.{Level}
 use Rattle.space_core.proofs.MemberLaws.{all_flat}
 use Rattle.space_core.proofs.FallLaws.{left_of, fold_left, falls_under, stands_above, stands_itself, left_standing, left_fallen, left_gone, view_left, above_left, homes_left}
-use Rattle.space_core.proofs.SoundLaws.{shown_member, fits_after, above_is}
+use Rattle.space_core.proofs.SoundLaws.{shown_member, drop_nothing, fits_bare, fits_after, above_is}
 use Rattle.space_core.proofs.TellLaws.{view_is, found_by}
-use Rattle.space_core.proofs.TraceLaws.{traces_nothing}
 
 -- Names
 
-under_inner : (s t : List ℕ) → is_properly_below s t ≡ true → is_top t ≡ false
+pub under_inner : (s t : List ℕ) → is_properly_below s t ≡ true → is_top t ≡ false
 under_inner [] [] e = absurd (false≢true e)
 under_inner (n ∷ s) [] e = absurd (false≢true e)
 under_inner s (n ∷ t) e = refl
@@ -82,8 +80,8 @@ module _ (space : List ℕ) (levels : List Level) (stale : IsStale space levels)
     with_own : above ++ (shown l).tells ≡ view layers l.space
     with_own = ap (λ (ts : List Tell). ts ++ (shown l).tells) sees ∙ sym own_view
 
-    fails_itself : (store : List Tell) → IsFailing above l store → Contains (inconsistent_spaces layers) l.space
-    fails_itself store h =
+    fails_itself : IsFailing above l → Contains (inconsistent_spaces layers) l.space
+    fails_itself h =
         contains-from_In (inconsistent_spaces layers) l.space (map_in (λ (n : Layer). n.space) (filter (is_inconsistent layers) layers) (shown l)
         (in_filter (is_inconsistent layers) layers (shown l) (In-from_contains layers (shown l) (shown_member levels l c)) (and_both _ _ h.may (ap not (ap is_consistent (sym with_own) ∙ h.clash)))))
 
@@ -94,11 +92,12 @@ module _ (space : List ℕ) (levels : List Level) (stale : IsStale space levels)
     own_home (inl t) = stale.home l c t under
     own_home (inr all) = all_flat (is_home layers l.space) named_by (shown l).tells ∙ all
 
-    fits_seen : (seen : Seen) → IsSeen layers above l seen → Fits layers (seeing seen l)
-    fits_seen seen h = record {
-      seen = h.store ∙ with_own;
-      from = h.from ∙ ap length (sees ∙ sym (above_is layers l.space inner));
-      consistent = h.consistent;
+    fits_seen : (seen : Seen) → l.bare ≡ false → IsSeen layers above l seen → Fits layers (seeing seen l)
+    fits_seen seen k h = record {
+      seen = λ b. h.store ∙ with_own;
+      from = λ b. h.from ∙ ap length (sees ∙ sym (above_is layers l.space inner));
+      bare = λ b. absurd (not_both _ b k);
+      consistent = ap is_consistent (sym with_own ∙ sym h.store) ∙ h.consistent;
       home = λ t. ap (λ (ts : List Tell). list_all (is_home layers l.space) (flat_map named_by ts)) (tells_same seen h) ∙ own_home (h.traced t);
       touches = λ t n.
           subst (λ (us : List Tell). Traces l.space us (shown (seeing seen l)).tells seen.touched) (sees ∙ sym (above_is layers l.space inner))
@@ -106,16 +105,31 @@ module _ (space : List ℕ) (levels : List Level) (stale : IsStale space levels)
       known = λ k. ap (list_any gives_space) (tells_same seen h) ∙ stale.known l c k under;
     }
 
+    bare_consistent : l.bare ≡ true → is_consistent (view layers l.space) ≡ true
+    bare_consistent b =
+        ap is_consistent (sym with_own
+        ∙ ap (λ (ts : List Tell). above ++ ts) (ap (drop l.told_from) (stale.bare l c b under).store ∙ drop_nothing l.told_from)
+        ∙ append-nil above)
+        ∙ consistent
+
     under_right : (fate : Fate) → IsUnder layers above l fate → IsFate space layers l fate
     under_right Stays h = elim h [ ]
     under_right Gone h = elim h [ ]
-    under_right (Fails store) h = (under, record { parent = stands; itself = fails_itself store h; store = h.store ∙ sees; consistent = ap is_consistent h.store ∙ consistent })
+    under_right Fails h = (under, record { parent = stands; itself = fails_itself h; consistent = ap is_consistent (sym sees) ∙ consistent })
     under_right (Sees seen) h = (
       under,
       record {
-        itself = stands_itself layers l.space (λ b. bad_sees layers l.space b (ap is_consistent (sym with_own ∙ sym h.store) ∙ h.consistent)) stands;
-        tells = tells_same seen h;
-        fits = fits_seen seen h;
+        itself = stands_itself layers l.space (λ b. bad_sees layers l.space b (ap is_consistent (sym with_own ∙ sym h.1.store) ∙ h.1.consistent)) stands;
+        kept = h.0;
+        tells = tells_same seen h.1;
+        fits = fits_seen seen h.0 h.1;
+      },
+    )
+    under_right Bare h = (
+      under,
+      record {
+        itself = stands_itself layers l.space (λ b. bad_sees layers l.space b (bare_consistent h)) stands;
+        fits = fits_bare layers l h (stale.bare l c h under) (bare_consistent h);
       },
     )
 
@@ -133,10 +147,14 @@ module _ (space : List ℕ) (levels : List Level) (stale : IsStale space levels)
 
       by : (above : Fate) → IsFate space layers d.parent above → IsAfter layers d.parent above l fate → IsFate space layers l fate
       by Stays f a =
-          under_right d.parent.store (stale.seen d.parent among f ∙ ap (view layers) d.name) (stale.consistent d.parent among f)
-          (parent_stands (apart_stands space layers stale.below d.parent.space f)) fate a
-      by (Sees seen) f a = under_right seen.store (f.1.fits.seen ∙ ap (view layers) d.name) f.1.fits.consistent (parent_stands f.1.itself) fate a
-      by (Fails store) f a = gone (by_some (λ t. is_below t d.parent.space) (inconsistent_spaces layers) d.parent.space f.1.itself (below_itself d.parent.space)) a
+          let own = stale.seen d.parent among f a.0 in
+          under_right d.parent.store (own ∙ ap (view layers) d.name) (ap is_consistent own ∙ stale.consistent d.parent among f)
+          (parent_stands (apart_stands space layers stale.below d.parent.space f)) fate a.1
+      by (Sees seen) f a =
+          let own = f.1.fits.seen f.1.kept in
+          under_right seen.store (own ∙ ap (view layers) d.name) (ap is_consistent own ∙ f.1.fits.consistent) (parent_stands f.1.itself) fate a
+      by Bare f a = elim a [ ]
+      by Fails f a = gone (by_some (λ t. is_below t d.parent.space) (inconsistent_spaces layers) d.parent.space f.1.itself (below_itself d.parent.space)) a
       by Gone f a = gone (falls_under layers d.parent.space (under_inner space d.parent.space f.0) f.1.parent) a
 
 pub chosen_right : (space : List ℕ) (levels : List Level) → IsStale space levels → (l : Level) → Contains levels l → (fates : List Fate) → EachFate space levels fates (shown_all levels) → (fate : Fate)
@@ -146,17 +164,8 @@ chosen_right space levels stale l c fates each fate (inr h) = decided_right spac
 
 -- What is left by it
 
-shown_fallen : (store : List Tell) (l : Level) → shown (fallen store l) ≡ failed (shown l)
-shown_fallen store l = λ i. record {
-  space = l.space;
-  status = Failed;
-  tells = drop-length store i;
-  threads = [];
-  triggers = [];
-  cells = [];
-  ports = [];
-  next = next_with l.threads.next l.numbers;
-}
+shown_fallen : (l : Level) → shown (fallen l) ≡ failed (shown l)
+shown_fallen l = refl
 
 shown_seeing : (seen : Seen) (l : Level) → (shown (seeing seen l)).tells ≡ (shown l).tells → shown (seeing seen l) ≡ shown l
 shown_seeing seen l e = λ i. record {
@@ -192,7 +201,8 @@ module _ (space : List ℕ) (layers : List Layer) (tree : IsTree layers) (below 
   one_shows : (l : Level) (fate : Fate) → IsFate space layers l fate → shown_all (left_as fate l) ≡ left_of bad (shown l)
   one_shows l Stays h = sym (left_standing layers (shown l) (apart_stands space layers below l.space h))
   one_shows l Gone h = sym (left_gone layers (shown l) (under_inner space l.space h.0) h.1.parent)
-  one_shows l (Fails store) h = ap (λ (k : Layer). k ∷ []) (shown_fallen store l) ∙ sym (left_fallen layers (shown l) h.1.parent h.1.itself)
+  one_shows l Fails h = ap (λ (k : Layer). k ∷ []) (shown_fallen l) ∙ sym (left_fallen layers (shown l) h.1.parent h.1.itself)
+  one_shows l Bare h = sym (left_standing layers (shown l) h.1.itself)
   one_shows l (Sees seen) h = ap (λ (k : Layer). k ∷ []) (shown_seeing seen l h.1.tells) ∙ sym (left_standing layers (shown l) h.1.itself)
 
   all_show : (fates : List Fate) (ls : List Level) → length fates ≡ length ls → EachFate space ls fates layers → shown_all (with_fates fates ls) ≡ flat_map (left_of bad) (shown_all ls)
@@ -218,22 +228,15 @@ module _ (space : List ℕ) (layers : List Layer) (tree : IsTree layers) (below 
       fits_after layers left n (view_left layers n.space e) (above_left layers n.space (λ t. stands_above layers n.space t e)) (homes_left layers tree n.space e) f
 
   -- a space that failed
-  fits_fallen : (l : Level) (store : List Tell) → is_top l.space ≡ false → IsFallen layers l store → In (shown (fallen store l)) left → Fits left (fallen store l)
-  fits_fallen l store inner h there =
-      let n = fallen store l in
-      let above : store ≡ seen_above left l.space = h.store ∙ sym (above_is layers l.space inner) ∙ sym (above_left layers l.space (λ t. h.parent)) in
-      let none : (shown n).tells ≡ [] = drop-length store in
+  fits_fallen : (l : Level) → is_top l.space ≡ false → IsFallen layers l → In (shown (fallen l)) left → Fits left (fallen l)
+  fits_fallen l inner h there =
       let tree_after = left_tree layers tree in
-      record {
-        seen = above ∙ sym (append-nil (seen_above left l.space)) ∙ ap (λ (ts : List Tell). seen_above left l.space ++ ts) (sym none)
-            ∙ sym (view_is left l.space (shown n) tree_after (found_by left (shown n) tree_after.ordered there));
-        from = ap length above;
-        consistent = h.consistent;
-        home = λ t. ap (λ (ts : List Tell). list_all (is_home left l.space) (flat_map named_by ts)) none;
-        touches = λ t k.
-            subst (λ (ts : List Tell). Traces l.space (seen_above left l.space) ts []) (sym none) (traces_nothing l.space (seen_above left l.space));
-        known = λ k. ap (list_any gives_space) none;
-      }
+      let sees : view left l.space ≡ view layers (parent_of l.space) =
+      view_is left l.space (shown (fallen l)) tree_after (found_by left (shown (fallen l)) tree_after.ordered there)
+      ∙ append-nil (seen_above left l.space)
+      ∙ above_left layers l.space (λ t. h.parent)
+      ∙ above_is layers l.space inner in
+      fits_bare left (fallen l) (ap not inner) (record { inner = inner; store = refl; touched = refl }) (ap is_consistent sees ∙ h.consistent)
 
   -- All of them
   module _ (levels : List Level) (shows : shown_all levels ≡ layers) (fates : List Fate) (many : length fates ≡ length levels) (each : EachFate space levels fates layers)
@@ -248,8 +251,10 @@ module _ (space : List ℕ) (layers : List Layer) (tree : IsTree layers) (below 
         by Stays h (inl q) = subst (Fits left) q (fits_standing r.before (fits r.before (contains-from_In levels r.before r.among) h) (apart_stands space layers below r.before.space h))
         by Stays h (inr q) = elim q [ ]
         by Gone h q = elim q [ ]
-        by (Fails store) h (inl q) = subst (Fits left) q (fits_fallen r.before store (under_inner space r.before.space h.0) h.1 (subst (λ (k : Level). In (shown k) left) (sym q) there))
-        by (Fails store) h (inr q) = elim q [ ]
+        by Fails h (inl q) = subst (Fits left) q (fits_fallen r.before (under_inner space r.before.space h.0) h.1 (subst (λ (k : Level). In (shown k) left) (sym q) there))
+        by Fails h (inr q) = elim q [ ]
+        by Bare h (inl q) = subst (Fits left) q (fits_standing r.before h.1.fits h.1.itself)
+        by Bare h (inr q) = elim q [ ]
         by (Sees seen) h (inl q) = subst (Fits left) q (fits_standing (seeing seen r.before) h.1.fits h.1.itself)
         by (Sees seen) h (inr q) = elim q [ ]
 

@@ -1,11 +1,10 @@
 -- Spaces have their fates one after another, the last one first.
 use Rattle.std.proofs.Common.{◌≡◌, ℕ, zero, suc, ◌+◌, ◌<◌, ◌≤◌, List, [], ◌∷◌, ◌++◌, length, drop, slice_get, slice_set, slice_index_or, refl, sym, ap, ◌∙◌, arith, Some, None, append_assoc, length-append}
 use Rattle.std.specs.List.{remove}
-use Rattle.oz_semantics.specs.declared.value.Tell.{Tell}
 use Rattle.space_core.specs.Ending.{fallen}
 use Rattle.space_core.specs.Fates.{seeing, left_as, with_fate, with_fates}
 use Rattle.space_core.specs.declared.fates.Fate.{Fate}
-use Rattle.space_core.specs.declared.fates.Fate.TheVariants.{Stays, Gone, Fails, Sees}
+use Rattle.space_core.specs.declared.fates.Fate.TheVariants.{Stays, Gone, Fails, Sees, Bare}
 use Rattle.space_core.specs.declared.fates.Seen.{Seen}
 use Rattle.space_core.specs.declared.level.Level.{Level}
 
@@ -15,6 +14,11 @@ pub fate_stays : (n : ℕ) (ls : List Level) → ls ≡ with_fate n Stays ls
 fate_stays n [] = refl
 fate_stays zero (l ∷ ls) = refl
 fate_stays (suc n) (l ∷ ls) = ap (λ (ks : List Level). l ∷ ks) (fate_stays n ls)
+
+pub fate_bare : (n : ℕ) (ls : List Level) → ls ≡ with_fate n Bare ls
+fate_bare n [] = refl
+fate_bare zero (l ∷ ls) = refl
+fate_bare (suc n) (l ∷ ls) = ap (λ (ks : List Level). l ∷ ks) (fate_bare n ls)
 
 pub fate_gone : (n : ℕ) (ls : List Level) → n < length ls → remove ls n ≡ with_fate n Gone ls
 fate_gone n [] w = absurd (omega (arith, w))
@@ -27,8 +31,8 @@ fate_set n fate change [] l h w e = absurd (omega (arith, w))
 fate_set zero fate change (k ∷ ls) l h w e = ap (λ (j : Level). change j ∷ ls) e ∙ sym (ap (λ (js : List Level). js ++ ls) (h k))
 fate_set (suc n) fate change (k ∷ ls) l h w e = ap (λ (js : List Level). k ∷ js) (fate_set n fate change ls l h (omega (arith, w)) e)
 
-pub fate_fails : (n : ℕ) (ls : List Level) (l m : Level) → n < length ls → l ≡ slice_index_or ls n l → (store : List Tell) → m ≡ fallen store l → slice_set ls n m ≡ with_fate n (Fails store) ls
-fate_fails n ls l m w e store q = ap (slice_set ls n) q ∙ fate_set n (Fails store) (fallen store) ls l (λ k. refl) w e
+pub fate_fails : (n : ℕ) (ls : List Level) (l m : Level) → n < length ls → l ≡ slice_index_or ls n l → m ≡ fallen l → slice_set ls n m ≡ with_fate n Fails ls
+fate_fails n ls l m w e q = ap (slice_set ls n) q ∙ fate_set n Fails fallen ls l (λ k. refl) w e
 
 pub fate_sees : (n : ℕ) (ls : List Level) (l m : Level) → n < length ls → l ≡ slice_index_or ls n l → (seen : Seen) → m ≡ seeing seen l → slice_set ls n m ≡ with_fate n (Sees seen) ls
 fate_sees n ls l m w e seen q = ap (slice_set ls n) q ∙ fate_set n (Sees seen) (seeing seen) ls l (λ k. refl) w e

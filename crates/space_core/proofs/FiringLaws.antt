@@ -106,11 +106,11 @@ began_more ts n t k l m within e p q =
 
 -- nothing is changed
 pub nothing_yet : (l : Level) → IsQuiet (λ k. k) l l
-nothing_yet l = record { becomes = refl; space = refl; store = refl; told_from = refl; touched = refl; traced = refl; knows = refl; variables = omega arith; children = omega arith }
+nothing_yet l = record { becomes = refl; space = refl; store = refl; told_from = refl; touched = refl; traced = refl; knows = refl; bare = refl; variables = omega arith; children = omega arith }
 
 -- other triggers are left
 pub left_quietly : (l : Level) (left : List Trigger) → IsQuiet (λ k. record k { triggers = left }) l (record l { triggers = left })
-left_quietly l left = record { becomes = refl; space = refl; store = refl; told_from = refl; touched = refl; traced = refl; knows = refl; variables = omega arith; children = omega arith }
+left_quietly l left = record { becomes = refl; space = refl; store = refl; told_from = refl; touched = refl; traced = refl; knows = refl; bare = refl; variables = omega arith; children = omega arith }
 
 pub fired_quietly : (marks : List Bool) (l m : Level) (begun left : List Trigger) → begun ≡ marked marks l.triggers → left ≡ unmarked marks l.triggers
     → IsQuiet (λ k. fold beginning k begun) (record l { triggers = left }) m → IsQuiet (firing marks) l m
@@ -123,6 +123,7 @@ fired_quietly marks l m begun left b e q = record {
   touched = q.touched;
   traced = q.traced;
   knows = q.knows;
+  bare = q.bare;
   variables = q.variables;
   children = q.children;
 }

@@ -1,7 +1,6 @@
 -- A space is told more while those below it still see what they saw, and then the tree below it is edited.
-use Rattle.std.proofs.Common.{◌≡◌, ◌⊎◌, inl, inr, ℕ, ◌<◌, true, false, List, [], ◌∷◌, ◌++◌, flat_map, map, length, slice_set, slice_index_or, refl, sym, ap, subst, ◌∙◌, Contains}
+use Rattle.std.proofs.Common.{◌≡◌, ◌⊎◌, inl, inr, ℕ, ◌<◌, true, false, List, [], ◌∷◌, ◌++◌, flat_map, map, drop, length, slice_set, slice_index_or, refl, sym, ap, subst, ◌∙◌, Contains}
 use Rattle.std.specs.List.{list_any, list_all}
-use Rattle.std.proofs.lemmas.Bool.{false≢true}
 use Rattle.std.proofs.lemmas.List.{get_or-set_same}
 use Rattle.oz_semantics.specs.Names.{is_properly_below}
 use Rattle.oz_semantics.specs.Store.{named_by, is_consistent}
@@ -18,13 +17,13 @@ use Rattle.view_laws.proofs.SightLaws.{space_of}
 use Rattle.space_core.specs.Anew.{IsLoose, ToldAlone, ClashesAlone}
 use Rattle.space_core.specs.Places.{IsFirst}
 use Rattle.space_core.specs.Renamed.{IsRenamed}
-use Rattle.space_core.specs.Shown.{shown, shown_all, seen_above, is_home, Fits, IsSound, IsQuiet}
+use Rattle.space_core.specs.Shown.{shown, shown_all, seen_above, is_home, IsBare, Fits, IsSound, IsQuiet}
 use Rattle.space_core.specs.declared.level.Level.{Level}
 use Rattle.space_core.proofs.AdvanceLaws.{KeepsName, Reached, quiet_step}
 use Rattle.space_core.proofs.AnswerLaws.{PlaceIn}
-use Rattle.space_core.proofs.FateLaws.{not_under_itself}
+use Rattle.space_core.proofs.FateLaws.{under_inner, not_under_itself}
 use Rattle.space_core.proofs.MemberLaws.{elsewhere_in, set_member}
-use Rattle.space_core.proofs.SoundLaws.{KeepsHomes, all_home, fits_after, read_shown, place_within, place_member}
+use Rattle.space_core.proofs.SoundLaws.{KeepsHomes, all_home, drop_nothing, fits_after, read_shown, place_within, place_member}
 use Rattle.space_core.proofs.TellLaws.{after_tree, after_homes, fits_apart, own_shows, shows_more, tell_fits}
 
 -- What the space at a place sees
@@ -32,15 +31,15 @@ module _ (levels : List Level) (space : List ℕ) (place : ℕ) (s : IsSound lev
   name_at : (l : Level) → l ≡ slice_index_or levels place l → l.space ≡ space
   name_at l e = ap (λ (k : Layer). k.space) (read_shown levels space place h.0 h.1 l e) ∙ space_of (shown_all levels) space h.0 h.1.found
 
-  pub sees_changed : (l m : Level) → l ≡ slice_index_or levels place l → IsQuiet change l m → view (shown_all levels) space ≡ m.store
-  sees_changed l m e q = sym (q.store ∙ (s.fits l (place_member levels space place h.0 h.1 l e)).seen ∙ ap (view (shown_all levels)) (name_at l e))
+  pub sees_changed : (l m : Level) → l ≡ slice_index_or levels place l → IsQuiet change l m → m.bare ≡ false → view (shown_all levels) space ≡ m.store
+  sees_changed l m e q b = sym (q.store ∙ (s.fits l (place_member levels space place h.0 h.1 l e)).seen (sym q.bare ∙ b) ∙ ap (view (shown_all levels)) (name_at l e))
 
   pub clash_alone : (ts : List Tell) → ClashesAlone change place ts levels → is_consistent (view (shown_all levels) space ++ ts) ≡ false
-  clash_alone ts c = ap (λ (us : List Tell). is_consistent (us ++ ts)) (sees_changed c.before c.changed c.read c.quiet) ∙ c.clash
+  clash_alone ts c = ap (λ (us : List Tell). is_consistent (us ++ ts)) (sees_changed c.before c.changed c.read c.quiet c.kept) ∙ c.clash
 
   module _ (keeps : KeepsName change) (ts : List Tell) (news : List Level) (t : ToldAlone change place ts levels news) where
     pub alone_consistent : is_consistent (view (shown_all levels) space ++ ts) ≡ true
-    alone_consistent = ap (λ (us : List Tell). is_consistent (us ++ ts)) (sees_changed t.before t.changed t.read t.quiet) ∙ t.tells.consistent
+    alone_consistent = ap (λ (us : List Tell). is_consistent (us ++ ts)) (sees_changed t.before t.changed t.read t.quiet t.tells.kept) ∙ t.tells.consistent
 
     abbrev gave : List Level
     gave = slice_set levels place t.changed
@@ -100,6 +99,10 @@ module _ (levels : List Level) (space : List ℕ) (place : ℕ) (s : IsSound lev
         | inl k ↦ absurd (not_under n k u)
         | inr k ↦ (sound.fits n (elsewhere_in gave place n k)).known r
       ];
+      bare = λ n c b u. elim (set_member gave place t.told n within c) [
+        | inl k ↦ absurd (not_under n k u)
+        | inr k ↦ (sound.fits n (elsewhere_in gave place n k)).bare b
+      ];
     }
 
     pub alone_loose : IsLoose space news
@@ -120,8 +123,9 @@ pub record Stays (space : List ℕ) (olds : List Level) (after : List Layer) (n 
 -- a new one below it
 pub record IsNewBelow (space : List ℕ) (n : Level) : Type 0 where
   pub under : is_properly_below space n.space ≡ true
-  pub traced : n.traced ≡ false
+  pub home : n.traced ≡ true → (shown n).tells ≡ []
   pub known : n.knows_space ≡ false → list_any gives_space (shown n).tells ≡ false
+  pub bare : n.bare ≡ true → IsBare n
 
 module _ (space : List ℕ) (olds news : List Level) (after : List Layer) (loose : IsLoose space olds) (shows : shown_all news ≡ after) (tree : IsTree after)
     (each : (n : Level) → Contains news n → Stays space olds after n ⊎ IsNewBelow space n) where
@@ -134,13 +138,27 @@ module _ (space : List ℕ) (olds news : List Level) (after : List Layer) (loose
     ]);
     home = λ n c t u. subst (λ (ls : List Layer). list_all (is_home ls n.space) (flat_map named_by (shown n).tells) ≡ true) (sym shows) (elim (each n c) [
       | inl k ↦ all_home (shown_all olds) after n.space (flat_map named_by (shown n).tells) k.homes (loose.home n k.among t u)
-      | inr k ↦ absurd (false≢true (sym k.traced ∙ t))
+      | inr k ↦ ap (λ (ts : List Tell). list_all (is_home after n.space) (flat_map named_by ts)) (k.home t)
     ]);
     known = λ n c t u. elim (each n c) [
       | inl k ↦ loose.known n k.among t u
       | inr k ↦ k.known t
     ];
+    bare = λ n c b u. elim (each n c) [
+      | inl k ↦ loose.bare n k.among b u
+      | inr k ↦ k.bare b
+    ];
   }
+
+-- a space that has another name, below this one
+pub renamed_bare : (r : Renaming) (space : List ℕ) (old new : Level) → IsRenamed r old new → (old.bare ≡ true → IsBare old) → is_properly_below space new.space ≡ true → new.bare ≡ true → IsBare new
+renamed_bare r space old new n bare under b =
+    let k = bare (sym n.bare ∙ b) in
+    record {
+      inner = under_inner space new.space under;
+      store = n.store ∙ ap (λ (l : Layer). l.tells) n.shows ∙ ap (map (renamed_tell r)) (ap (drop old.told_from) k.store ∙ drop_nothing old.told_from);
+      touched = n.touched;
+    }
 
 -- Other names leave it whether a variable is told to be a space
 gives_renamed : (r : Renaming) (t : Tell) → gives_space (renamed_tell r t) ≡ gives_space t

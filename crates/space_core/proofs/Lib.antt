@@ -17,6 +17,7 @@ pub mod CreateLaws
 pub mod CreateSettles
 pub mod SpaceEditLaws
 pub mod RenamedLaws
+pub mod SightLaws
 pub mod SilentLaws
 pub mod TreeAnswers
 pub mod StackLaws

@@ -139,6 +139,7 @@ module _ (r : Renaming) (child l m : Level) (number : ℕ) (q : IsQuiet (with_fr
         touched = q.touched;
         traced = q.traced;
         knows = q.knows;
+        bare = q.bare;
         variables = omega (arith, a, q.variables);
         children = omega (arith, b, q.children);
       }

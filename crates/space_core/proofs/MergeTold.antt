@@ -1,6 +1,7 @@
 -- A child becomes a part of its parent, where the parent is told of it.
 use Rattle.std.proofs.Common.{◌≡◌, ◌⊎◌, inl, inr, ℕ, ◌+◌, ◌-◌, Bool, true, false, not, ◌&&◌, List, [], ◌∷◌, ◌++◌, map, filter, drop, slice_set, slice_index_or, refl, sym, ap, ap₂, subst, ◌∙◌, arith, Contains, Option, is_some, unwrap_or}
 use Rattle.std.specs.List.{list_any}
+use Rattle.std.proofs.lemmas.Bool.{false≢true}
 use Rattle.std.proofs.lemmas.List.{get_or-map, length-map}
 use Rattle.oz_base.specs.Lists.{list_eq}
 use Rattle.oz_base.specs.declared.names.Ident.{Ident}
@@ -42,8 +43,9 @@ use Rattle.space_core.specs.SpaceEdits.{IsEdited}
 use Rattle.space_core.specs.declared.level.Level.{Level}
 use Rattle.space_core.proofs.AnewLaws.{anew_settles, anew_sound}
 use Rattle.space_core.proofs.AnswerLaws.{PlaceIn}
+use Rattle.space_core.proofs.FateLaws.{under_inner}
 use Rattle.space_core.proofs.CopyTold.{some_edit, kept_there, alone_by}
-use Rattle.space_core.proofs.GraftLoose.{alone_consistent, alone_loose, alone_shows, clash_alone, Stays, IsNewBelow, graft_loose, renamed_known}
+use Rattle.space_core.proofs.GraftLoose.{alone_consistent, alone_loose, alone_shows, clash_alone, Stays, IsNewBelow, graft_loose, renamed_bare, renamed_known}
 use Rattle.space_core.proofs.MemberLaws.{IsElsewhere, elsewhere_in, set_member, filter_member, map_filter}
 use Rattle.space_core.proofs.SoundLaws.{Grown, homes_kept, above_same, read_shown, set_shown, shown_member, place_within}
 use Rattle.space_core.proofs.TellLaws.{other_name}
@@ -283,12 +285,16 @@ module _ (levels : List Level) (layers : List Layer) (viewed : shown_all levels 
         other_name (shown_all cut) k.at left (shown n) hl.0 cut_ordered (omega (arith, k.within, length-map cut shown)) hl.1.within
         (get_or-map shown cut k.at n (shown n) k.within ∙ ap shown k.item) hl.1.item k.other (sym q ∙ sym (space_of (shown_all cut) child hl.0 hl.1.found))
 
+    away_under : is_properly_below id.space m.space ≡ true
+    away_under = subst (λ (p : List ℕ). is_properly_below id.space p ≡ true)
+        (sym (ap (λ (k : Layer). k.space) away.shows ∙ ap (λ (k : Layer). k.space) (read_shown cut child left hl.0 hl.1 lc el) ∙ space_of (shown_all cut) child hl.0 hl.1.found)) under_parent
+
     old : (n : Level) → (n ≡ m) ⊎ IsElsewhere cut left n → Stays id.space told after n ⊎ IsNewBelow id.space n
     old n (inl q) = inr (subst (IsNewBelow id.space) (sym q) (record {
-      under = subst (λ (p : List ℕ). is_properly_below id.space p ≡ true)
-          (sym (ap (λ (k : Layer). k.space) away.shows ∙ ap (λ (k : Layer). k.space) (read_shown cut child left hl.0 hl.1 lc el) ∙ space_of (shown_all cut) child hl.0 hl.1.found)) under_parent;
-      traced = away.traced;
+      under = away_under;
+      home = λ t. ap (λ (j : Layer). j.tells) away.shows;
       known = λ k. ap (λ (j : Layer). list_any gives_space j.tells) away.shows;
+      bare = λ b. record { inner = under_inner id.space m.space away_under; store = away.store; touched = away.touched };
     }))
     old n (inr k) =
         let f = filter_member (λ (l : Level). not (is_properly_below child l.space)) told n (subst (λ (ls : List Level). Contains ls n) cutting (elsewhere_in cut left n k)) in
@@ -303,11 +309,14 @@ module _ (levels : List Level) (layers : List Layer) (viewed : shown_all levels 
         let c = cut_at inner.space o.before.space inside in
         let name : n.space ≡ outer.space ++ (c.number + (outer.next.child - 1)) ∷ c.rest =
         ap (λ (k : Layer). k.space) o.renamed.shows ∙ ap (λ (r : Renaming). r.space o.before.space) names_are ∙ ap (space_into inner outer) c.whole ∙ into_front inner outer c.number c.rest in
+        let under : is_properly_below id.space n.space ≡ true =
+        subst (λ (p : List ℕ). is_properly_below id.space p ≡ true) (sym name)
+        (subst (λ (p : List ℕ). is_properly_below p (outer.space ++ (c.number + (outer.next.child - 1)) ∷ c.rest) ≡ true) outer_name (properly_front outer.space (c.number + (outer.next.child - 1)) c.rest)) in
         record {
-          under = subst (λ (p : List ℕ). is_properly_below id.space p ≡ true) (sym name)
-              (subst (λ (p : List ℕ). is_properly_below p (outer.space ++ (c.number + (outer.next.child - 1)) ∷ c.rest) ≡ true) outer_name (properly_front outer.space (c.number + (outer.next.child - 1)) c.rest));
-          traced = o.renamed.traced;
+          under = under;
+          home = λ t. absurd (false≢true (sym o.renamed.traced ∙ t));
           known = renamed_known (renaming_of by) o.before n o.renamed (s.fits o.before o.among).known;
+          bare = renamed_bare (renaming_of by) id.space o.before n o.renamed (s.fits o.before o.among).bare under;
         }
 
     each : (n : Level) → Contains news n → Stays id.space told after n ⊎ IsNewBelow id.space n

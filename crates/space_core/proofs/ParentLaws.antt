@@ -1,14 +1,11 @@
 -- The name of the parent of a space.
 use Rattle.std.proofs.Common.{◌≡◌, ℕ, suc, ◌-◌, ◌<◌, arith, Bool, true, false, List, [], ◌∷◌, take, length, refl, sym, ◌∙◌, ap, Contains, slice_index_or}
-use Rattle.std.proofs.lemmas.Bool.{false≢true}
 use Rattle.std.proofs.lemmas.List.{get_or_default}
 use Rattle.oz_base.specs.Lists.{is_empty, list_eq}
 use Rattle.oz_semantics.specs.Names.{is_top, parent_of}
-use Rattle.oz_semantics.specs.declared.value.Tell.{Tell}
 use Rattle.oz_laws.proofs.SameLaws.{contains-from_In}
 use Rattle.view_laws.proofs.NameLaws.{equal_names}
 use Rattle.view_laws.proofs.ListLaws.{found_in}
-use Rattle.space_core.specs.Ending.{IsAbove}
 use Rattle.space_core.specs.Fates.{IsParentAt}
 use Rattle.space_core.specs.Places.{IsFirst}
 use Rattle.space_core.specs.Shown.{is_named}
@@ -39,13 +36,6 @@ empty_top (n ∷ s) = refl
 
 pub not_empty : (s : List ℕ) → is_empty s ≡ false → is_top s ≡ false
 not_empty s e = sym (empty_top s) ∙ e
-
-pub parent_above_is : (levels : List Level) (space : List ℕ) (place : ℕ) → (x : Level) × IsFirst (is_named (parent_of space)) levels place x → (l : Level) → l ≡ slice_index_or levels place l
-    → is_empty space ≡ false → (store : List Tell) → store ≡ (slice_index_or levels place l).store → IsAbove levels space store
-parent_above_is levels space place h l e inner store same = record {
-  top = λ t. absurd (false≢true (sym (not_empty space inner) ∙ t));
-  inner = λ t. (h.0, named_member levels (parent_of space) place h.0 h.1, named_space levels (parent_of space) place h.0 h.1, same ∙ ap (λ (k : Level). k.store) (sym e ∙ first_read h.1 l e));
-}
 
 -- the space at a place is a parent, where the names say so
 pub parent_at : (levels : List Level) (place : ℕ) (space : List ℕ) → place < length levels → (l : Level) → l ≡ slice_index_or levels place l → list_eq l.space (parent_of space) ≡ true → IsParentAt levels place space

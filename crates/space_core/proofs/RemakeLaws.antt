@@ -28,7 +28,7 @@ use Rattle.space_core.specs.Places.{IsFirst}
 use Rattle.space_core.specs.Shown.{shown, shown_all, is_home, Fits, IsSound}
 use Rattle.space_core.specs.Telling.{has_below, IsToldMore, IsAlone, IsRemade, IsLeft}
 use Rattle.space_core.specs.declared.fates.Fate.{Fate}
-use Rattle.space_core.specs.declared.fates.Fate.TheVariants.{Stays, Gone, Fails, Sees}
+use Rattle.space_core.specs.declared.fates.Fate.TheVariants.{Stays, Gone, Fails, Sees, Bare}
 use Rattle.space_core.specs.declared.level.Level.{Level}
 use Rattle.space_core.proofs.AnswerLaws.{PlaceIn}
 use Rattle.space_core.proofs.FateLaws.{got_in, not_under_itself, fates_show, fates_sound}
@@ -100,7 +100,8 @@ fates_at (fate ∷ fates) (k ∷ ls) (suc n) l stay e =
 stays_apart : (space : List ℕ) (layers : List Layer) (l : Level) (fate : Fate) → is_properly_below space l.space ≡ false → IsFate space layers l fate → fate ≡ Stays
 stays_apart space layers l Stays a h = refl
 stays_apart space layers l Gone a h = absurd (not_both _ h.0 a)
-stays_apart space layers l (Fails store) a h = absurd (not_both _ h.0 a)
+stays_apart space layers l Fails a h = absurd (not_both _ h.0 a)
+stays_apart space layers l Bare a h = absurd (not_both _ h.0 a)
 stays_apart space layers l (Sees seen) a h = absurd (not_both _ h.0 a)
 
 -- The space at the place was told these, and then those below it see them
@@ -156,7 +157,7 @@ module _ (levels : List Level) (space : List ℕ) (place : ℕ) (x : Layer) (h :
   tree = after_tree levels space place x h l m e (telling ts) shows told.space told.numbers s
 
   own_view : view layers space ≡ l.store
-  own_view = sym ((s.fits l (place_member levels space place x h l e)).seen ∙ ap (view layers) name)
+  own_view = sym ((s.fits l (place_member levels space place x h l e)).seen told.kept ∙ ap (view layers) name)
 
   below : (t : List ℕ) → Contains (inconsistent_spaces after) t → is_properly_below space t ≡ true
   below = tell_below space ts layers x (nothing_sound layers (none_inconsistent levels s)) h.found (ap (λ (us : List Tell). is_consistent (us ++ ts)) own_view ∙ told.consistent)
@@ -195,14 +196,14 @@ module _ (levels : List Level) (space : List ℕ) (place : ℕ) (x : Layer) (h :
   stale = record {
     tree = subst IsTree (sym seen_shows) tree;
     below = subst (λ (ls : List Layer). (t : List ℕ) → Contains (inconsistent_spaces ls) t → is_properly_below space t ≡ true) (sym seen_shows) below;
-    seen = λ n c a. subst (λ (ls : List Layer). n.store ≡ view ls n.space) (sym seen_shows) (elim (set_member levels place seeing_level n within c) [
-      | inl k ↦ subst (λ (j : Level). j.store ≡ view after j.space) (sym k) (fits.seen ∙ ap (view after) told.space)
-      | inr k ↦ (apart_fits n k a).seen
+    seen = λ n c a b. subst (λ (ls : List Layer). n.store ≡ view ls n.space) (sym seen_shows) (elim (set_member levels place seeing_level n within c) [
+      | inl k ↦ subst (λ (j : Level). j.store ≡ view after j.space) (sym k) (fits.seen (told.bare ∙ told.kept) ∙ ap (view after) told.space)
+      | inr k ↦ (apart_fits n k a).seen b
     ]);
-    consistent = λ n c a. elim (set_member levels place seeing_level n within c) [
-      | inl k ↦ subst (λ (j : Level). is_consistent j.store ≡ true) (sym k) fits.consistent
+    consistent = λ n c a. subst (λ (ls : List Layer). is_consistent (view ls n.space) ≡ true) (sym seen_shows) (elim (set_member levels place seeing_level n within c) [
+      | inl k ↦ subst (λ (j : Level). is_consistent (view after j.space) ≡ true) (sym k) (ap (λ (p : List ℕ). is_consistent (view after p)) (sym told.space) ∙ fits.consistent)
       | inr k ↦ (apart_fits n k a).consistent
-    ];
+    ]);
     home = λ n c t u. subst (λ (ls : List Layer). list_all (is_home ls n.space) (flat_map named_by (shown n).tells) ≡ true) (sym seen_shows) (elim (set_member levels place seeing_level n within c) [
       | inl k ↦ absurd (not_both _ u (subst (λ (j : Level). is_properly_below space j.space ≡ false) (sym k) (subst (λ (p : List ℕ). is_properly_below space p ≡ false) (sym name) (not_under_itself space))))
       | inr k ↦ all_home layers after n.space (flat_map named_by (shown n).tells) (after_homes levels space place x h l m e (telling ts) shows told.space told.numbers s n.space)
@@ -211,6 +212,10 @@ module _ (levels : List Level) (space : List ℕ) (place : ℕ) (x : Layer) (h :
     known = λ n c t u. elim (set_member levels place seeing_level n within c) [
       | inl k ↦ absurd (not_both _ u (subst (λ (j : Level). is_properly_below space j.space ≡ false) (sym k) (subst (λ (p : List ℕ). is_properly_below space p ≡ false) (sym name) (not_under_itself space))))
       | inr k ↦ (s.fits n (elsewhere_in levels place n k)).known t
+    ];
+    bare = λ n c b u. elim (set_member levels place seeing_level n within c) [
+      | inl k ↦ absurd (not_both _ u (subst (λ (j : Level). is_properly_below space j.space ≡ false) (sym k) (subst (λ (p : List ℕ). is_properly_below space p ≡ false) (sym name) (not_under_itself space))))
+      | inr k ↦ (s.fits n (elsewhere_in levels place n k)).bare b
     ];
   }
 

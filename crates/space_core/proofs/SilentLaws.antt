@@ -169,25 +169,26 @@ held_named layers space ts x =
 -- By what was read of what is kept
 
 module _ (levels : List Level) (l : Level) (inner : is_empty l.space ≡ false) (place : ℕ) (h : (x : Level) × IsFirst (is_named (parent_of l.space)) levels place x) (k : Level)
-    (e : k ≡ slice_index_or levels place k) (s : IsSound levels) (c : Contains levels l) where
-  parent_sees : (slice_index_or levels place k).store ≡ view (shown_all levels) (parent_of l.space)
+    (e : k ≡ slice_index_or levels place k) (s : IsSound levels) (c : Contains levels l) (own above : List Tell) (is_own : own ≡ view (shown_all levels) l.space)
+    (is_above : IsSound levels → Contains levels k → above ≡ view (shown_all levels) k.space) where
+  parent_sees : above ≡ view (shown_all levels) (parent_of l.space)
   parent_sees =
-      ap (λ (m : Level). m.store) (sym e ∙ first_read h.1 k e)
-      ∙ (s.fits h.0 (named_member levels (parent_of l.space) place h.0 h.1)).seen
+      is_above s (subst (Contains levels) (sym (first_read h.1 k e)) (named_member levels (parent_of l.space) place h.0 h.1))
+      ∙ ap (λ (m : Level). view (shown_all levels) m.space) (first_read h.1 k e)
       ∙ ap (view (shown_all levels)) (named_space levels (parent_of l.space) place h.0 h.1)
 
   pub silent_by_touched : list_all (is_traced l.space) levels ≡ true
-      → list_all (variable_alike (shown_all levels) l.space l.store (slice_index_or levels place k).store l.touched) l.touched
+      → list_all (variable_alike (shown_all levels) l.space own above l.touched) l.touched
       ≡ alike_on (ancestor_variables (shown_all levels) l.space) (view (shown_all levels) l.space) (view (shown_all levels) (parent_of l.space))
   silent_by_touched t =
-      ap₂ (λ (one other : List Tell). list_all (variable_alike (shown_all levels) l.space one other l.touched) l.touched) (s.fits l c).seen parent_sees
+      ap₂ (λ (one other : List Tell). list_all (variable_alike (shown_all levels) l.space one other l.touched) l.touched) is_own parent_sees
       ∙ silent_traced levels s l c (not_empty l.space inner) (traced_is levels l.space t)
 
   pub silent_by_names :
-      list_all (tell_alike (shown_all levels) l.space l.store (slice_index_or levels place k).store) l.store
+      list_all (tell_alike (shown_all levels) l.space own above) own
       ≡ alike_on (ancestor_variables (shown_all levels) l.space) (view (shown_all levels) l.space) (view (shown_all levels) (parent_of l.space))
   silent_by_names =
-      ap₂ (λ (one other : List Tell). list_all (tell_alike (shown_all levels) l.space one other) one) (s.fits l c).seen parent_sees
+      ap₂ (λ (one other : List Tell). list_all (tell_alike (shown_all levels) l.space one other) one) is_own parent_sees
       ∙ silent_named levels s l c (not_empty l.space inner)
 
 pub empty_silent : (layers : List Layer) (space : List ℕ) → is_empty space ≡ true → (one other : List Tell) → true ≡ alike_on (ancestor_variables layers space) one other
@@ -203,35 +204,35 @@ or-true false = refl
 abbrev pub held : List Level → Level → List ℕ → Ident → Bool
 held levels l space x = is_held (view (shown_all levels) l.space) (ancestor_variables (shown_all levels) space) x
 
-module _ (levels : List Level) (l : Level) (space : List ℕ) (x : Ident) (s : IsSound levels) (c : Contains levels l) where
+module _ (levels : List Level) (l : Level) (space : List ℕ) (x : Ident) (s : IsSound levels) (c : Contains levels l) (own : List Tell) (is_own : own ≡ view (shown_all levels) l.space) where
   pub top_not_held : is_empty space ≡ true → false ≡ held levels l space x
   top_not_held q = sym (top_holds (shown_all levels) space (sym (empty_top space) ∙ q) (view (shown_all levels) l.space) x)
 
-  seen_determined : (b : Bool) → is_determined l.store x ≡ b → is_determined (view (shown_all levels) l.space) x ≡ b
-  seen_determined b e = sym (ap (λ (ts : List Tell). is_determined ts x) (s.fits l c).seen) ∙ e
+  seen_determined : (b : Bool) → is_determined own x ≡ b → is_determined (view (shown_all levels) l.space) x ≡ b
+  seen_determined b e = sym (ap (λ (ts : List Tell). is_determined ts x) is_own) ∙ e
 
-  pub determined_not_held : is_determined l.store x ≡ true → false ≡ held levels l space x
+  pub determined_not_held : is_determined own x ≡ true → false ≡ held levels l space x
   determined_not_held q = sym (ap (λ (b : Bool). not b && list_any (same (view (shown_all levels) l.space) x) (ancestor_variables (shown_all levels) space)) (seen_determined true q))
 
-  pub held_outer : is_determined l.store x ≡ false → is_outer (shown_all levels) space x ≡ true → true ≡ held levels l space x
+  pub held_outer : is_determined own x ≡ false → is_outer (shown_all levels) space x ≡ true → true ≡ held levels l space x
   held_outer e o =
       sym (held_named (shown_all levels) space (view (shown_all levels) l.space) x
       ∙ ap₂ (λ (a b : Bool). not a && (b || list_any (tell_holds (shown_all levels) space (view (shown_all levels) l.space) x) (view (shown_all levels) l.space))) (seen_determined false e) o)
 
-  pub held_by_names : is_determined l.store x ≡ false → is_outer (shown_all levels) space x ≡ false
-      → list_any (tell_holds (shown_all levels) space l.store x) l.store ≡ held levels l space x
+  pub held_by_names : is_determined own x ≡ false → is_outer (shown_all levels) space x ≡ false
+      → list_any (tell_holds (shown_all levels) space own x) own ≡ held levels l space x
   held_by_names e o =
-      ap (λ (ts : List Tell). list_any (tell_holds (shown_all levels) space ts x) ts) (s.fits l c).seen
+      ap (λ (ts : List Tell). list_any (tell_holds (shown_all levels) space ts x) ts) is_own
       ∙ sym (held_named (shown_all levels) space (view (shown_all levels) l.space) x
       ∙ ap₂ (λ (a b : Bool). not a && (b || list_any (tell_holds (shown_all levels) space (view (shown_all levels) l.space) x) (view (shown_all levels) l.space))) (seen_determined false e) o)
 
-  pub held_by_touched : is_empty space ≡ false → is_determined l.store x ≡ false → is_outer (shown_all levels) space x ≡ false → list_eq l.space space ≡ true → list_all (is_traced space) levels ≡ true
-      → list_any (holds_variable (shown_all levels) space l.store x) l.touched ≡ held levels l space x
+  pub held_by_touched : is_empty space ≡ false → is_determined own x ≡ false → is_outer (shown_all levels) space x ≡ false → list_eq l.space space ≡ true → list_all (is_traced space) levels ≡ true
+      → list_any (holds_variable (shown_all levels) space own x) l.touched ≡ held levels l space x
   held_by_touched n e o q t =
       let own : l.space ≡ space = equal_names l.space space q in
       let inner : is_top l.space ≡ false = ap is_top own ∙ not_empty space n in
       let traced : Traced levels l.space = subst (Traced levels) (sym own) (traced_is levels space t) in
-      ap (λ (ts : List Tell). list_any (holds_variable (shown_all levels) space ts x) l.touched) (s.fits l c).seen
+      ap (λ (ts : List Tell). list_any (holds_variable (shown_all levels) space ts x) l.touched) is_own
       ∙ sym (subst (λ (t : List ℕ). is_held (view (shown_all levels) l.space) (ancestor_variables (shown_all levels) t) x
       ≡ (not (is_determined (view (shown_all levels) l.space) x) && (is_outer (shown_all levels) t x || list_any (holds_variable (shown_all levels) t (view (shown_all levels) l.space) x) l.touched))) own
       (held_traced levels s l c inner traced x)

@@ -1,6 +1,6 @@
 -- What is kept of the spaces fits their layers after an edit.
-use Rattle.std.proofs.Common.{◌≡◌, inl, inr, ℕ, ◌<◌, ◌≤◌, nat_lt, Bool, true, false, not, ◌&&◌, List, [], ◌∷◌, map, length, drop, slice_set, slice_index_or, refl, sym, ap, ap₂, subst, ◌∙◌, arith, Contains, Some}
-use Rattle.std.specs.List.{list_all, flat_map}
+use Rattle.std.proofs.Common.{◌≡◌, inl, inr, ℕ, zero, suc, ◌<◌, ◌≤◌, nat_lt, Bool, true, false, not, ◌&&◌, List, [], ◌∷◌, map, length, drop, slice_set, slice_index_or, refl, sym, ap, ap₂, subst, ◌∙◌, arith, Contains, Some}
+use Rattle.std.specs.List.{list_any, list_all, flat_map}
 use Rattle.std.proofs.lemmas.Bool.{false≢true}
 use Rattle.std.proofs.lemmas.Bool.Decides.{nat_tests}
 use Rattle.std.proofs.lemmas.List.{get_or-map, map-set, length-map}
@@ -15,14 +15,16 @@ use Rattle.oz_semantics.specs.declared.configuration.Layer.{Layer}
 use Rattle.oz_laws.proofs.SameLaws.{In-from_contains, contains-from_In, and-left, and-right}
 use Rattle.view_laws.specs.Sights.{KeepsSpace, KeepsTells}
 use Rattle.view_laws.specs.Trees.{IsTree}
+use Rattle.view_laws.specs.Spaceless.{gives_space}
 use Rattle.view_laws.proofs.Members.{decide, not_both, and_both, each, by_each, some_of, by_some}
 use Rattle.view_laws.proofs.ListLaws.{map_in, in_map, filter_none, edit_in, edited_in}
 use Rattle.view_laws.proofs.SightLaws.{quiet_unseen}
 use Rattle.view_laws.proofs.TreeLaws.{change_tree}
 use Rattle.space_core.specs.Places.{IsFirst}
-use Rattle.space_core.specs.Shown.{shown, shown_all, seen_above, gave_out, is_home, Traces, Fits, IsSound, IsQuiet}
+use Rattle.space_core.specs.Shown.{shown, shown_all, seen_above, gave_out, is_home, Traces, IsBare, Fits, IsSound, IsQuiet}
 use Rattle.space_core.specs.declared.level.Level.{Level}
 use Rattle.space_core.proofs.MemberLaws.{elsewhere_in, set_member}
+use Rattle.space_core.proofs.TraceLaws.{traces_nothing}
 
 -- Levels and layers
 
@@ -59,11 +61,13 @@ pub record IsAlike (old new : Level) : Type 0 where
   pub touched : new.touched ≡ old.touched
   pub traced : new.traced ≡ old.traced
   pub knows : new.knows_space ≡ old.knows_space
+  pub bare : new.bare ≡ old.bare
 
 pub fits_alike : (layers : List Layer) (l m : Level) → IsAlike l m → Fits layers l → Fits layers m
 fits_alike layers l m e f =
     let l' : Level = record l { status = m.status; threads = m.threads; triggers = m.triggers; objects = m.objects; numbers = m.numbers } in
-    let f' : Fits layers l' = record { seen = f.seen; from = f.from; consistent = f.consistent; home = f.home; touches = f.touches; known = f.known } in
+    let bare : l'.bare ≡ true → IsBare l' = λ b. (let k = f.bare b in record { inner = k.inner; store = k.store; touched = k.touched }) in
+    let f' : Fits layers l' = record { seen = f.seen; from = f.from; bare = bare; consistent = f.consistent; home = f.home; touches = f.touches; known = f.known } in
     let same : l' ≡ m = λ i. record {
       space = sym e.space i;
       status = m.status;
@@ -76,6 +80,7 @@ fits_alike layers l m e f =
       numbers = m.numbers;
       traced = sym e.traced i;
       knows_space = sym e.knows i;
+      bare = sym e.bare i;
     } in
     subst (Fits layers) same f'
 
@@ -88,13 +93,34 @@ all_home before after space xs h e = by_each (is_home after space) xs (λ x c. h
 
 pub fits_after : (before after : List Layer) (l : Level) → view after l.space ≡ view before l.space → seen_above after l.space ≡ seen_above before l.space → KeepsHomes before after l.space → Fits before l → Fits after l
 fits_after before after l v a h f = record {
-  seen = f.seen ∙ sym v;
-  from = f.from ∙ ap length (sym a);
-  consistent = f.consistent;
+  seen = λ b. f.seen b ∙ sym v;
+  from = λ b. f.from b ∙ ap length (sym a);
+  bare = f.bare;
+  consistent = ap is_consistent v ∙ f.consistent;
   home = λ t. all_home before after l.space (flat_map named_by (shown l).tells) h (f.home t);
   touches = λ t n. subst (λ (ts : List Tell). Traces l.space ts (shown l).tells l.touched) (sym a) (f.touches t n);
   known = f.known;
 }
+
+pub drop_nothing : {A : Type 0} (n : ℕ) → ◌≡◌ {A = List A} (drop n []) []
+drop_nothing zero = refl
+drop_nothing (suc n) = refl
+
+-- a bare space fits where it sees what is consistent
+pub fits_bare : (layers : List Layer) (l : Level) → l.bare ≡ true → IsBare l → is_consistent (view layers l.space) ≡ true → Fits layers l
+fits_bare layers l b h consistent =
+    let none : (shown l).tells ≡ [] = ap (drop l.told_from) h.store ∙ drop_nothing l.told_from in
+    record {
+      seen = λ k. absurd (not_both _ b k);
+      from = λ k. absurd (not_both _ b k);
+      bare = λ k. h;
+      consistent = consistent;
+      home = λ t. ap (λ (ts : List Tell). list_all (is_home layers l.space) (flat_map named_by ts)) none;
+      touches = λ t n.
+          subst (λ (ts : List Tell). Traces l.space (seen_above layers l.space) ts l.touched) (sym none)
+          (subst (Traces l.space (seen_above layers l.space) []) (sym h.touched) (traces_nothing l.space (seen_above layers l.space)));
+      known = λ k. ap (list_any gives_space) none;
+    }
 
 pub above_same : (before after : List Layer) (space : List ℕ) → (is_top space ≡ false → view after (parent_of space) ≡ view before (parent_of space)) → seen_above after space ≡ seen_above before space
 above_same before after [] h = refl
@@ -185,7 +211,7 @@ module _ (levels : List Level) (space : List ℕ) (place : ℕ) (x : Layer) (h :
           tree = subst IsTree (sym shows) (change_tree space change layers (λ k at. (keeps_space k at, keeps_children k at)) s.tree);
           fits = λ n c. subst (λ (ls : List Layer). Fits ls n) (sym shows) (elim (set_member levels place m n (place_within levels space place x h) c) [
             | inl k ↦ subst (Fits after) (sym k)
-                (fits_alike after l m (record { space = q.space; store = q.store; told_from = q.told_from; touched = q.touched; traced = q.traced; knows = q.knows }) (fits_quietly l (s.fits l (place_member levels space place x h l e))))
+                (fits_alike after l m (record { space = q.space; store = q.store; told_from = q.told_from; touched = q.touched; traced = q.traced; knows = q.knows; bare = q.bare }) (fits_quietly l (s.fits l (place_member levels space place x h l e))))
             | inr k ↦ fits_quietly n (s.fits n (elsewhere_in levels place n k))
           ]);
         };
@@ -197,7 +223,7 @@ pub sound_consistent : (levels : List Level) → IsSound levels → (k : Layer) 
 sound_consistent levels s k c =
     let r = in_map shown levels k (In-from_contains (shown_all levels) k c) in
     let f = s.fits r.0 (contains-from_In levels r.0 r.1) in
-    let sees : is_consistent (view (shown_all levels) k.space) ≡ true = subst (λ (n : Layer). is_consistent (view (shown_all levels) n.space) ≡ true) r.2 (ap is_consistent (sym f.seen) ∙ f.consistent) in
+    let sees : is_consistent (view (shown_all levels) k.space) ≡ true = subst (λ (n : Layer). is_consistent (view (shown_all levels) n.space) ≡ true) r.2 f.consistent in
     by (may_fail k.status) (is_consistent (view (shown_all levels) k.space)) sees
   where
     by : (a b : Bool) → b ≡ true → (a && not b) ≡ false

@@ -22,7 +22,7 @@ use Rattle.view_laws.proofs.SightLaws.{of_space, space_of, change_unseen, later_
 use Rattle.view_laws.proofs.TreeLaws.{one_of_name, trees_lead, change_tree}
 use Rattle.view_laws.proofs.SpacelessLaws.{or_false, left_false, right_false}
 use Rattle.space_core.specs.Places.{IsFirst}
-use Rattle.space_core.specs.Shown.{next_with, shown, shown_all, seen_above, is_home, Traces, Fits, IsSound}
+use Rattle.space_core.specs.Shown.{next_with, shown, shown_all, seen_above, is_home, Traces, IsBare, Fits, IsSound}
 use Rattle.space_core.specs.Telling.{IsToldMore, has_below}
 use Rattle.space_core.specs.declared.level.Level.{Level}
 use Rattle.space_core.specs.declared.level.Numbers.{Numbers}
@@ -182,18 +182,20 @@ module _ (levels : List Level) (space : List ℕ) (place : ℕ) (x : Layer) (h :
 
 -- What is kept of one space, by the name of the space
 pub record FitsAt (layers : List Layer) (space : List ℕ) (l : Level) : Type 0 where
-  pub seen : l.store ≡ view layers space
-  pub from : l.told_from ≡ length (seen_above layers space)
-  pub consistent : is_consistent l.store ≡ true
+  pub seen : l.bare ≡ false → l.store ≡ view layers space
+  pub from : l.bare ≡ false → l.told_from ≡ length (seen_above layers space)
+  pub bare : l.bare ≡ true → IsBare l
+  pub consistent : is_consistent (view layers space) ≡ true
   pub home : l.traced ≡ true → list_all (is_home layers space) (flat_map named_by (shown l).tells) ≡ true
   pub touches : l.traced ≡ true → is_top space ≡ false → Traces space (seen_above layers space) (shown l).tells l.touched
   pub known : l.knows_space ≡ false → list_any gives_space (shown l).tells ≡ false
 
 pub fits_at : (layers : List Layer) (space : List ℕ) (l : Level) → space ≡ l.space → FitsAt layers space l → Fits layers l
 fits_at layers space l e f = record {
-  seen = subst (λ (s : List ℕ). l.store ≡ view layers s) e f.seen;
-  from = subst (λ (s : List ℕ). l.told_from ≡ length (seen_above layers s)) e f.from;
-  consistent = f.consistent;
+  seen = subst (λ (s : List ℕ). l.bare ≡ false → l.store ≡ view layers s) e f.seen;
+  from = subst (λ (s : List ℕ). l.bare ≡ false → l.told_from ≡ length (seen_above layers s)) e f.from;
+  bare = f.bare;
+  consistent = subst (λ (s : List ℕ). is_consistent (view layers s) ≡ true) e f.consistent;
   home = subst (λ (s : List ℕ). l.traced ≡ true → list_all (is_home layers s) (flat_map named_by (shown l).tells) ≡ true) e f.home;
   touches = subst (λ (s : List ℕ). l.traced ≡ true → is_top s ≡ false → Traces s (seen_above layers s) (shown l).tells l.touched) e f.touches;
   known = f.known;
@@ -201,9 +203,10 @@ fits_at layers space l e f = record {
 
 pub at_fits : (layers : List Layer) (space : List ℕ) (l : Level) → l.space ≡ space → Fits layers l → FitsAt layers space l
 at_fits layers space l e f = record {
-  seen = subst (λ (s : List ℕ). l.store ≡ view layers s) e f.seen;
-  from = subst (λ (s : List ℕ). l.told_from ≡ length (seen_above layers s)) e f.from;
-  consistent = f.consistent;
+  seen = subst (λ (s : List ℕ). l.bare ≡ false → l.store ≡ view layers s) e f.seen;
+  from = subst (λ (s : List ℕ). l.bare ≡ false → l.told_from ≡ length (seen_above layers s)) e f.from;
+  bare = f.bare;
+  consistent = subst (λ (s : List ℕ). is_consistent (view layers s) ≡ true) e f.consistent;
   home = subst (λ (s : List ℕ). l.traced ≡ true → list_all (is_home layers s) (flat_map named_by (shown l).tells) ≡ true) e f.home;
   touches = subst (λ (s : List ℕ). l.traced ≡ true → is_top s ≡ false → Traces s (seen_above layers s) (shown l).tells l.touched) e f.touches;
   known = f.known;
@@ -211,9 +214,10 @@ at_fits layers space l e f = record {
 
 -- What fits what its parent sees, where its layer is one of the tree's
 pub record FitsAbove (layers : List Layer) (space : List ℕ) (m : Level) : Type 0 where
-  pub store : m.store ≡ seen_above layers space ++ (shown m).tells
-  pub from : m.told_from ≡ length (seen_above layers space)
-  pub consistent : is_consistent m.store ≡ true
+  pub store : m.bare ≡ false → m.store ≡ seen_above layers space ++ (shown m).tells
+  pub from : m.bare ≡ false → m.told_from ≡ length (seen_above layers space)
+  pub bare : m.bare ≡ true → IsBare m
+  pub consistent : is_consistent (seen_above layers space ++ (shown m).tells) ≡ true
   pub home : m.traced ≡ true → list_all (is_home layers space) (flat_map named_by (shown m).tells) ≡ true
   pub touches : m.traced ≡ true → is_top space ≡ false → Traces space (seen_above layers space) (shown m).tells m.touched
   pub known : m.knows_space ≡ false → list_any gives_space (shown m).tells ≡ false
@@ -223,9 +227,10 @@ module _ (levels : List Level) (space : List ℕ) (place : ℕ) (x : Layer) (h :
   pub fits_above : FitsAbove (shown_all levels) space m → Fits (in_layer space change (shown_all levels)) m
   fits_above f =
       fits_at (in_layer space change (shown_all levels)) space m (sym (names ∙ own_space levels space place x h l m e change becomes names numbers s)) (record {
-        seen = f.store ∙ sym (own_view levels space place x h l m e change becomes names numbers s);
-        from = f.from ∙ ap length (sym (own_above levels space place x h l m e change becomes names numbers s));
-        consistent = f.consistent;
+        seen = λ b. f.store b ∙ sym (own_view levels space place x h l m e change becomes names numbers s);
+        from = λ b. f.from b ∙ ap length (sym (own_above levels space place x h l m e change becomes names numbers s));
+        bare = f.bare;
+        consistent = ap is_consistent (own_view levels space place x h l m e change becomes names numbers s) ∙ f.consistent;
         home = λ t. all_home (shown_all levels) (in_layer space change (shown_all levels)) space (flat_map named_by (shown m).tells)
             (after_homes levels space place x h l m e change becomes names numbers s space) (f.home t);
         touches = λ t n. subst (λ (ts : List Tell). Traces space ts (shown m).tells m.touched) (sym (own_above levels space place x h l m e change becomes names numbers s)) (f.touches t n);
@@ -247,10 +252,10 @@ module _ (levels : List Level) (space : List ℕ) (place : ℕ) (x : Layer) (h :
   fitted = at_fits (shown_all levels) space l own_name (s.fits l (place_member levels space place x h l e))
 
   parts : l.store ≡ seen_above (shown_all levels) space ++ (shown l).tells
-  parts = fitted.seen ∙ view_is (shown_all levels) space (shown l) s.tree (h.found ∙ ap (λ (n : Layer). Some n) (sym (read_shown levels space place x h l e)))
+  parts = fitted.seen told.kept ∙ view_is (shown_all levels) space (shown l) s.tree (h.found ∙ ap (λ (n : Layer). Some n) (sym (read_shown levels space place x h l e)))
 
   told_within : l.told_from ≤ length l.store
-  told_within = omega (arith, fitted.from, ap length parts ∙ length-append (seen_above (shown_all levels) space) (shown l).tells)
+  told_within = omega (arith, fitted.from told.kept, ap length parts ∙ length-append (seen_above (shown_all levels) space) (shown l).tells)
 
   more_tells : (shown m).tells ≡ (shown l).tells ++ ts
   more_tells = ap₂ (λ (n : ℕ) (us : List Tell). drop n us) told.told_from told.store ∙ drop-append-le l.told_from l.store ts told_within
@@ -268,11 +273,15 @@ module _ (levels : List Level) (space : List ℕ) (place : ℕ) (x : Layer) (h :
   none_told : l.knows_space ≡ false → list_any gives_space ts ≡ false → list_any gives_space (shown m).tells ≡ false
   none_told k n = ap (list_any gives_space) more_tells ∙ list_any-append gives_space (shown l).tells ts ∙ or_false _ _ (fitted.known k) n
 
+  sees_more : l.store ++ ts ≡ seen_above (shown_all levels) space ++ (shown m).tells
+  sees_more = ap (λ (us : List Tell). us ++ ts) parts ∙ append_assoc (seen_above (shown_all levels) space) (shown l).tells ts ∙ ap (λ (us : List Tell). seen_above (shown_all levels) space ++ us) (sym more_tells)
+
   tell_above : FitsAbove (shown_all levels) space m
   tell_above = record {
-    store = told.store ∙ ap (λ (us : List Tell). us ++ ts) parts ∙ append_assoc (seen_above (shown_all levels) space) (shown l).tells ts ∙ ap (λ (us : List Tell). seen_above (shown_all levels) space ++ us) (sym more_tells);
-    from = told.told_from ∙ fitted.from;
-    consistent = ap is_consistent told.store ∙ told.consistent;
+    store = λ b. told.store ∙ sees_more;
+    from = λ b. told.told_from ∙ fitted.from told.kept;
+    bare = λ b. absurd (not_both _ b (told.bare ∙ told.kept));
+    consistent = ap is_consistent (sym sees_more) ∙ told.consistent;
     home = λ t. let k = told.traced t in all_named_home k.0 k.1;
     touches = λ t n.
         let k = told.notes t (subst (λ (q : List ℕ). is_top q ≡ false) (sym own_name) n) in

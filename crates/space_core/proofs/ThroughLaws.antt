@@ -76,8 +76,8 @@ module _ (levels : List Level) (place : ℕ) (within : place < length levels) (b
 -- What was told, and then noted
 
 pub told_marked : (home : Bool) (ts : List Tell) (l k m : Level) (store : List Tell) (noted : List Ident) → k ≡ record l { store = store } → IsTold l.store ts store [] noted true → IsMarked home ts noted k m
-    → IsToldMore home ts l m
-told_marked home ts l k m store noted e t q =
+    → l.bare ≡ false → IsToldMore home ts l m
+told_marked home ts l k m store noted e t q b =
     let kept : k.space ≡ l.space = ap (λ (n : Level). n.space) e in
     record {
       store = q.store ∙ ap (λ (n : Level). n.store) e ∙ t.0;
@@ -89,14 +89,16 @@ told_marked home ts l k m store noted e t q =
       triggers = q.triggers ∙ ap (λ (n : Level). n.triggers) e;
       objects = q.objects ∙ ap (λ (n : Level). n.objects) e;
       numbers = q.numbers ∙ ap (λ (n : Level). n.numbers) e;
-      traced = λ b. let r = q.traced b in (sym (ap (λ (n : Level). n.traced) e) ∙ r.0, r.1);
-      notes = λ b n. record {
+      traced = λ t. let r = q.traced t in (sym (ap (λ (n : Level). n.traced) e) ∙ r.0, r.1);
+      notes = λ u n. record {
         more = filter (is_other l.space) t.2.more;
-        noted = q.notes b (ap is_top kept ∙ n)
+        noted = q.notes u (ap is_top kept ∙ n)
             ∙ ap₂ (λ (xs ys : List Ident). xs ++ ys) (ap (λ (n : Level). n.touched) e) (ap₂ (λ (s : List ℕ) (xs : List Ident). filter (is_other s) xs) kept t.2.noted);
         traces = record { all = t.2.more; touches = t.2.touches; others = refl };
       };
       knows = q.knows ∙ ap (λ (n : Level). n.knows_space || list_any gives_space ts) e;
+      kept = b;
+      bare = q.bare ∙ ap (λ (n : Level). n.bare) e;
     }
 
 module _ (levels : List Level) (place : ℕ) (within : place < length levels) (store : List Tell) (put : List Level) (fates : List Fate) (p : IsStoreAt place store levels put fates) where
@@ -107,11 +109,11 @@ module _ (levels : List Level) (place : ℕ) (within : place < length levels) (s
   put_within = omega (arith, within, ap length p.left, length-set levels place (record p.before { store = store }))
 
   pub told_below : (home : Bool) (ts : List Tell) (noted : List Ident) (l k m : Level) → l ≡ slice_index_or levels place l → IsTold l.store ts store [] noted true → k ≡ slice_index_or put place k → IsMarked home ts noted k m
-      → (news : List Level) → news ≡ with_fates fates (slice_set put place m) → ToldThrough place home ts levels news
-  told_below home ts noted l k m r t rk q news e =
+      → l.bare ≡ false → (news : List Level) → news ≡ with_fates fates (slice_set put place m) → ToldThrough place home ts levels news
+  told_below home ts noted l k m r t rk q b news e =
       let same : k ≡ record p.before { store = store } = read_set levels place (record p.before { store = store }) k within (subst (λ (ls : List Level). k ≡ slice_index_or ls place k) p.left rk) in
       let first : l ≡ p.before = r ∙ get_or_default levels place l p.before within ∙ sym p.read in
-      let tells : IsToldMore home ts p.before m = told_marked home ts p.before k m store noted same (subst (λ (n : Level). IsTold n.store ts store [] noted true) first t) q in
+      let tells : IsToldMore home ts p.before m = told_marked home ts p.before k m store noted same (subst (λ (n : Level). IsTold n.store ts store [] noted true) first t) q (subst (λ (n : Level). n.bare ≡ false) first b) in
       let sees : m.store ≡ store = q.store ∙ ap (λ (n : Level). n.store) same in
       record {
         before = p.before;
@@ -130,7 +132,7 @@ module _ (levels : List Level) (place : ℕ) (within : place < length levels) (s
 module _ (levels : List Level) (place : ℕ) (home : Bool) (ts : List Tell) (l m : Level) (r : l ≡ slice_index_or levels place l) where
   pub alone_told : {E : Type 0} (answer : Result Bool E) → has_below (shown_all levels) l.space ≡ false → IfOk answer (IsLevelTold home ts l m) → IfOk answer (IsToldThrough place home ts levels (slice_set levels place m))
   alone_told (Ok true) none t = record { before = l; told = m; read = r; tells = t; left = inl (record { none = none; left = refl }) }
-  alone_told (Ok false) none t = record { before = l; read = r; clash = t.1; left = unchanged levels place l m r t.0 }
+  alone_told (Ok false) none t = record { before = l; read = r; kept = t.2; clash = t.1; left = unchanged levels place l m r t.0 }
   alone_told (Err b) none t = t
 
   pub alone_refused : {E : Type 0} (answer : Result Bool E) → OnErr answer (m ≡ l) → OnErr answer (slice_set levels place m ≡ levels)

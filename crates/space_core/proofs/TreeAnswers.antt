@@ -1,5 +1,5 @@
 -- Tells and ends of the space that was looked up.
-use Rattle.std.proofs.Common.{◌≡◌, inl, inr, ℕ, zero, suc, ◌<◌, ◌+◌, length, slice_get, arith, Option, unwrap_or, Bool, true, false, not, ◌&&◌, List, [], ◌∷◌, ◌++◌, filter, slice_set, slice_index_or, refl, sym, ap, ap₂, subst, ◌∙◌, Result, Ok, Err, Some, None, Contains}
+use Rattle.std.proofs.Common.{◌≡◌, inl, inr, ℕ, zero, suc, ◌<◌, ◌+◌, length, slice_get, arith, Option, unwrap_or, Bool, true, false, not, List, [], ◌∷◌, ◌++◌, filter, slice_set, slice_index_or, refl, sym, ap, ap₂, subst, ◌∙◌, Result, Ok, Err, Some, None, Contains}
 use Rattle.std.specs.Prelude.{OnErr, IfOk, insert}
 use Rattle.std.specs.List.{list_all, find}
 use Rattle.oz_base.specs.Lists.{list_eq}
@@ -14,19 +14,18 @@ use Rattle.oz_semantics.specs.declared.value.Tell.{Tell}
 use Rattle.oz_semantics.specs.declared.configuration.Layer.{Layer}
 use Rattle.settle_laws.specs.Settles.{Settles}
 use Rattle.view_laws.proofs.Members.{has-cases}
-use Rattle.view_laws.proofs.NameLaws.{below_itself, names_equal}
 use Rattle.view_laws.proofs.SightLaws.{space_of}
 use Rattle.oz_laws.proofs.SameLaws.{In, In-from_contains}
-use Rattle.space_core.specs.Ending.{IsFailure, IsChild, IsAdded}
+use Rattle.space_core.specs.Ending.{fallen, IsChild, IsAdded}
 use Rattle.space_core.specs.Levels.{IsToldTo}
 use Rattle.space_core.specs.Places.{IsFirst, IsAbsent}
-use Rattle.space_core.specs.Shown.{shown, shown_all, seen_above, is_home, IsSound, IsQuiet}
+use Rattle.space_core.specs.Shown.{shown, shown_all, is_home, IsSound, IsQuiet}
 use Rattle.space_core.specs.Telling.{ToldThrough, IsToldThrough, has_below}
 use Rattle.space_core.specs.declared.level.Level.{Level}
 use Rattle.space_core.proofs.AdvanceLaws.{clash_shows}
 use Rattle.space_core.proofs.AnswerLaws.{PlaceIn, quiet_sound, quiet_shows}
 use Rattle.space_core.proofs.CreateLaws.{find_put, not_own_child, create_sound, create_shows}
-use Rattle.space_core.proofs.EndLaws.{is_left, left_sound, left_shown, left_above, none_left, fail_edit}
+use Rattle.space_core.proofs.EndLaws.{is_left, left_sound, left_shown, none_left, fail_edit}
 use Rattle.space_core.proofs.MemberLaws.{insert_member, map_insert}
 use Rattle.space_core.proofs.RemakeLaws.{Told, told_all}
 use Rattle.space_core.proofs.SoundLaws.{Edited, read_shown, place_member}
@@ -47,7 +46,7 @@ module _ (levels : List Level) (value : List Layer) (viewed : shown_all levels �
   sees_told t =
       let name : t.before.space ≡ space = ap (λ (k : Layer). k.space) (read_shown levels space place h.0 h.1 t.before t.read) ∙ space_of (shown_all levels) space h.0 h.1.found in
       let own : view value space ≡ t.before.store =
-      ap (λ (ls : List Layer). view ls space) (sym viewed) ∙ sym ((s.fits t.before (place_member levels space place h.0 h.1 t.before t.read)).seen ∙ ap (view (shown_all levels)) name) in
+      ap (λ (ls : List Layer). view ls space) (sym viewed) ∙ sym ((s.fits t.before (place_member levels space place h.0 h.1 t.before t.read)).seen t.tells.kept ∙ ap (view (shown_all levels)) name) in
       ap (λ (us : List Tell). is_consistent (us ++ ts)) own ∙ t.tells.consistent
 
   settled : (t : ToldThrough place home ts levels news) → Settles space (in_layer space (telling ts) value) (shown_all news)
@@ -84,21 +83,17 @@ module _ (levels news now : List Level) (value : List Layer) (space : List ℕ) 
     pub raise_shows : (x : Ident) → IsQuiet (raised_by x) l m → shown_all (slice_set news place m) ≡ ending space (raised_by x) value
     raise_shows x q = quiet_shows news now (shown_all news) seen refl gone_sound space place h l m e (raised_by x) q ∙ ap (in_layer space (raised_by x)) news_shown
 
-    failure : (tells : List Tell) → tells ≡ seen_above (shown_all levels) space → is_consistent tells ≡ true → IsFailure tells l m → Edited news (slice_set news place m) space failed
-    failure tells sees consistent f =
+    failure : m ≡ fallen l → Edited news (slice_set news place m) space failed
+    failure f =
         let found = subst (λ (ls : List Level). PlaceIn ls space place) seen h in
-        fail_edit news space place found.0 found.1 l m e gone_sound (ap (λ (ls : List Level). has_below (shown_all ls) space) gone ∙ none_left levels space s) tells f
-        (sees ∙ sym (left_above levels space s space (not_own space)) ∙ ap (λ (ls : List Layer). seen_above ls space) (sym (ap shown_all gone ∙ left_shown levels space s)))
-        consistent
-      where
-        not_own : (t : List ℕ) → is_properly_below t t ≡ false
-        not_own t = ap₂ (λ (a b : Bool). a && not b) (below_itself t) (names_equal t)
+        subst (λ (n : Level). Edited news (slice_set news place n) space failed) (sym f)
+        (fail_edit news space place found.0 found.1 l e gone_sound (ap (λ (ls : List Level). has_below (shown_all ls) space) gone ∙ none_left levels space s))
 
-    pub fail_sound : (tells : List Tell) → tells ≡ seen_above (shown_all levels) space → is_consistent tells ≡ true → IsFailure tells l m → IsSound (slice_set news place m)
-    fail_sound tells sees consistent f = (failure tells sees consistent f).sound
+    pub fail_sound : m ≡ fallen l → IsSound (slice_set news place m)
+    fail_sound f = (failure f).sound
 
-    pub fail_shows : (tells : List Tell) → tells ≡ seen_above (shown_all levels) space → is_consistent tells ≡ true → IsFailure tells l m → shown_all (slice_set news place m) ≡ ending space failed value
-    fail_shows tells sees consistent f = (failure tells sees consistent f).shows ∙ ap (in_layer space failed) news_shown
+    pub fail_shows : m ≡ fallen l → shown_all (slice_set news place m) ≡ ending space failed value
+    fail_shows f = (failure f).shows ∙ ap (in_layer space failed) news_shown
 
 -- A new space among the others
 
@@ -159,7 +154,7 @@ silent_at levels now value seen viewed s place within x e r f k at =
 -- A new space
 
 module _ (levels now : List Level) (value : List Layer) (seen : now ≡ levels) (viewed : shown_all levels ≡ value) (s : IsSound levels) (parent : List ℕ) (place : ℕ) (h : PlaceIn now parent place)
-    (l : Level) (e : l ≡ slice_index_or levels place l) (procedure : Ident) (m : Level) (child : IsChild (next_child (shown l)) procedure l.store m) (news now2 : List Level) (added : IsAdded levels news m)
+    (l : Level) (e : l ≡ slice_index_or levels place l) (procedure : Ident) (m : Level) (child : IsChild (next_child (shown l)) procedure l.store m) (kept : l.bare ≡ false) (news now2 : List Level) (added : IsAdded levels news m)
     (seen2 : now2 ≡ news) where
   at_parent : PlaceIn levels parent place
   at_parent = subst (λ (ls : List Level). PlaceIn ls parent place) seen h
@@ -180,9 +175,9 @@ module _ (levels now : List Level) (value : List Layer) (seen : now ≡ levels) 
 
     pub created_sound : IsSound (slice_set news place2 (record l2 { numbers = record l2.numbers { child = count } }))
     created_sound =
-        create_sound levels s parent place at_parent.0 at_parent.1 l e procedure m child news added place2 again.0 again.1 l2 e2 (record l2 { numbers = record l2.numbers { child = count } }) count counts refl
+        create_sound levels s parent place at_parent.0 at_parent.1 l e procedure m child kept news added place2 again.0 again.1 l2 e2 (record l2 { numbers = record l2.numbers { child = count } }) count counts refl
 
     pub created_shows : shown_all (slice_set news place2 (record l2 { numbers = record l2.numbers { child = count } })) ≡ created parent procedure value
     created_shows =
-        create_shows levels s parent place at_parent.0 at_parent.1 l e procedure m child news added place2 again.0 again.1 l2 e2 (record l2 { numbers = record l2.numbers { child = count } }) count counts refl
+        create_shows levels s parent place at_parent.0 at_parent.1 l e procedure m child kept news added place2 again.0 again.1 l2 e2 (record l2 { numbers = record l2.numbers { child = count } }) count counts refl
         ∙ ap (created parent procedure) viewed

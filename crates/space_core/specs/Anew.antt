@@ -9,7 +9,7 @@ use Rattle.oz_semantics.specs.declared.configuration.Layer.{Layer}
 use Rattle.view_laws.specs.Trees.{IsTree}
 use Rattle.view_laws.specs.Spaceless.{gives_space}
 use Rattle.space_core.specs.Fates.{AreFates, with_fates}
-use Rattle.space_core.specs.Shown.{shown, shown_all, is_home, Fits, IsQuiet}
+use Rattle.space_core.specs.Shown.{shown, shown_all, is_home, IsBare, Fits, IsQuiet}
 use Rattle.space_core.specs.Telling.{IsToldMore}
 use Rattle.space_core.specs.declared.fates.Fate.{Fate}
 use Rattle.space_core.specs.declared.level.Level.{Level}
@@ -20,6 +20,7 @@ pub record IsLoose (space : List ℕ) (levels : List Level) : Type 0 where
   pub fits : (l : Level) → Contains levels l → is_properly_below space l.space ≡ false → Fits (shown_all levels) l
   pub home : (l : Level) → Contains levels l → l.traced ≡ true → is_properly_below space l.space ≡ true → list_all (is_home (shown_all levels) l.space) (flat_map named_by (shown l).tells) ≡ true
   pub known : (l : Level) → Contains levels l → l.knows_space ≡ false → is_properly_below space l.space ≡ true → list_any gives_space (shown l).tells ≡ false
+  pub bare : (l : Level) → Contains levels l → l.bare ≡ true → is_properly_below space l.space ≡ true → IsBare l
 
 -- each of them has its fate by what it sees then
 pub record IsAnew (space : List ℕ) (old new : List Level) : Type 0 where
@@ -45,6 +46,7 @@ pub record ClashesAlone (change : Layer → Layer) (place : ℕ) (ts : List Tell
   pub changed : Level
   pub read : before ≡ slice_index_or old place before
   pub quiet : IsQuiet change before changed
+  pub kept : changed.bare ≡ false
   pub clash : is_consistent (changed.store ++ ts) ≡ false
 
 abbrev pub IsToldAlone : (Layer → Layer) → ℕ → List Tell → List Level → List Level → Bool → Type 0

@@ -10,9 +10,9 @@ use Rattle.oz_semantics.specs.declared.configuration.Layer.{Layer}
 use Rattle.view_laws.specs.Trees.{IsTree}
 use Rattle.view_laws.specs.Spaceless.{gives_space}
 use Rattle.space_core.specs.Ending.{fallen}
-use Rattle.space_core.specs.Shown.{shown, shown_all, is_home, Traces, Fits}
+use Rattle.space_core.specs.Shown.{shown, shown_all, is_home, Traces, IsBare, Fits}
 use Rattle.space_core.specs.declared.fates.Fate.{Fate}
-use Rattle.space_core.specs.declared.fates.Fate.TheVariants.{Stays, Gone, Fails, Sees}
+use Rattle.space_core.specs.declared.fates.Fate.TheVariants.{Stays, Gone, Fails, Sees, Bare}
 use Rattle.space_core.specs.declared.fates.Seen.{Seen}
 use Rattle.space_core.specs.declared.level.Level.{Level}
 
@@ -31,25 +31,26 @@ abbrev pub IsSeenUnder : List Layer → List Tell → Level → Option Seen → 
 IsSeenUnder layers above l (Some seen) = IsSeen layers above l seen
 IsSeenUnder layers above l None = is_consistent (above ++ (shown l).tells) ≡ false
 
--- then a space that may fail does, over what its parent sees
-pub record IsFailing (above : List Tell) (l : Level) (kept : List Tell) : Type 0 where
-  pub store : kept ≡ above
+-- then a space that may fail does
+pub record IsFailing (above : List Tell) (l : Level) : Type 0 where
   pub may : may_fail l.status ≡ true
   pub clash : is_consistent (above ++ (shown l).tells) ≡ false
 
 -- what becomes of a space under a parent that sees this
 abbrev pub IsUnder : List Layer → List Tell → Level → Fate → Type 0
-IsUnder layers above l (Sees seen) = IsSeen layers above l seen
-IsUnder layers above l (Fails store) = IsFailing above l store
+IsUnder layers above l (Sees seen) = (l.bare ≡ false) × IsSeen layers above l seen
+IsUnder layers above l Fails = IsFailing above l
+IsUnder layers above l Bare = l.bare ≡ true
 IsUnder layers above l Gone = ⊥
 IsUnder layers above l Stays = ⊥
 
--- and by what becomes of the parent
+-- and by what becomes of the parent, which is not bare
 abbrev pub IsAfter : List Layer → Level → Fate → Level → Fate → Type 0
-IsAfter layers parent Stays l fate = IsUnder layers parent.store l fate
+IsAfter layers parent Stays l fate = (parent.bare ≡ false) × IsUnder layers parent.store l fate
 IsAfter layers parent (Sees seen) l fate = IsUnder layers seen.store l fate
-IsAfter layers parent (Fails store) l fate = fate ≡ Gone
+IsAfter layers parent Fails l fate = fate ≡ Gone
 IsAfter layers parent Gone l fate = fate ≡ Gone
+IsAfter layers parent Bare l fate = ⊥
 
 -- the space at a place is the parent of a space
 pub record IsParentAt (levels : List Level) (place : ℕ) (space : List ℕ) : Type 0 where
@@ -86,33 +87,40 @@ pub record IsGone (layers : List Layer) (l : Level) : Type 0 where
   pub parent : falls layers (parent_of l.space) ≡ true
 
 -- it fails itself, and no space above it does
-pub record IsFallen (layers : List Layer) (l : Level) (kept : List Tell) : Type 0 where
+pub record IsFallen (layers : List Layer) (l : Level) : Type 0 where
   pub parent : falls layers (parent_of l.space) ≡ false
   pub itself : Contains (inconsistent_spaces layers) l.space
-  pub store : kept ≡ view layers (parent_of l.space)
-  pub consistent : is_consistent kept ≡ true
+  pub consistent : is_consistent (view layers (parent_of l.space)) ≡ true
 
 -- it stands, and sees this
 pub record IsStanding (layers : List Layer) (l : Level) (seen : Seen) : Type 0 where
   pub itself : falls layers l.space ≡ false
+  pub kept : l.bare ≡ false
   pub tells : (shown (seeing seen l)).tells ≡ (shown l).tells
   pub fits : Fits layers (seeing seen l)
+
+-- it stands as it is
+pub record IsLeftBare (layers : List Layer) (l : Level) : Type 0 where
+  pub itself : falls layers l.space ≡ false
+  pub fits : Fits layers l
 
 -- What becomes of a space is right by the layers in which this one was told more
 abbrev pub IsFate : List ℕ → List Layer → Level → Fate → Type 0
 IsFate space layers l Stays = is_properly_below space l.space ≡ false
 IsFate space layers l Gone = (is_properly_below space l.space ≡ true) × IsGone layers l
-IsFate space layers l (Fails store) = (is_properly_below space l.space ≡ true) × IsFallen layers l store
+IsFate space layers l Fails = (is_properly_below space l.space ≡ true) × IsFallen layers l
 IsFate space layers l (Sees seen) = (is_properly_below space l.space ≡ true) × IsStanding layers l seen
+IsFate space layers l Bare = (is_properly_below space l.space ≡ true) × IsLeftBare layers l
 
 -- The space was told more, and what is kept of those below it is as it was before
 pub record IsStale (space : List ℕ) (levels : List Level) : Type 0 where
   pub tree : IsTree (shown_all levels)
   pub below : (t : List ℕ) → Contains (inconsistent_spaces (shown_all levels)) t → is_properly_below space t ≡ true
-  pub seen : (l : Level) → Contains levels l → is_properly_below space l.space ≡ false → l.store ≡ view (shown_all levels) l.space
-  pub consistent : (l : Level) → Contains levels l → is_properly_below space l.space ≡ false → is_consistent l.store ≡ true
+  pub seen : (l : Level) → Contains levels l → is_properly_below space l.space ≡ false → l.bare ≡ false → l.store ≡ view (shown_all levels) l.space
+  pub consistent : (l : Level) → Contains levels l → is_properly_below space l.space ≡ false → is_consistent (view (shown_all levels) l.space) ≡ true
   pub home : (l : Level) → Contains levels l → l.traced ≡ true → is_properly_below space l.space ≡ true → list_all (is_home (shown_all levels) l.space) (flat_map named_by (shown l).tells) ≡ true
   pub known : (l : Level) → Contains levels l → l.knows_space ≡ false → is_properly_below space l.space ≡ true → list_any gives_space (shown l).tells ≡ false
+  pub bare : (l : Level) → Contains levels l → l.bare ≡ true → is_properly_below space l.space ≡ true → IsBare l
 
 -- what becomes of each of these spaces is right
 abbrev pub EachFate : List ℕ → List Level → List Fate → List Layer → Type 0
@@ -128,8 +136,9 @@ pub record AreFates (space : List ℕ) (levels : List Level) (fates : List Fate)
 abbrev pub left_as : Fate → Level → List Level
 left_as Stays l = l ∷ []
 left_as Gone l = []
-left_as (Fails store) l = fallen store l ∷ []
+left_as Fails l = fallen l ∷ []
 left_as (Sees seen) l = seeing seen l ∷ []
+left_as Bare l = l ∷ []
 
 -- where the space at a place has its fate
 abbrev pub with_fate : ℕ → Fate → List Level → List Level

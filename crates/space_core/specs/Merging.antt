@@ -1,5 +1,5 @@
 -- A space that becomes a part of its parent.
-use Rattle.std.specs.Prelude.{ℕ, ◌≡◌, ◌+◌, ◌-◌, false, ◌++◌, map, drop}
+use Rattle.std.specs.Prelude.{ℕ, ◌≡◌, ◌+◌, ◌-◌, true, [], ◌++◌, map, drop}
 use Rattle.oz_semantics.specs.Configurations.{with_frames}
 use Rattle.oz_semantics.specs.Renamings as meant
 use Rattle.oz_semantics.specs.Renamings.{renamed_thread, renamed_layer}
@@ -26,7 +26,9 @@ with_joined r other own =
 abbrev pub joining_by : meant.Renaming → Layer → ℕ → Layer → Layer
 joining_by r other number l = joined (renamed_layer r other) (with_frames number (λ stack. drop 1 stack) l)
 
--- of the space its name is left
+-- of the space its name is left, and nothing is kept of what it sees
 pub record IsMergedAway (old new : Level) : Type 0 where
   pub shows : shown new ≡ merged_away (shown old)
-  pub traced : new.traced ≡ false
+  pub store : new.store ≡ []
+  pub touched : new.touched ≡ []
+  pub bare : new.bare ≡ true

@@ -69,12 +69,19 @@ pub record Traces (space : List ℕ) (before more : List Tell) (noted : List Ide
   pub touches : Touches before more all
   pub others : noted ≡ filter (is_other space) all
 
+-- Nothing is kept of what a space sees: it is not the top, and was told nothing
+pub record IsBare (l : Level) : Type 0 where
+  pub inner : is_top l.space ≡ false
+  pub store : l.store ≡ []
+  pub touched : l.touched ≡ []
+
 -- What is kept of a space fits the layers
 pub record Fits (layers : List Layer) (l : Level) : Type 0 where
-  -- the store is what the space sees, after what its parent sees
-  pub seen : l.store ≡ view layers l.space
-  pub from : l.told_from ≡ length (seen_above layers l.space)
-  pub consistent : is_consistent l.store ≡ true
+  -- the store is what the space sees, after what its parent sees, or the space is bare
+  pub seen : l.bare ≡ false → l.store ≡ view layers l.space
+  pub from : l.bare ≡ false → l.told_from ≡ length (seen_above layers l.space)
+  pub bare : l.bare ≡ true → IsBare l
+  pub consistent : is_consistent (view layers l.space) ≡ true
   -- where it is traced, all that it was told names variables of the space or of those above it
   pub home : l.traced ≡ true → list_all (is_home layers l.space) (flat_map named_by (shown l).tells) ≡ true
   -- and of what it touches, the variables of other spaces were noted
@@ -96,6 +103,7 @@ pub record IsQuiet (change : Layer → Layer) (old new : Level) : Type 0 where
   pub touched : new.touched ≡ old.touched
   pub traced : new.traced ≡ old.traced
   pub knows : new.knows_space ≡ old.knows_space
+  pub bare : new.bare ≡ old.bare
   pub variables : old.numbers.variable ≤ new.numbers.variable
   pub children : old.numbers.child ≤ new.numbers.child
 

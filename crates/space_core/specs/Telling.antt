@@ -40,6 +40,7 @@ pub record IsMarked (home : Bool) (ts : List Tell) (noted : List Ident) (old new
   pub traced : new.traced ≡ true → (old.traced ≡ true) × (home ≡ true)
   pub notes : new.traced ≡ true → is_top old.space ≡ false → new.touched ≡ old.touched ++ filter (is_other old.space) noted
   pub knows : new.knows_space ≡ (old.knows_space || list_any gives_space ts)
+  pub bare : new.bare ≡ old.bare
 
 -- the store was told this; home says whether the variables are those of the space or of spaces above it
 pub record IsToldMore (home : Bool) (ts : List Tell) (old new : Level) : Type 0 where
@@ -55,11 +56,14 @@ pub record IsToldMore (home : Bool) (ts : List Tell) (old new : Level) : Type 0 
   pub traced : new.traced ≡ true → (old.traced ≡ true) × (home ≡ true)
   pub notes : new.traced ≡ true → is_top old.space ≡ false → IsNoted ts old new
   pub knows : new.knows_space ≡ (old.knows_space || list_any gives_space ts)
+  -- it is not bare
+  pub kept : old.bare ≡ false
+  pub bare : new.bare ≡ old.bare
 
 -- it was told this; or that is inconsistent with what the space sees
 abbrev pub IsLevelTold : Bool → List Tell → Level → Level → Bool → Type 0
 IsLevelTold home ts old new true = IsToldMore home ts old new
-IsLevelTold home ts old new false = (new ≡ old) × (is_consistent (old.store ++ ts) ≡ false)
+IsLevelTold home ts old new false = (new ≡ old) × (is_consistent (old.store ++ ts) ≡ false) × (old.bare ≡ false)
 
 -- no other space is below the one at a place, which became this
 pub record IsAlone (place : ℕ) (before told : Level) (old new : List Level) : Type 0 where
@@ -112,6 +116,7 @@ pub record ToldAt (place : ℕ) (ts : List Tell) (given : Given) (old new : List
 pub record ClashesAt (place : ℕ) (ts : List Tell) (old new : List Level) : Type 0 where
   pub before : Level
   pub read : before ≡ slice_index_or old place before
+  pub kept : before.bare ≡ false
   pub clash : is_consistent (before.store ++ ts) ≡ false
   pub left : new ≡ old
 

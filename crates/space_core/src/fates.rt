@@ -5,6 +5,7 @@ ghost use Rattle.oz_semantics.specs.Store.{named_by};
 ghost use Rattle.oz_semantics.specs.Settling.{may_fail};
 ghost use Rattle.space_core.specs.Shown.{shown, shown_all, is_home};
 ghost use Rattle.space_core.specs.Fates.{IsSeenUnder, IsUnder, IsAfter, IsParentAt, IsDecided, IsChosen, AreFates};
+ghost use Rattle.space_core.specs.declared.fates.Fate.TheVariants.{Stays};
 
 use crate::homes::{all_home, is_properly_above};
 use crate::level::Level;
@@ -32,10 +33,12 @@ pub enum Fate {
     Stays,
     /// A space above it fails, so that it is gone.
     Gone,
-    /// It fails, since what it sees is inconsistent. Its parent sees this.
-    Fails(Store),
+    /// It fails, since what it sees is inconsistent.
+    Fails,
     /// It sees this from now on.
     Sees(Seen),
+    /// Nothing is kept of what it sees, so that it stays as it is.
+    Bare,
 }
 
 /// What a store was told from a place on.
@@ -99,14 +102,14 @@ fn may_fail(status: &Status) -> bool
 /// What becomes of a space that sees what is inconsistent, under a parent that sees this. It refuses where the space has failed
 /// or become a part of another one before, and was told something since then: it would be left with what is inconsistent. No thread is
 /// left in it that could tell it.
-fn fall(alloc: Global, levels: &[Level], above: &Store, level: &Level) -> Result<Fate, AllocError>
+fn fall(levels: &[Level], above: &Store, level: &Level) -> Result<Fate, AllocError>
     requires { IsSeenUnder (shown_all levels.now) above.now level.now None }
     ensures { IfOk result (IsUnder (shown_all levels.now) above.now level.now) }
 {
     if !may_fail(&level.status) {
         return Err(AllocError);
     }
-    Ok(Fate::Fails(above.copied(alloc)?))
+    Ok(Fate::Fails)
 }
 
 /// What becomes of a space under a parent that sees this.
@@ -118,13 +121,31 @@ fn fate_under(
 ) -> Result<Fate, AllocError>
     ensures { IfOk result (IsUnder (shown_all levels.now) above.now level.now) }
 {
+    if level.bare {
+        return Ok(Fate::Bare);
+    }
     match seen_under(alloc, levels, above, level)? {
-        None => fall(alloc, levels, above, level),
+        None => fall(levels, above, level),
         Some(seen) => Ok(Fate::Sees(seen)),
     }
 }
 
-/// What becomes of a space, by what becomes of its parent.
+/// What becomes of a space under a parent that stays as it is. It refuses where the parent is bare.
+fn fate_beside(
+    alloc: Global,
+    levels: &[Level],
+    parent: &Level,
+    level: &Level,
+) -> Result<Fate, AllocError>
+    ensures { IfOk result (IsAfter (shown_all levels.now) parent.now Stays level.now) }
+{
+    if parent.bare {
+        return Err(AllocError);
+    }
+    fate_under(alloc, levels, &parent.store, level)
+}
+
+/// What becomes of a space, by what becomes of its parent. It refuses where the parent is bare.
 fn fate_after(
     alloc: Global,
     levels: &[Level],
@@ -135,9 +156,10 @@ fn fate_after(
     ensures { IfOk result (IsAfter (shown_all levels.now) parent.now above.now level.now) }
 {
     match above {
-        Fate::Stays => fate_under(alloc, levels, &parent.store, level),
+        Fate::Stays => fate_beside(alloc, levels, parent, level),
         Fate::Sees(seen) => fate_under(alloc, levels, &seen.store, level),
-        Fate::Fails(_) | Fate::Gone => Ok(Fate::Gone),
+        Fate::Fails | Fate::Gone => Ok(Fate::Gone),
+        Fate::Bare => Err(AllocError),
     }
 }
 
@@ -202,7 +224,8 @@ fn next_fate(
 
 /// What becomes of each space, where the one at a place was told more, and those below it still see what they saw.
 ///
-/// It takes the time and memory of what the spaces below were told themselves, and of a list of all spaces.
+/// It takes the time and memory of what the spaces below were told themselves, and of a list of all spaces. Of a bare space no store is
+/// made. It refuses where a space is below a bare one.
 pub fn fates_below(
     alloc: Global,
     levels: &[Level],

@@ -24,7 +24,7 @@ pub struct Numbers {
 pub struct Level {
     pub space: SpaceName,
     pub status: Status,
-    /// What the space sees.
+    /// What the space sees. Empty where the space is bare.
     pub store: Store,
     /// The place in the store from which on the space was told itself what stands there. What stands before is what its parent sees.
     pub told_from: u64,
@@ -42,6 +42,8 @@ pub struct Level {
     pub traced: bool,
     /// Whether it was told of a space as a value. Where it is not set, it was not.
     pub knows_space: bool,
+    /// It has ended, was told nothing, and nothing is kept of what it sees, which is what its parent sees. The top is never so.
+    pub bare: bool,
 }
 
 impl Level {
@@ -73,6 +75,7 @@ impl Copies for Level {
             numbers: self.numbers,
             traced: self.traced,
             knows_space: self.knows_space,
+            bare: self.bare,
         })
     }
 }
@@ -98,5 +101,6 @@ pub fn top_level(alloc: Global) -> Level
         },
         traced: true,
         knows_space: false,
+        bare: false,
     }
 }

@@ -20,7 +20,6 @@ ghost use Rattle.view_laws.specs.Spaceless.{has_spaces};
 ghost use Rattle.view_laws.specs.Trees.{IsTree};
 ghost use Rattle.space_core.specs.Advances.{given_out, IsAdvanced, IsCaught, IsRaised};
 ghost use Rattle.space_core.specs.Firing.{firing, at_place};
-ghost use Rattle.space_core.specs.Shown.{seen_above};
 
 use crate::advances::{tell_at, tell_under};
 use crate::copying::{count_told, next_name};
@@ -33,9 +32,10 @@ use crate::merging::{join_told, merge_away, merge_tells, merging};
 use crate::plain::{are_plain, has_spaces};
 use crate::remaking::{remake, tell_through};
 use crate::renaming::add_all_renamed;
+use crate::sights::store_of;
 use crate::spaces::space_tell;
 use crate::stacks::Landing;
-use crate::tree::{self, add_level, child_count, child_of, drop_below, is_child, store_above};
+use crate::tree::{self, add_level, child_count, child_of, drop_below, is_child};
 use crate::{edits, silence};
 use oz_base::{Copies, Ident, SpaceName, copies_of};
 use oz_language::Identifier;
@@ -154,12 +154,12 @@ impl Levels {
         self.levels[place].objects.end(port)
     }
 
-    /// What the space sees.
+    /// What the space sees. It takes a time that grows with the number of spaces above it where the space has failed or was merged.
     pub fn store_at(&self, place: usize) -> &Store
         requires { place < length self.now }
         ensures { OfLayer self.now place (λ l. result.now ≡ view self.now l.space) }
     {
-        &self.levels[place].store
+        store_of(self.levels.as_slice(), &self.levels[place])
     }
 
     /// What is on top of a thread's stack.
@@ -277,8 +277,8 @@ impl Levels {
     }
 
     /// Tells a space that is there, and fails each space below it that then sees what is inconsistent. False exactly where it is
-    /// inconsistent with what the space sees: then nothing changes. It refuses for want of memory, and where a space below had ended, was
-    /// told something since, and would see what is inconsistent: then nothing changes either.
+    /// inconsistent with what the space sees: then nothing changes. It refuses for want of memory, and where the space has failed or was
+    /// merged: then nothing changes either.
     pub fn tell(
         &mut self,
         alloc: Global,
@@ -308,7 +308,8 @@ impl Levels {
         tree::raise(alloc, &mut self.levels[place], exception);
     }
 
-    /// A new child of a space that is there, in which a thread applies the procedure to the root variable. The child's name.
+    /// A new child of a space that is there, in which a thread applies the procedure to the root variable. The child's name. It refuses
+    /// for want of memory, where the space gave out 2^64 - 1 children, and where it has failed or was merged.
     pub fn create(
         &mut self,
         alloc: Global,
@@ -324,6 +325,9 @@ impl Levels {
             return Err(AllocError);
         };
         let above = &self.levels[place];
+        if above.bare {
+            return Err(AllocError);
+        }
         let count = child_count(above)?;
         let level = child_of(alloc, above, procedure)?;
         let child = level.space.copied(alloc)?;
@@ -462,7 +466,7 @@ impl Levels {
     /// The statement on top of a thread's stack is taken off, its space is told this and gives out what comes with it, its cells and
     /// ports change by that, and each space below fails that then sees what is inconsistent. False exactly where it is inconsistent with
     /// what the space sees: then nothing changes. It refuses for want of memory, where the space gave out 2^64 - 1 of a kind, and as `tell`
-    /// does for a space below that had ended.
+    /// does a space that has ended.
     pub fn tell_by(
         &mut self,
         alloc: Global,
@@ -620,25 +624,16 @@ impl Levels {
         Ok(true)
     }
 
-    /// A store of what the parent of a space sees. The top has none. It refuses for want of memory, or where there is no parent.
-    pub fn store_above(&self, alloc: Global, space: &SpaceName) -> Result<Store, AllocError>
-        ensures { IfOk result (λ store. store ≡ seen_above self.now space.now) }
-    {
-        store_above(alloc, self.levels.as_slice(), space)
-    }
-
-    /// A space fails, and all below it is gone. It needs a store of what the space's parent sees, and takes no memory.
-    pub fn fail_over(&mut self, space: &SpaceName, above: Store)
-        requires { above ≡ seen_above self.old space.now }
+    /// A space fails, and all below it is gone. It takes no memory.
+    pub fn fail(&mut self, space: &SpaceName)
         ensures { self.new ≡ ending space.now failed self.old }
     {
-        above.consistent();
         let alloc = *self.levels.allocator();
         drop_below(&mut self.levels, space);
         let Some(place) = level_place(self.levels.as_slice(), space) else {
             return;
         };
-        tree::fail(alloc, &mut self.levels[place], above);
+        tree::fail(alloc, &mut self.levels[place]);
     }
 
     /// The layers are those of a tree of spaces. Nothing: it holds a law.

@@ -17,6 +17,7 @@ mod merging;
 mod plain;
 mod remaking;
 mod renaming;
+mod sights;
 mod silence;
 mod spaces;
 mod stacks;

@@ -185,7 +185,7 @@ pub fn join_told(
     Ok(told)
 }
 
-/// Of the space its name is left. What it sees is still to be made.
+/// Of the space its name is left, and nothing is kept of what it sees.
 pub fn merge_away(alloc: Global, level: &mut Level)
     ensures { IsMergedAway level.old level.new }
 {
@@ -202,6 +202,7 @@ pub fn merge_away(alloc: Global, level: &mut Level)
         name: 1,
         child: 1,
     };
-    level.traced = false;
+    level.traced = true;
     level.knows_space = false;
+    level.bare = true;
 }

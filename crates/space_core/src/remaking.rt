@@ -32,11 +32,11 @@ fn meet(alloc: Global, levels: &mut Vec<Level>, place: usize, fate: Fate)
     ensures { levels.new.items ≡ with_fate place fate levels.old.items }
 {
     match fate {
-        Fate::Stays => {}
+        Fate::Stays | Fate::Bare => {}
         Fate::Gone => {
             let _gone = levels.remove(place);
         }
-        Fate::Fails(above) => fail(alloc, &mut levels[place], above),
+        Fate::Fails => fail(alloc, &mut levels[place]),
         Fate::Sees(seen) => see(&mut levels[place], seen),
     }
 }
@@ -52,8 +52,8 @@ fn meet_all(alloc: Global, levels: &mut Vec<Level>, mut fates: Vec<Fate>)
     }
 }
 
-/// The stores of all spaces below the one at a place are made anew, by what the space itself sees and by what they were told. Those that
-/// then see what is inconsistent fail. Where it is refused, nothing changes.
+/// The stores of all spaces below the one at a place are made anew, by what the space itself sees and by what they were told, but for
+/// those that are bare. Those that then see what is inconsistent fail. Where it is refused, nothing changes.
 pub fn remake(
     alloc: Global,
     levels: &mut Vec<Level>,
@@ -110,7 +110,11 @@ fn tell_all(
     ensures told { IfOk result (IsToldThrough place home tells.now levels.old.items levels.new.items) }
     ensures err { OnErr result (levels.new.items ≡ levels.old.items) }
 {
-    let mut store = levels[place].store.copied(alloc)?;
+    let level = &levels[place];
+    if level.bare {
+        return Err(AllocError);
+    }
+    let mut store = level.store.copied(alloc)?;
     let mut noted = Vec::new(alloc);
     if !store.tell(alloc, tells, &mut noted)? {
         return Ok(false);

@@ -115,6 +115,7 @@ fn renamed_level(alloc: Global, by: &Renaming, level: &Level) -> Result<Level, A
         numbers: level.numbers,
         traced: false,
         knows_space: level.knows_space,
+        bare: level.bare,
     })
 }
 

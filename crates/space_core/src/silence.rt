@@ -13,6 +13,7 @@ ghost use Rattle.space_core.specs.declared.level.Level.{Level};
 
 use crate::homes::is_outer;
 use crate::level::Level;
+use crate::sights::store_of;
 use crate::tree::parent_place;
 use oz_base::{Ident, SpaceName, same_space};
 use oz_semantics::{Tell, Value};
@@ -313,17 +314,12 @@ pub fn is_silent(levels: &[Level], level: &Level) -> bool
     let Some(parent) = parent_place(levels, &level.space) else {
         return true;
     };
-    let above = &levels[parent].store;
+    let own = store_of(levels, level);
+    let above = store_of(levels, &levels[parent]);
     if all_traced(levels, &level.space) {
-        return all_alike(
-            levels,
-            &level.space,
-            &level.store,
-            above,
-            level.touched.as_slice(),
-        );
+        return all_alike(levels, &level.space, own, above, level.touched.as_slice());
     }
-    named_alike(levels, &level.space, &level.store, above)
+    named_alike(levels, &level.space, own, above)
 }
 
 /// Whether a variable, as the space sees it, has no value and is equal to a variable of a space above another.
@@ -334,23 +330,18 @@ pub fn is_held(levels: &[Level], level: &Level, space: &SpaceName, variable: &Id
     if space.is_top() {
         return false;
     }
-    if level.store.is_determined(variable) {
+    let store = store_of(levels, level);
+    if store.is_determined(variable) {
         return false;
     }
     if is_outer(levels, space, variable) {
         return true;
     }
     if !same_space(&level.space, space) {
-        return named_holds(levels, space, &level.store, variable);
+        return named_holds(levels, space, store, variable);
     }
     if !all_traced(levels, space) {
-        return named_holds(levels, space, &level.store, variable);
+        return named_holds(levels, space, store, variable);
     }
-    any_holds(
-        levels,
-        space,
-        &level.store,
-        variable,
-        level.touched.as_slice(),
-    )
+    any_holds(levels, space, store, variable, level.touched.as_slice())
 }

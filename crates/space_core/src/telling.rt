@@ -56,7 +56,8 @@ pub fn note(level: &mut Level, home: bool, tells: &[Tell], mut noted: Vec<Ident>
 /// Tells a space more, of which it is known whether all variables are those of the space and of spaces above it. False exactly where
 /// it is inconsistent with what the space sees: then nothing changes.
 ///
-/// Where there is no memory to note what is touched, the space is not traced any more.
+/// It refuses for want of memory, and a space that is bare. Where there is no memory to note what is touched, the space is not traced any
+/// more.
 pub fn tell(
     alloc: Global,
     level: &mut Level,
@@ -66,6 +67,9 @@ pub fn tell(
     ensures told { IfOk result (IsLevelTold home tells.now level.old level.new) }
     ensures err { OnErr result (level.new ≡ level.old) }
 {
+    if level.bare {
+        return Err(AllocError);
+    }
     let mut noted = Vec::new(alloc);
     if !level.store.tell(alloc, tells, &mut noted)? {
         return Ok(false);

@@ -182,8 +182,7 @@ fn a_failed_space_has_no_cells(rt: HostRuntime) -> Result<(), Fail> {
     let alloc = rt.alloc();
     let top = SpaceName::top();
     let mut levels = with_objects(alloc)?;
-    let above = levels.store_above(alloc, &top)?;
-    levels.fail_over(&top, above);
+    levels.fail(&top);
     assert_eq!(rt; levels.len(), 1);
     assert_eq!(rt; levels.cell_count_at(0), 0);
     assert_eq!(rt; levels.port_count_at(0), 0);
@@ -305,6 +304,26 @@ fn spaces_below_see_what_a_space_is_told(rt: HostRuntime) -> Result<(), Fail> {
     Ok(())
 }
 
+#[test]
+fn a_space_that_has_failed_sees_what_its_parent_sees(rt: HostRuntime) -> Result<(), Fail> {
+    let alloc = rt.alloc();
+    let top = SpaceName::top();
+    let mut levels = Levels::new(alloc)?;
+    let child = new_child(alloc, &mut levels, &top)?;
+    let grandchild = new_child(alloc, &mut levels, &child)?;
+    levels.fail(&grandchild);
+    assert!(rt; tell_space(alloc, &mut levels, &child, &[is_integer(1, 1)])?);
+    assert!(rt; tell_space(alloc, &mut levels, &top, &[is_integer(2, 1)])?);
+    assert!(rt; has_failed(&levels, &grandchild));
+    assert!(rt; sees(&levels, &grandchild, 1) && sees(&levels, &grandchild, 2));
+    assert!(rt; tell_space(alloc, &mut levels, &grandchild, &[is_integer(3, 1)]).is_err());
+    assert!(rt; new_child(alloc, &mut levels, &grandchild).is_err());
+    assert!(rt; tell_space(alloc, &mut levels, &top, &[is_integer(1, 2)])?);
+    assert!(rt; has_failed(&levels, &child));
+    assert_eq!(rt; levels.len(), 2);
+    Ok(())
+}
+
 /// A variable of the top is a space.
 fn is_space(variable: u32, space: SpaceName) -> Tell {
     Tell::Is {
@@ -406,6 +425,8 @@ fn a_merged_child_tells_its_parent(rt: HostRuntime) -> Result<(), Fail> {
     assert!(rt; take_child(alloc, &mut levels, &child, 5)?);
     let moved = top.child(alloc, 2)?;
     assert!(rt; sees(&levels, &top, 3) && has_merged(&levels, &child));
+    assert!(rt; tell_space(alloc, &mut levels, &top, &[is_integer(6, 1)])?);
+    assert!(rt; sees(&levels, &child, 6) && has_merged(&levels, &child));
     assert!(rt; sees(&levels, &moved, 3) && sees(&levels, &moved, 4));
     assert_eq!(rt; levels.len(), 3);
     Ok(())

@@ -5,7 +5,7 @@ ghost use Rattle.oz_base.specs.Lists.{list_eq};
 ghost use Rattle.oz_semantics.specs.Names.{is_properly_below, is_child_of, parent_of, space_lt, root_of};
 ghost use Rattle.oz_semantics.specs.Configurations.{raised_by, applying, next_child};
 ghost use Rattle.oz_semantics.specs.declared.configuration.Layer.{Layer};
-ghost use Rattle.space_core.specs.Ending.{IsAbove, IsFailure, IsChild, IsAdded, fallen};
+ghost use Rattle.space_core.specs.Ending.{IsChild, IsAdded, fallen};
 ghost use Rattle.space_core.specs.Places.{IsAbsent, IsFirst};
 ghost use Rattle.space_core.specs.Shown.{shown, shown_all, is_named, IsQuiet};
 ghost use Rattle.space_core.specs.declared.level.Level.{Level};
@@ -65,19 +65,6 @@ pub fn parent_place(levels: &[Level], space: &SpaceName) -> Option<usize>
     parent_position(levels, space)
 }
 
-/// A store of what the parent of a space sees. The top has none. It refuses for want of memory, or where there is no parent.
-pub fn store_above(alloc: Global, levels: &[Level], space: &SpaceName) -> Result<Store, AllocError>
-    ensures { IfOk result (IsAbove levels.now space.now) }
-{
-    if space.is_top() {
-        return Ok(Store::new(alloc));
-    }
-    match parent_place(levels, space) {
-        None => Err(AllocError),
-        Some(place) => levels[place].store.copied(alloc),
-    }
-}
-
 /// All spaces below this one are gone.
 pub fn drop_below(levels: &mut Vec<Level>, space: &SpaceName)
     ensures { levels.new.items ≡ filter (λ (l : Level). not (is_properly_below space.now l.space)) levels.old.items }
@@ -85,20 +72,20 @@ pub fn drop_below(levels: &mut Vec<Level>, space: &SpaceName)
     levels.retain(|level| !is_properly_above(space, &level.space));
 }
 
-/// The space fails. The store is of what its parent sees.
-pub fn fail(alloc: Global, level: &mut Level, store: Store)
-    ensures failure { IsFailure store level.old level.new }
-    ensures fallen { level.new ≡ fallen store level.old }
+/// The space fails, and nothing is kept of what it sees.
+pub fn fail(alloc: Global, level: &mut Level)
+    ensures { level.new ≡ fallen level.old }
 {
-    level.told_from = store.len();
-    level.store = store;
     level.status = Status::Failed;
+    level.store = Store::new(alloc);
+    level.told_from = 0;
     level.touched = Sequence::new(alloc);
     level.threads.stop_all(alloc);
     level.triggers = Sequence::new(alloc);
     level.objects = Objects::new();
     level.traced = true;
     level.knows_space = false;
+    level.bare = !level.space.is_top();
 }
 
 /// The space is ended by the exception that is the variable's term.
@@ -171,6 +158,7 @@ fn child_level(
         },
         traced: true,
         knows_space: false,
+        bare: false,
     })
 }
 

@@ -1,9 +1,10 @@
+use Rattle.std.proofs.Common.{◌∙◌, sym}
+use Rattle.oz_machine.proofs.StepEdits.{empty_top}
 use Rattle.oz_machine.proofs.raising.end_space.Goals as goal
 
 pub end_top-requires : goal.end_top-requires
-end_top-requires c = rw c.in-None.is at c.requires.above
+end_top-requires c = sym (empty_top c.args.id.now.space) ∙ sym c.is_top.ensures ∙ c.if-is_top.true
 
 pub end_child-requires : goal.end_child-requires
 end_child-requires c =
-    let over = rw c.in-Some.is at c.requires.above in
-    record { head = c.requires.head; there = c.requires.there; child = over.0; above = over.1 }
+    record { head = c.requires.head; there = c.requires.there; child = sym (empty_top c.args.id.now.space) ∙ sym c.is_top.ensures ∙ c.if-is_top.false }

@@ -1,4 +1,4 @@
-use Rattle.std.proofs.Common.{◌≡◌, ◌∙◌, List, Option, Some, None, sym, ap, subst}
+use Rattle.std.proofs.Common.{◌≡◌, ◌∙◌, List, Option, Some, None, sym, ap}
 use Rattle.std.specs.Prelude.{is_some}
 use Rattle.oz_semantics.specs.Configurations.{layer_at, stack_of}
 use Rattle.oz_semantics.specs.Exceptions.{unwound}
@@ -8,8 +8,7 @@ use Rattle.oz_semantics.specs.declared.configuration.Layer.{Layer}
 use Rattle.settle_laws.proofs.SettleLaws.{nothing_fails}
 use Rattle.space_core.specs.Advances.{taken_on}
 use Rattle.oz_machine.specs.Courses.{stepping}
-use Rattle.oz_machine.specs.Raising.{EndsOver}
-use Rattle.oz_machine.proofs.StepEdits.{stack_popped, popped_taken, pop_there, ends_popped}
+use Rattle.oz_machine.proofs.StepEdits.{stack_popped, popped_taken, pop_there}
 use Rattle.oz_machine.proofs.raising.raise.Goals as goal
 
 pub returns-then-branch-clause-turn : goal.returns-then-branch-clause-turn
@@ -34,7 +33,6 @@ end_space-requires c =
     record {
       head = c.requires.head;
       there = ap (λ (ls : List Layer). is_some (layer_at ls id.space)) c.take_off.ensures ∙ pop_there id c.unwind_from.new.self there;
-      above = subst (λ (ls : List Layer). EndsOver ls id.space c.in_ok-above.above) (sym c.take_off.ensures) (ends_popped id c.unwind_from.new.self c.in_ok-above.above c.in_ok-above.ensures);
     }
 
 pub returns-clause-turn : goal.returns-clause-turn

@@ -10,7 +10,7 @@ use Rattle.oz_semantics.specs.declared.configuration.Layer.{Layer}
 use Rattle.settle_laws.specs.Settles.{Settles}
 use Rattle.space_core.specs.Advances.{taken_on}
 use Rattle.oz_machine.specs.Courses.{stepping}
-use Rattle.oz_machine.proofs.StepEdits.{raised_taken, raised_unwound, term_popped, term_told, told_there, ends_told}
+use Rattle.oz_machine.proofs.StepEdits.{raised_taken, raised_unwound, term_popped, term_told, told_there}
 use Rattle.oz_machine.proofs.raising.raise_new.Goals as goal
 
 pub returns-then-branch-clause-turn : goal.returns-then-branch-clause-turn
@@ -41,7 +41,6 @@ end_space-requires c =
     record {
       head = c.requires.head;
       there = told_there id c.args.made.tells.items c.args.count old c.tell_term.new.levels c.in_ok-tell_term.ensures.told there;
-      above = ends_told id c.args.made.tells.items c.args.count old c.tell_term.new.levels c.in_ok-above.above c.in_ok-tell_term.ensures.told c.in_ok-above.ensures;
     }
 
 pub returns-clause-turn : goal.returns-clause-turn

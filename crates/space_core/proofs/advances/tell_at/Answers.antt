@@ -17,6 +17,10 @@ returns-in-Ok-false-clause-told c =
     record {
       before = c.index.result.now;
       read = c.index.ensures;
+      kept = subst (λ (k : Level). k.bare ≡ false)
+          (given_level c.args.levels.now.items c.args.place c.requires c.args.given.now c.index.result.now c.index_mut.result.now c.give.new.level c.index.ensures c.index_mut.ensures.value
+          c.in_ok-objects.ensures.ok c.tell_through.new.levels.items told.left told.before told.read)
+          told.kept;
       clash = subst (λ (k : Level). is_consistent (k.store ++ c.args.tells.now) ≡ false)
           (given_level c.args.levels.now.items c.args.place c.requires c.args.given.now c.index.result.now c.index_mut.result.now c.give.new.level c.index.ensures c.index_mut.ensures.value
           c.in_ok-objects.ensures.ok c.tell_through.new.levels.items told.left told.before told.read)

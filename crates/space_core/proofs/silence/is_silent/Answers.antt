@@ -3,7 +3,6 @@ use Rattle.std.specs.List.{list_all}
 use Rattle.oz_base.specs.declared.names.Ident.{Ident}
 use Rattle.oz_semantics.specs.Names.{parent_of}
 use Rattle.oz_semantics.specs.Configurations.{view}
-use Rattle.std.specs.Prelude.{slice_index_or}
 use Rattle.space_core.specs.Shown.{shown_all}
 use Rattle.space_core.specs.Silence.{variable_alike}
 use Rattle.space_core.proofs.ParentLaws.{not_empty}
@@ -21,12 +20,12 @@ returns-in_default c = λ s m. absurd (has_parent c.args.levels.now s c.args.lev
 pub returns-then-all_traced : goal.returns-then-all_traced
 returns-then-all_traced c =
     λ s m. c.all_alike.ensures
-    ∙ ap (λ (vs : List Ident). list_all (variable_alike (shown_all c.args.levels.now) c.args.level.now.space c.args.level.now.store (slice_index_or c.args.levels.now c.in-Some.parent c.index-levels-parent.result).store vs) vs)
+    ∙ ap (λ (vs : List Ident). list_all (variable_alike (shown_all c.args.levels.now) c.args.level.now.space c.store_of-own.result.now c.store_of-above.result.now vs) vs)
     c.as_slice.ensures
-    ∙ silent_by_touched c.args.levels.now c.args.level.now (sym c.is_top.ensures ∙ c.if-is_top.false) c.in-Some.parent c.in-Some.ensures c.index-levels-parent.result c.index-levels-parent.is s m
+    ∙ silent_by_touched c.args.levels.now c.args.level.now (sym c.is_top.ensures ∙ c.if-is_top.false) c.in-Some.parent c.in-Some.ensures c.index-levels-parent.result c.index-levels-parent.is s m c.store_of-own.result.now c.store_of-above.result.now (c.store_of-own.ensures s m) c.store_of-above.ensures
     (sym c.all_traced.ensures ∙ c.if-all_traced.true)
 
 pub returns : goal.returns
 returns c =
     λ s m. c.named_alike.ensures
-    ∙ silent_by_names c.args.levels.now c.args.level.now (sym c.is_top.ensures ∙ c.if-is_top.false) c.in-Some.parent c.in-Some.ensures c.index-levels-parent.result c.index-levels-parent.is s m
+    ∙ silent_by_names c.args.levels.now c.args.level.now (sym c.is_top.ensures ∙ c.if-is_top.false) c.in-Some.parent c.in-Some.ensures c.index-levels-parent.result c.index-levels-parent.is s m c.store_of-own.result.now c.store_of-above.result.now (c.store_of-own.ensures s m) c.store_of-above.ensures
