@@ -1,12 +1,13 @@
--- No trigger is needed after a step that was not.
-use Rattle.std.proofs.Common.{◌≡◌, inl, inr, ℕ, Bool, true, false, not, ◌&&◌, ◌||◌, List, [], ◌∷◌, ◌++◌, refl, sym, ap, subst, ◌∙◌, Option, Some, None, unwrap_or, map}
+-- After a step no trigger is needed that was not, but for those that have to be asked.
+use Rattle.std.proofs.Common.{◌≡◌, inl, inr, ℕ, Bool, true, false, not, ◌&&◌, ◌||◌, List, [], ◌∷◌, ◌++◌, refl, sym, ap, subst, ◌∙◌, Option, Some, None, unwrap_or, map, flat_map}
 use Rattle.std.specs.List.{list_any}
 use Rattle.std.proofs.lemmas.Bool.{false≢true}
+use Rattle.std.proofs.lemmas.List.{append-nil}
 use Rattle.oz_base.specs.Lists.{list_eq, is_empty, holds_of}
 use Rattle.oz_base.specs.declared.names.Ident.{Ident}
 use Rattle.oz_language.specs.declared.kernel.Statement.{Statement}
 use Rattle.oz_semantics.specs.Names.{is_below, named}
-use Rattle.oz_semantics.specs.Configurations.{is_of, layer_at, layer_of, thread_at, in_layer, with_frames, without_terminated, new_layer}
+use Rattle.oz_semantics.specs.Configurations.{is_of, layer_at, layer_of, view, thread_at, in_layer, with_frames, without_terminated, new_layer}
 use Rattle.oz_semantics.specs.Sights.{Readiness, Steps, Waits, WaitsForState, Offers, can_step, waits_of}
 use Rattle.oz_semantics.specs.Spaces.{thread_ready}
 use Rattle.oz_semantics.specs.Triggers.{is_needed_in, has_needed}
@@ -32,16 +33,15 @@ use Rattle.turn_laws.specs.Orderly.{AreOrderly}
 use Rattle.turn_laws.specs.Kept.{IsKept, IsThere}
 use Rattle.turn_laws.proofs.OrderlyLaws.{changes_orderly, stack_orderly, done_orderly}
 use Rattle.turn_laws.proofs.HeadLaws.{own_among, kept_layers, kept_head}
-use Rattle.unneeded_laws.specs.Unneeded.{waits_there, is_waiting, started_in, AbleWaitsNot, adds_trigger, ChangesNeedNone, StackNeedsNone, added_by, AddedNeedNone, ChangesNeedOwn, StackNeedsOwn, TellNeedsBelow, TellNeedsNone}
+use Rattle.unneeded_laws.specs.Unneeded.{waits_by, waits_at, is_waiting, started_in, AbleWaitsNot, adds_trigger, ChangesNeedNone, StackNeedsNone, added_by, AddedNeedNone, is_met, ChangesNeedMet, StackNeedsMet, ChangesNeedOwn, StackNeedsOwn, TellNeedsBelow, TellNeedsNone}
 use Rattle.unneeded_laws.proofs.SpareLaws.{Spares, is_apart, changes_spare, stack_spares, done_spares, outer_unneeded}
-use Rattle.unneeded_laws.proofs.OwnLaws.{found_edit, changes_triggers, stack_triggers, none_pass, own_unneeded}
+use Rattle.unneeded_laws.proofs.OwnLaws.{found_edit, changes_triggers, stack_triggers, none_pass, none_met, own_unneeded}
 
 -- Threads that can step
 
-able_waits : (statements : List Statement) (layers : List Layer) (space : List ℕ) (o : Option Thread) → holds_of (λ (t : Thread). can_step (thread_ready statements layers space t)) o ≡ true
-    → holds_of (waits_there statements layers space) o ≡ false
-able_waits statements layers space None e = refl
-able_waits statements layers space (Some t) e = by (thread_ready statements layers space t) e
+able_waits : (ready : Thread → Readiness) (o : Option Thread) → holds_of (λ (t : Thread). can_step (ready t)) o ≡ true → not (is_empty (waits_by ready o)) ≡ false
+able_waits ready None e = refl
+able_waits ready (Some t) e = by (ready t) e
   where
     by : (r : Readiness) → can_step r ≡ true → not (is_empty (waits_of r)) ≡ false
     by Steps k = refl
@@ -50,7 +50,7 @@ able_waits statements layers space (Some t) e = by (thread_ready statements laye
     by (Offers offer xs) k = absurd (false≢true k)
 
 pub able_waits_not : AbleWaitsNot
-able_waits_not statements layers id e = able_waits statements layers id.space (thread_at (layer_of layers id.space).threads id.number) e
+able_waits_not statements layers id e = able_waits (thread_ready statements layers id.space) (thread_at (layer_of layers id.space).threads id.number) e
 
 -- Whose triggers have to be asked
 
@@ -91,13 +91,16 @@ module _ (statements : List Statement) (one other : List Layer) (id : Ident) (be
   quiet_own : has_needed statements other (layer_of other id.space) ≡ false → NoneNeeded statements other
   quiet_own asked = own_asked statements id.space all_blind one other spares none good (λ l h k. refl) asked
 
-  quiet_unneeded : (added : List Trigger) → made.after.triggers ≡ before.triggers ++ added → list_any (is_waiting statements other) (id ∷ map (λ (t : Thread). named id.space t.number) news) ≡ false
+  abbrev waits : List Ident
+  waits = flat_map (waits_at statements other) (id ∷ map (λ (t : Thread). named id.space t.number) news)
+
+  quiet_unneeded : (added : List Trigger) → made.after.triggers ≡ before.triggers ++ added → list_any (is_met (view other id.space) waits) before.triggers ≡ false
       → list_any (is_needed_in statements other (layer_of other id.space)) added ≡ false → NoneNeeded statements other
-  quiet_unneeded added triggers silent fresh =
+  quiet_unneeded added triggers unmet fresh =
       let asked = subst (λ (l : Layer). list_any (is_needed_in statements other l) added ≡ false) own fresh in
       quiet_own
       (subst (λ (l : Layer). has_needed statements other l ≡ false) (sym own)
-      (own_unneeded statements one other id before made.after news at now made.steps numbered spares silent added triggers (none_in (has_needed statements one) one none before in_one) asked))
+      (own_unneeded statements one other id before made.after news at now made.steps numbered spares added triggers (none_in (has_needed statements one) one none before in_one) unmet asked))
 
 module _ (statements : List Statement) (c : Configuration) (id : Ident) (queue : List Ident) (kept : IsKept statements (record c { queue = id ∷ queue })) where
   head : IsThere statements c.layers id
@@ -130,9 +133,18 @@ module _ (statements : List Statement) (c : Configuration) (id : Ident) (queue :
     changes_own : has_needed statements layers (layer_of layers id.space) ≡ false → NoneNeeded statements layers
     changes_own = quiet_own statements c.layers layers id before news changes_left kept.content head.layer changes_good changes_spared
 
-    changes_unneeded : list_any (is_waiting statements layers) (id ∷ started_in id.space before changes) ≡ false
-        → list_any (is_needed_in statements layers (layer_of layers id.space)) (added_by changes) ≡ false → NoneNeeded statements layers
+    abbrev changes_waits : List Ident
+    changes_waits = flat_map (waits_at statements layers) (id ∷ started_in id.space before changes)
+
+    changes_unneeded : list_any (is_met (view layers id.space) changes_waits) before.triggers ≡ false → list_any (is_needed_in statements layers (layer_of layers id.space)) (added_by changes) ≡ false
+        → NoneNeeded statements layers
     changes_unneeded = quiet_unneeded statements c.layers layers id before news changes_left kept.content head.layer changes_good changes_spared (added_by changes) changes_added
+
+    -- where none is added its triggers are those before
+    changes_same : added_by changes ≡ [] → (layer_of layers id.space).triggers ≡ before.triggers
+    changes_same none =
+        ap (λ (l : Layer). l.triggers) (own statements c.layers layers id before news changes_left kept.content head.layer changes_good changes_spared)
+        ∙ changes_added ∙ ap (λ ts. before.triggers ++ ts) none ∙ append-nil before.triggers
 
   module _ (frames : List Frame) (layers : List Layer) (e : layers ≡ in_layer id.space without_terminated (in_layer id.space (with_frames id.number (λ rest. frames)) (without_top id c.layers))) where
     stack_left : MadeOf id c.layers layers before []
@@ -152,13 +164,12 @@ module _ (statements : List Statement) (c : Configuration) (id : Ident) (queue :
     stack_own : has_needed statements layers (layer_of layers id.space) ≡ false → NoneNeeded statements layers
     stack_own = quiet_own statements c.layers layers id before [] stack_left kept.content head.layer stack_good stack_spared
 
-    stack_unneeded : is_waiting statements layers id ≡ false → NoneNeeded statements layers
-    stack_unneeded silent =
-        quiet_unneeded statements c.layers layers id before [] stack_left kept.content head.layer stack_good stack_spared [] stack_added (alone (is_waiting statements layers id) silent) refl
-      where
-        alone : (b : Bool) → b ≡ false → (b || false) ≡ false
-        alone true k = k
-        alone false k = refl
+    stack_unneeded : list_any (is_met (view layers id.space) (waits_at statements layers id ++ [])) before.triggers ≡ false → NoneNeeded statements layers
+    stack_unneeded unmet = quiet_unneeded statements c.layers layers id before [] stack_left kept.content head.layer stack_good stack_spared [] stack_added unmet refl
+
+    stack_same : (layer_of layers id.space).triggers ≡ before.triggers
+    stack_same =
+        ap (λ (l : Layer). l.triggers) (own statements c.layers layers id before [] stack_left kept.content head.layer stack_good stack_spared) ∙ stack_added ∙ append-nil before.triggers
 
 -- changes that add none
 none_added : (changes : List Change) → list_any adds_trigger changes ≡ false → added_by changes ≡ []
@@ -168,14 +179,34 @@ none_added (GivesOut n ∷ changes) e = none_added changes e
 none_added (change ∷ changes) e = none_added changes e
 
 pub added_need_none : AddedNeedNone
-added_need_none statements c id queue changes kept layers e silent fresh = changes_unneeded statements c id queue kept changes layers e silent fresh
+added_need_none statements c id queue changes kept layers e silent fresh =
+    changes_unneeded statements c id queue kept changes layers e
+    (none_met (view layers id.space) (waits_at statements layers) (id ∷ started_in id.space (layer_of c.layers id.space) changes) (layer_of c.layers id.space).triggers silent) fresh
 
 pub changes_need_none : ChangesNeedNone
 changes_need_none statements c id queue changes kept quiet layers e silent =
-    changes_unneeded statements c id queue kept changes layers e silent (ap (list_any (is_needed_in statements layers (layer_of layers id.space))) (none_added changes quiet))
+    added_need_none statements c id queue changes kept layers e silent (ap (list_any (is_needed_in statements layers (layer_of layers id.space))) (none_added changes quiet))
+
+pub changes_need_met : ChangesNeedMet
+changes_need_met statements c id queue changes kept quiet layers e unmet =
+    let none = none_added changes quiet in
+    changes_unneeded statements c id queue kept changes layers e
+    (ap (list_any (is_met (view layers id.space) (flat_map (waits_at statements layers) (id ∷ started_in id.space (layer_of c.layers id.space) changes)))) (sym (changes_same statements c id queue kept changes layers e none)) ∙ unmet)
+    (ap (list_any (is_needed_in statements layers (layer_of layers id.space))) none)
+
+pub stack_needs_met : StackNeedsMet
+stack_needs_met statements c id queue frames kept layers e unmet =
+    stack_unneeded statements c id queue kept frames layers e
+    (ap (λ (xs : List Ident). list_any (is_met (view layers id.space) xs) (layer_of c.layers id.space).triggers) (append-nil (waits_at statements layers id))
+    ∙ ap (list_any (is_met (view layers id.space) (waits_at statements layers id))) (sym (stack_same statements c id queue kept frames layers e)) ∙ unmet)
 
 pub stack_needs_none : StackNeedsNone
-stack_needs_none statements c id queue frames kept layers e silent = stack_unneeded statements c id queue kept frames layers e silent
+stack_needs_none statements c id queue frames kept layers e silent =
+    stack_unneeded statements c id queue kept frames layers e (none_met (view layers id.space) (waits_at statements layers) (id ∷ []) (layer_of c.layers id.space).triggers (alone (is_waiting statements layers id) silent))
+  where
+    alone : (b : Bool) → b ≡ false → (b || false) ≡ false
+    alone true k = k
+    alone false k = refl
 
 pub changes_need_own : ChangesNeedOwn
 changes_need_own statements c id queue changes kept layers e asked = changes_own statements c id queue kept changes layers e asked

@@ -1,12 +1,13 @@
 -- Steps after which no by-need computation is needed, since none was before: who has to be asked after a step, and who has not.
-use Rattle.std.specs.Prelude.{ℕ, ◌≡◌, Bool, true, false, not, ◌&&◌, List, [], ◌∷◌, map}
-use Rattle.std.specs.List.{list_any}
+use Rattle.std.specs.Prelude.{ℕ, ◌≡◌, Bool, true, false, not, ◌&&◌, List, [], ◌∷◌, Option, Some, None, map}
+use Rattle.std.specs.List.{list_any, flat_map}
 use Rattle.oz_base.specs.Lists.{is_empty, holds_of}
 use Rattle.oz_base.specs.declared.names.Ident.{Ident}
 use Rattle.oz_language.specs.declared.kernel.Statement.{Statement}
 use Rattle.oz_semantics.specs.Names.{is_below, named}
-use Rattle.oz_semantics.specs.Configurations.{layer_of, thread_at, in_layer, with_frames, without_terminated}
-use Rattle.oz_semantics.specs.Sights.{can_step, waits_of}
+use Rattle.oz_semantics.specs.Store.{View, same}
+use Rattle.oz_semantics.specs.Configurations.{layer_of, view, thread_at, in_layer, with_frames, without_terminated}
+use Rattle.oz_semantics.specs.Sights.{Readiness, can_step, waits_of}
 use Rattle.oz_semantics.specs.Spaces.{thread_ready}
 use Rattle.oz_semantics.specs.Changes.{Change, GivesOut, CountsProcedure, CountsName, Pushes, Spawns, AddsCell, Holds, AddsPort, EndsAt, AddsTrigger, changed_all, done}
 use Rattle.oz_semantics.specs.Triggers.{is_needed_in, has_needed}
@@ -24,13 +25,18 @@ use Rattle.turn_laws.specs.Telling.{IsAlone}
 
 -- Threads that wait
 
--- a thread of the space waits for a variable
-abbrev pub waits_there : List Statement → List Layer → List ℕ → Thread → Bool
-waits_there statements layers space t = not (is_empty (waits_of (thread_ready statements layers space t)))
+-- the variables that a thread waits for, if it is there
+abbrev pub waits_by : (Thread → Readiness) → Option Thread → List Ident
+waits_by ready None = []
+waits_by ready (Some t) = waits_of (ready t)
 
--- a thread of this name is there, and waits for a variable
+-- those of the thread of this name
+abbrev pub waits_at : List Statement → List Layer → Ident → List Ident
+waits_at statements layers id = waits_by (thread_ready statements layers id.space) (thread_at (layer_of layers id.space).threads id.number)
+
+-- it waits for one
 abbrev pub is_waiting : List Statement → List Layer → Ident → Bool
-is_waiting statements layers id = holds_of (waits_there statements layers id.space) (thread_at (layer_of layers id.space).threads id.number)
+is_waiting statements layers id = not (is_empty (waits_at statements layers id))
 
 -- the names of the threads that changes start in a space of this layer
 abbrev pub started_in : List ℕ → Layer → List Change → List Ident
@@ -99,7 +105,28 @@ AddedNeedNone =
     → list_any (is_needed_in statements layers (layer_of layers id.space)) (added_by changes) ≡ false
     → NoneNeeded statements layers
 
--- Whoever waits, the triggers of its own space alone have to be asked
+-- the trigger's variable is equal to one of these
+abbrev pub is_met : View → List Ident → Trigger → Bool
+is_met view waited t = list_any (same view t.variable) waited
+
+-- Where some of these threads wait, the triggers of their space have to be asked only whether it is for their variables
+abbrev pub ChangesNeedMet : Type 0
+ChangesNeedMet =
+    (statements : List Statement) (c : Configuration) (id : Ident) (queue : List Ident) (changes : List Change) → IsKept statements (record c { queue = id ∷ queue })
+    → list_any adds_trigger changes ≡ false
+    → (layers : List Layer) → layers ≡ in_layer id.space without_terminated (changed_all id changes (without_top id c.layers))
+    → list_any (is_met (view layers id.space) (flat_map (waits_at statements layers) (id ∷ started_in id.space (layer_of c.layers id.space) changes))) (layer_of layers id.space).triggers ≡ false
+    → NoneNeeded statements layers
+
+-- and so where it goes on with another stack
+abbrev pub StackNeedsMet : Type 0
+StackNeedsMet =
+    (statements : List Statement) (c : Configuration) (id : Ident) (queue : List Ident) (frames : List Frame) → IsKept statements (record c { queue = id ∷ queue })
+    → (layers : List Layer) → layers ≡ in_layer id.space without_terminated (in_layer id.space (with_frames id.number (λ rest. frames)) (without_top id c.layers))
+    → list_any (is_met (view layers id.space) (waits_at statements layers id)) (layer_of layers id.space).triggers ≡ false
+    → NoneNeeded statements layers
+
+-- In any case the triggers of its own space alone have to be asked
 abbrev pub ChangesNeedOwn : Type 0
 ChangesNeedOwn =
     (statements : List Statement) (c : Configuration) (id : Ident) (queue : List Ident) (changes : List Change) → IsKept statements (record c { queue = id ∷ queue })

@@ -3,19 +3,21 @@
 //! Each function does nothing: its contract states laws of the definitions.
 #![tactic(auto)]
 
-ghost use Rattle.unneeded_laws.specs.Unneeded.{AbleWaitsNot, ChangesNeedNone, StackNeedsNone, AddedNeedNone, ChangesNeedOwn, StackNeedsOwn, TellNeedsBelow, TellNeedsNone};
+ghost use Rattle.unneeded_laws.specs.Unneeded.{AbleWaitsNot, ChangesNeedNone, StackNeedsNone, AddedNeedNone, ChangesNeedMet, StackNeedsMet, ChangesNeedOwn, StackNeedsOwn, TellNeedsBelow, TellNeedsNone};
 
-/// Steps that tell nothing, after which no trigger is needed. Nothing: it holds laws.
+/// Which triggers are asked after a step that tells nothing, if any. Nothing: it holds laws.
 pub fn quiet_law()
     ensures able { AbleWaitsNot }
     ensures changes { ChangesNeedNone }
     ensures stack { StackNeedsNone }
     ensures added { AddedNeedNone }
+    ensures met { ChangesNeedMet }
+    ensures met_stack { StackNeedsMet }
     ensures own { ChangesNeedOwn }
     ensures own_stack { StackNeedsOwn }
 {}
 
-/// Whose triggers are asked after a step that tells something. Nothing: it holds laws.
+/// Which triggers are asked after a step that tells something. Nothing: it holds laws.
 pub fn told_law()
     ensures below { TellNeedsBelow }
     ensures alone { TellNeedsNone }
