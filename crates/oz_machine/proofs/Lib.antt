@@ -6,6 +6,7 @@ pub mod TurnLaws
 pub mod DeclareLaws
 pub mod SearchLaws
 pub mod QuietLaws
+pub mod AwakeLaws
 pub mod StepEdits
 pub mod RunLaws
 pub mod ToldLaws

@@ -1,7 +1,7 @@
 -- What follows a step that told nothing.
 use Rattle.std.proofs.Common.{Contains, arith, ◌≡◌, ◌≤◌, ℕ, Bool, true, false, ◌&&◌, ◌||◌, cond, if◌then◌else◌, List, [], ◌∷◌, ◌++◌, refl, sym, ap, subst, ◌∙◌, Option, Some, None, map, filter, drop, unwrap_or}
 use Rattle.std.specs.Prelude.{IfSome, option_to_list}
-use Rattle.std.specs.List.{find}
+use Rattle.std.specs.List.{find, list_any}
 use Rattle.std.proofs.lemmas.List.Folds.{list_any-append}
 use Rattle.std.proofs.lemmas.Bool.{false≢true}
 use Rattle.oz_base.specs.Lists.{first, list_eq, holds_of}
@@ -47,12 +47,13 @@ use Rattle.turn_laws.specs.Orderly.{AreOrderly}
 use Rattle.turn_laws.specs.Kept.{IsKept, IsThere}
 use Rattle.turn_laws.proofs.OrderlyLaws.{changes_orderly, stack_orderly}
 use Rattle.turn_laws.proofs.HeadLaws.{mover_alone, kept_layers, kept_head, head_numbered, kept_changes, kept_stack}
-use Rattle.oz_machine.specs.Quiet.{top_steps, able_in, able_of, IsHead, news_of, names_in}
+use Rattle.unneeded_laws.specs.Unneeded.{adds_trigger}
+use Rattle.oz_machine.specs.Quiet.{top_steps, able_in, able_of, delays, IsHead, news_of, names_in}
 use Rattle.oz_acts.proofs.PlaceLaws.{layer_of_name}
 
 -- What the first statement of a thread can do
 
-holds_frames : (statements : List Statement) (layers : List Layer) (space : List ℕ) (o : Option Thread) → has_spaces layers ≡ false
+pub holds_frames : (statements : List Statement) (layers : List Layer) (space : List ℕ) (o : Option Thread) → has_spaces layers ≡ false
     → holds_of (λ (t : Thread). can_step (thread_ready statements layers space t)) o ≡ can_step (answer_ready (stack_answer (sight statements layers space) (frames_in o)))
 holds_frames statements layers space None none = refl
 holds_frames statements layers space (Some t) none = ap can_step (spaceless_ready statements layers (states_of statements layers) space t none)
@@ -284,31 +285,32 @@ unwound_turn statements id layers old new queue after shown frames cost head is 
 
 -- Quiet acts
 
--- the changes that a quiet act makes, and the thread that it starts
+-- the changes that a quiet act makes, none of which adds a by-need computation, and the thread that it starts
 pub record MakesQuietly (id : Ident) (l : Layer) (act : Act) (old new : List Layer) : Type 0 where
   pub changes : List Change
   pub effect : act_effect l act ≡ Makes changes
   pub made : new ≡ changed_all id changes (without_top id old)
   pub started : names_in id.space (news_of l changes) ≡ started_by id.space l act
+  pub adds : list_any adds_trigger changes ≡ false
 
-pub quiet_done : (id : Ident) (l : Layer) (act : Act) (old new : List Layer) → is_quiet act ≡ true → IsDone id (act_effect l act) old new true → MakesQuietly id l act old new
-quiet_done id l Passes old new e h = record { changes = []; effect = refl; made = h; started = refl }
-quiet_done id l (GoesOn frames) old new e h = record { changes = Pushes frames ∷ []; effect = refl; made = h; started = refl }
-quiet_done id l (Declares environment names body) old new e h = record { changes = declared_changes l environment names body; effect = refl; made = h; started = refl }
-quiet_done id l (Starts frames) old new e h = record { changes = Spawns frames ∷ []; effect = refl; made = h; started = refl }
-quiet_done id l (GivesValue x v) old new e h = absurd (false≢true e)
-quiet_done id l (GivesTerm x t) old new e h = absurd (false≢true e)
-quiet_done id l (GivesVariable x y) old new e h = absurd (false≢true e)
-quiet_done id l (MakesProcedure x parameters body environment) old new e h = absurd (false≢true e)
-quiet_done id l (MakesName x) old new e h = absurd (false≢true e)
-quiet_done id l (MakesCell x content) old new e h = absurd (false≢true e)
-quiet_done id l (Reads n x) old new e h = absurd (false≢true e)
-quiet_done id l (Writes n content) old new e h = record { changes = Holds n content ∷ []; effect = refl; made = h; started = refl }
-quiet_done id l (Exchanges n x content) old new e h = absurd (false≢true e)
-quiet_done id l (MakesPort x stream) old new e h = absurd (false≢true e)
-quiet_done id l (Sends n item) old new e h = absurd (false≢true e)
-quiet_done id l (Delays procedure x) old new e h = record { changes = AddsTrigger procedure x ∷ []; effect = refl; made = h; started = refl }
-quiet_done id l (Shows x) old new e h = absurd (false≢true e)
+pub quiet_done : (id : Ident) (l : Layer) (act : Act) (old new : List Layer) → is_quiet act ≡ true → delays act ≡ false → IsDone id (act_effect l act) old new true → MakesQuietly id l act old new
+quiet_done id l Passes old new e still h = record { changes = []; effect = refl; made = h; started = refl; adds = refl }
+quiet_done id l (GoesOn frames) old new e still h = record { changes = Pushes frames ∷ []; effect = refl; made = h; started = refl; adds = refl }
+quiet_done id l (Declares environment names body) old new e still h = record { changes = declared_changes l environment names body; effect = refl; made = h; started = refl; adds = refl }
+quiet_done id l (Starts frames) old new e still h = record { changes = Spawns frames ∷ []; effect = refl; made = h; started = refl; adds = refl }
+quiet_done id l (GivesValue x v) old new e still h = absurd (false≢true e)
+quiet_done id l (GivesTerm x t) old new e still h = absurd (false≢true e)
+quiet_done id l (GivesVariable x y) old new e still h = absurd (false≢true e)
+quiet_done id l (MakesProcedure x parameters body environment) old new e still h = absurd (false≢true e)
+quiet_done id l (MakesName x) old new e still h = absurd (false≢true e)
+quiet_done id l (MakesCell x content) old new e still h = absurd (false≢true e)
+quiet_done id l (Reads n x) old new e still h = absurd (false≢true e)
+quiet_done id l (Writes n content) old new e still h = record { changes = Holds n content ∷ []; effect = refl; made = h; started = refl; adds = refl }
+quiet_done id l (Exchanges n x content) old new e still h = absurd (false≢true e)
+quiet_done id l (MakesPort x stream) old new e still h = absurd (false≢true e)
+quiet_done id l (Sends n item) old new e still h = absurd (false≢true e)
+quiet_done id l (Delays procedure x) old new e still h = absurd (false≢true (sym still))
+quiet_done id l (Shows x) old new e still h = absurd (false≢true e)
 
 -- What is kept from turn to turn
 

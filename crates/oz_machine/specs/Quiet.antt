@@ -1,5 +1,6 @@
 -- Steps that told nothing, and the queue after them.
 use Rattle.std.specs.Prelude.{ℕ, ◌≡◌, Bool, true, false, if◌then◌else◌, List, [], ◌∷◌, Option, Some, None, map, drop}
+use Rattle.std.specs.List.{list_any}
 use Rattle.oz_base.specs.Lists.{first}
 use Rattle.oz_base.specs.declared.names.Ident.{Ident}
 use Rattle.oz_language.specs.declared.kernel.Identifier.{Identifier}
@@ -18,7 +19,10 @@ use Rattle.oz_semantics.specs.declared.configuration.Layer.{Layer}
 use Rattle.builtins.specs.Answers.{act_of, IsAnswer}
 use Rattle.builtins.specs.declared.answer.Answer.{Answer}
 use Rattle.builtins.specs.declared.answer.Answer.TheVariants.{Acts, Edits, RaisesKind, RaisesTerm, Operates, Rests}
+use Rattle.view_laws.specs.Spaceless.{has_spaces}
 use Rattle.view_laws.specs.Steps.{spawned_from}
+use Rattle.need_laws.specs.Needs.{has_triggers}
+use Rattle.unneeded_laws.specs.Unneeded.{is_waiting}
 use Rattle.turn_laws.specs.Kept.{IsKept}
 use Rattle.oz_acts.specs.Doings.{is_shown}
 use Rattle.oz_machine.specs.declared.course.Course.{Course}
@@ -60,6 +64,30 @@ pub record IsDeclaration (statements : List Statement) (stack : List Frame) (nam
   pub frame : Frame
   pub top : Some frame ≡ first stack
   pub answers : AnswersDeclaration statements frame names body
+
+-- no space is a value, and where a by-need computation has not begun none of these threads waits for a variable
+abbrev pub LeavesOthers : List Statement → List Layer → List Ident → Type 0
+LeavesOthers statements layers ids = (has_spaces layers ≡ false) × (has_triggers layers ≡ true → list_any (is_waiting statements layers) ids ≡ false)
+
+-- an act that adds a by-need computation
+abbrev pub delays : answers.Act → Bool
+delays (answers.Delays procedure x) = true
+delays answers.Passes = false
+delays (answers.GoesOn frames) = false
+delays (answers.Declares environment names body) = false
+delays (answers.Starts frames) = false
+delays (answers.GivesValue x v) = false
+delays (answers.GivesTerm x t) = false
+delays (answers.GivesVariable x y) = false
+delays (answers.MakesProcedure x parameters body environment) = false
+delays (answers.MakesName x) = false
+delays (answers.MakesCell x content) = false
+delays (answers.Reads n x) = false
+delays (answers.Writes n content) = false
+delays (answers.Exchanges n x content) = false
+delays (answers.MakesPort x stream) = false
+delays (answers.Sends n item) = false
+delays (answers.Shows x) = false
 
 -- an answer that shows a text
 abbrev pub shows : Answer → Bool

@@ -23,6 +23,7 @@ use crate::following::{follow, go_on, leave_to_none};
 use crate::quiet::go_on_unwound;
 use oz_acts::{next_of, take_off};
 use oz_base::{Ident, SpaceName};
+use oz_language::Kernel;
 use oz_raise::{NewTerm, is_failure, new_term, term};
 use oz_semantics::{RaiseKind, Stepped};
 use space_core::{Given, Levels};
@@ -92,16 +93,22 @@ fn end_space(id: &Ident, exception: Ident, course: &mut Course) -> Stepped
 }
 
 /// A thread goes on with the stack that an exception left.
-fn go_on_caught(id: &Ident, kept: bool, course: &mut Course) -> Stepped
+fn go_on_caught(
+    alloc: Global,
+    kernel: &Kernel,
+    id: &Ident,
+    kept: bool,
+    course: &mut Course,
+) -> Stepped
     requires { first course.old.queue ≡ Some id.now }
-    ensures turn { (statements : List Statement) (layers : List Layer) (frames : List Frame)
-        → (kept ≡ true → IsHead statements id.now layers (drop 1 course.old.queue) course.old.shown)
+    ensures turn { (layers : List Layer) (frames : List Frame)
+        → (kept ≡ true → IsHead kernel.now.statements id.now layers (drop 1 course.old.queue) course.old.shown)
         → course.old.levels ≡ taken_on id.now frames (without_top id.now layers)
-        → went_on statements id.now 1 course.old.levels (stepping course.old) ≡ (result, config_of statements course.new) }
+        → went_on kernel.now.statements id.now 1 course.old.levels (stepping course.old) ≡ (result, config_of kernel.now.statements course.new) }
     ensures cost { cost_of result ≡ 1 }
 {
     if kept {
-        return go_on_unwound(id, course);
+        return go_on_unwound(alloc, kernel, id, course);
     }
     course.levels.consistent();
     go_on(id, 1, course)
@@ -110,6 +117,7 @@ fn go_on_caught(id: &Ident, kept: bool, course: &mut Course) -> Stepped
 /// An exception of a term goes to the nearest mark of the thread's stack.
 pub fn raise(
     alloc: Global,
+    kernel: &Kernel,
     id: &Ident,
     exception: Ident,
     kept: bool,
@@ -117,13 +125,13 @@ pub fn raise(
 ) -> Result<Stepped, AllocError>
     requires head { first course.old.queue ≡ Some id.now }
     requires there { is_some (layer_at course.old.levels id.now.space) ≡ true }
-    ensures turn { (statements : List Statement) → KeepsHead statements id.now kept course.old → IfOk result (λ stepped.
-        raised statements id.now exception (without_top id.now course.old.levels) (stepping course.old) ≡ (stepped, config_of statements course.new)) }
+    requires kept { KeepsHead kernel.now.statements id.now kept course.old }
+    ensures turn { IfOk result (λ stepped. raised kernel.now.statements id.now exception (without_top id.now course.old.levels) (stepping course.old) ≡ (stepped, config_of kernel.now.statements course.new)) }
     ensures cost { IfOk result (λ stepped. cost_of stepped ≡ 1) }
     ensures err { OnErr result (course.new ≡ course.old) }
 {
     if course.levels.unwind_from(alloc, id, &exception)? {
-        return Ok(go_on_caught(id, kept, course));
+        return Ok(go_on_caught(alloc, kernel, id, kept, course));
     }
     take_off(&mut course.levels, id);
     course.levels.consistent();

@@ -73,7 +73,7 @@ fn steps_at(
 }
 
 /// Whether the statement on top of a thread's stack can step.
-fn steps(
+pub fn steps(
     alloc: Global,
     statements: &[Statement],
     levels: &Levels,

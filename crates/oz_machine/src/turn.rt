@@ -1,7 +1,6 @@
 //! One turn of the machine: the head of the queue makes one step.
 ghost use Rattle.std.specs.Prelude.{◌≡◌, ◌≤◌, ◌<◌, ◌+◌, ◌&&◌, not, true, false, is_some, length, position, List, IfOk, IfSome, OnErr, Some, MatchOption, option_copied};
 ghost use Rattle.oz_base.specs.Lists.{first};
-ghost use Rattle.oz_language.specs.declared.kernel.Kernel.{Kernel};
 ghost use Rattle.oz_language.specs.declared.kernel.Statement.{Statement};
 ghost use Rattle.oz_semantics.specs.Configurations.{is_of, layer_at, stack_of};
 ghost use Rattle.oz_semantics.specs.Answers as answers;
@@ -19,7 +18,7 @@ ghost use Rattle.space_core.specs.Telling.{has_below};
 ghost use Rattle.oz_machine.specs.declared.course.Due.TheVariants.{Nobody};
 ghost use Rattle.oz_machine.specs.Courses.{config_of, stepping, Keeps};
 ghost use Rattle.oz_acts.specs.Doings.{is_quiet, is_shown};
-ghost use Rattle.oz_machine.specs.Quiet.{IsDeclaration, IsHeadAnswer, KeepsHead, operates, shows};
+ghost use Rattle.oz_machine.specs.Quiet.{delays, IsDeclaration, IsHeadAnswer, KeepsHead, operates, shows};
 ghost use Rattle.oz_machine.specs.Turns.{cost_of, CostsWithin, HasNotEnded, IsTurn};
 
 use crate::course::Course;
@@ -49,6 +48,23 @@ fn is_known_quiet(what: &Act, kept: bool) -> bool
     kept && is_quiet(what)
 }
 
+/// Whether an act adds a by-need computation.
+fn delays(what: &Act) -> bool
+    ensures { result ≡ delays (act_of what.now) }
+{
+    match what {
+        Act::Delays { .. } => true,
+        _ => false,
+    }
+}
+
+/// Whether an act of which it is known that it tells nothing adds no by-need computation either.
+fn is_known_still(what: &Act, quiet: bool) -> bool
+    ensures { result ≡ (quiet && not (delays (act_of what.now))) }
+{
+    quiet && !delays(what)
+}
+
 /// Whether no space is below the thread's, where this spares a look at the threads of other spaces: after a step that told something.
 fn is_known_lowest(levels: &Levels, id: &Ident, kept: bool, quiet: bool) -> bool
     ensures { result ≡ ((kept && not quiet) && not (has_below levels.now id.now.space)) }
@@ -75,15 +91,16 @@ fn make_act(
 {
     let quiet = is_known_quiet(what, kept);
     let lowest = is_known_lowest(&course.levels, id, kept, quiet);
+    let still = is_known_still(what, quiet);
     let started = started(alloc, &course.levels, id, what)?;
     if !act(alloc, &mut course.levels, id, what)? {
         return clash(alloc, id, course);
     }
-    if quiet {
-        return Ok(go_on_quietly(id, started, 1, course));
-    }
     if lowest {
         return Ok(go_on_told(id, 1, course));
+    }
+    if still {
+        return Ok(go_on_quietly(alloc, kernel, id, started, 1, course));
     }
     course.levels.consistent();
     Ok(go_on(id, 1, course))
@@ -165,7 +182,14 @@ fn make_step(
         Answer::Edits(edit) => make_edit(alloc, kernel, id, edit, course),
         Answer::Acts(what) => make_act(alloc, kernel, id, what, kept, course),
         Answer::RaisesKind(kind) => raise_kind(alloc, id, *kind, course),
-        Answer::RaisesTerm(exception) => raise(alloc, id, exception.copied(alloc)?, kept, course),
+        Answer::RaisesTerm(exception) => raise(
+            alloc,
+            kernel,
+            id,
+            exception.copied(alloc)?,
+            kept,
+            course,
+        ),
     }
 }
 
@@ -182,14 +206,16 @@ fn text_cost(nodes: u64) -> Result<u64, AllocError>
 /// The thread shows a text, which is made already.
 fn show_text(
     alloc: Global,
+    kernel: &Kernel,
     id: &Ident,
     text: Text,
     kept: bool,
     course: &mut Course,
 ) -> Result<Stepped, AllocError>
-    requires { first course.old.queue ≡ Some id.now }
-    ensures turn { (statements : List Statement) → KeepsHead statements id.now kept course.old → IfOk result (λ stepped.
-        shown_by statements id.now (record { bytes = text.bytes; nodes = text.nodes }) (without_top id.now course.old.levels) (stepping course.old) ≡ (stepped, config_of statements course.new)) }
+    requires head { first course.old.queue ≡ Some id.now }
+    requires kept { KeepsHead kernel.now.statements id.now kept course.old }
+    ensures turn { IfOk result (λ stepped.
+        shown_by kernel.now.statements id.now (record { bytes = text.bytes; nodes = text.nodes }) (without_top id.now course.old.levels) (stepping course.old) ≡ (stepped, config_of kernel.now.statements course.new)) }
     ensures cost { IfOk result (λ stepped. cost_of stepped ≡ 1 + text.nodes) }
     ensures err { OnErr result (course.new ≡ course.old) }
 {
@@ -198,7 +224,7 @@ fn show_text(
     course.shown.push(alloc, bytes)?;
     take_off(&mut course.levels, id);
     if kept {
-        return Ok(go_on_quietly(id, None, cost, course));
+        return Ok(go_on_quietly(alloc, kernel, id, None, cost, course));
     }
     course.levels.consistent();
     Ok(go_on(id, cost, course))
@@ -227,7 +253,7 @@ fn show(
     let store = course.levels.store_at(place);
     match term_text(alloc, &kernel.words, store, variable, fuel - 1)? {
         None => Ok(None),
-        Some(text) => Ok(Some(show_text(alloc, id, text, kept, course)?)),
+        Some(text) => Ok(Some(show_text(alloc, kernel, id, text, kept, course)?)),
     }
 }
 
@@ -285,6 +311,7 @@ fn step_as(
 /// The thread makes the declaration on top of its stack.
 fn declare(
     alloc: Global,
+    kernel: &Kernel,
     id: &Ident,
     names: &[Identifier],
     body: &[u32],
@@ -293,14 +320,15 @@ fn declare(
 ) -> Result<Stepped, AllocError>
     requires head { first course.old.queue ≡ Some id.now }
     requires there { is_some (layer_at course.old.levels id.now.space) ≡ true }
-    ensures turn { (k : Kernel) → KeepsHead k.statements id.now kept course.old → IsDeclaration k.statements (stack_of course.old.levels id.now) names.now body.now
-        → IfOk result (λ made. stepped k id.now (stepping course.old) ≡ (made, config_of k.statements course.new)) }
+    requires kept { KeepsHead kernel.now.statements id.now kept course.old }
+    requires declared { IsDeclaration kernel.now.statements (stack_of course.old.levels id.now) names.now body.now }
+    ensures turn { IfOk result (λ made. stepped kernel.now id.now (stepping course.old) ≡ (made, config_of kernel.now.statements course.new)) }
     ensures cost { IfOk result (λ made. cost_of made ≡ 1) }
     ensures err { OnErr result (course.new ≡ course.old) }
 {
     course.levels.declare_in(alloc, id, names, body)?;
     if kept {
-        return Ok(go_on_quietly(id, None, 1, course));
+        return Ok(go_on_quietly(alloc, kernel, id, None, 1, course));
     }
     course.levels.consistent();
     Ok(go_on(id, 1, course))
@@ -448,7 +476,7 @@ fn step_anew(
 {
     match declaration(kernel.statements.as_slice(), &course.levels, id) {
         None => step_answering(alloc, kernel, place, id, kept, course, fuel),
-        Some((names, body)) => Ok(Some(declare(alloc, id, names, body, kept, course)?)),
+        Some((names, body)) => Ok(Some(declare(alloc, kernel, id, names, body, kept, course)?)),
     }
 }
 

@@ -12,7 +12,8 @@ use Rattle.oz_machine.proofs.StepEdits.{stack_popped, popped_taken, pop_there}
 use Rattle.oz_machine.proofs.raising.raise.Goals as goal
 
 pub returns-then-branch-clause-turn : goal.returns-then-branch-clause-turn
-returns-then-branch-clause-turn c = λ statements kept.
+returns-then-branch-clause-turn c =
+    let statements = c.args.kernel.now.statements in
     let id = c.args.id.now in
     let now = c.args.course.now in
     let x = c.args.exception in
@@ -22,7 +23,7 @@ returns-then-branch-clause-turn c = λ statements kept.
     let left : c.unwind_from.new.self ≡ taken_on id u.0 wt = u.2 ∙ sym (popped_taken id u.0 now.levels) in
     ap (λ (o : Option (List Frame)). raised_to statements id x o wt (stepping now)) caught
     ∙ ap (λ (ls : List Layer). went_on statements id 1 ls (stepping now)) (sym left)
-    ∙ c.go_on_caught.ensures.turn statements now.levels u.0 kept left
+    ∙ c.go_on_caught.ensures.turn now.levels u.0 c.requires.kept left
 
 pub end_space-requires : goal.end_space-requires
 end_space-requires c =
@@ -36,7 +37,8 @@ end_space-requires c =
     }
 
 pub returns-clause-turn : goal.returns-clause-turn
-returns-clause-turn c = λ statements kept.
+returns-clause-turn c =
+    let statements = c.args.kernel.now.statements in
     let id = c.args.id.now in
     let now = c.args.course.now in
     let x = c.args.exception in

@@ -7,17 +7,21 @@ use Rattle.oz_machine.proofs.DeclareLaws.{declaration_made}
 use Rattle.oz_machine.proofs.turn.declare.Goals as goal
 
 pub returns-then-kept-clause-turn : goal.returns-then-kept-clause-turn
-returns-then-kept-clause-turn c = λ k keeps d.
+returns-then-kept-clause-turn c =
+    let k = c.args.kernel.now in
+    let d = c.requires.declared in
     let id = c.args.id.now in
     let now = c.args.course.now in
     let names = c.args.names.now in
     let body = c.args.body.now in
     let made = c.in_ok-declare_in.ensures.ok d.frame d.top in
     declaration_made k id names body (stepping now) d c.declare_in.new.self c.requires.there made
-    ∙ c.go_on_quietly.ensures.turn k.statements now.levels (declared_changes (layer_of now.levels id.space) d.frame.environment names body) (keeps c.if-kept.true) made refl
+    ∙ c.go_on_quietly.ensures.turn now.levels (declared_changes (layer_of now.levels id.space) d.frame.environment names body) (c.requires.kept c.if-kept.true) made refl refl
 
 pub returns-clause-turn : goal.returns-clause-turn
-returns-clause-turn c = λ k keeps d.
+returns-clause-turn c =
+    let k = c.args.kernel.now in
+    let d = c.requires.declared in
     let id = c.args.id.now in
     let new = c.declare_in.new.self in
     declaration_made k id c.args.names.now c.args.body.now (stepping c.args.course.now) d new c.requires.there (c.in_ok-declare_in.ensures.ok d.frame d.top)

@@ -11,6 +11,7 @@ use Rattle.oz_laws.proofs.SameLaws.{and-left, and-right}
 use Rattle.space_core.specs.Telling.{has_below}
 use Rattle.oz_machine.specs.Courses.{config_of, stepping}
 use Rattle.oz_acts.specs.Doings.{is_quiet}
+use Rattle.oz_machine.specs.Quiet.{delays}
 use Rattle.oz_machine.proofs.DoingLaws.{done_leaves, done_clashes, fits_popped, ok_turn}
 use Rattle.oz_machine.proofs.QuietLaws.{quiet_done}
 use Rattle.oz_machine.proofs.StepEdits.{effect_popped}
@@ -52,8 +53,8 @@ returns-then-not-branch-clause-turn c =
     )
     (c.clash.ensures.turn k.statements)
 
-pub returns-then-quiet-clause-turn : goal.returns-then-quiet-clause-turn
-returns-then-quiet-clause-turn c =
+pub returns-then-still-clause-turn : goal.returns-then-still-clause-turn
+returns-then-still-clause-turn c =
     let k = c.args.kernel.now in
     let id = c.args.id.now in
     let now = c.args.course.now in
@@ -62,12 +63,15 @@ returns-then-quiet-clause-turn c =
     let act = act_of c.args.what.now in
     let l = layer_of old id.space in
     let wt = without_top id old in
-    let both : (c.args.kept && is_quiet act) ≡ true = sym c.is_known_quiet-quiet.ensures ∙ c.if-quiet.true in
+    let known = c.is_known_quiet-quiet.result in
+    let silent : (known && not (delays act)) ≡ true = sym c.is_known_still-still.ensures ∙ c.if-still.true in
+    let both : (c.args.kept && is_quiet act) ≡ true = sym c.is_known_quiet-quiet.ensures ∙ and-left known (not (delays act)) silent in
+    let none : delays act ≡ false = not_true (delays act) (and-right known (not (delays act)) silent) in
     let head = c.requires.kept (and-left c.args.kept (is_quiet act) both) in
-    let quiet = quiet_done id l act old new (and-right c.args.kept (is_quiet act) both) (rw c.if-not-branch.false at c.in_ok-act.ensures.ok) in
+    let quiet = quiet_done id l act old new (and-right c.args.kept (is_quiet act) both) none (rw c.if-not-branch.false at c.in_ok-act.ensures.ok) in
     ap (after_effect k id wt (stepping now)) (effect_popped id old act c.requires.there ∙ quiet.effect)
     ∙ ap (λ (ls : List Layer). went_on k.statements id 1 ls (stepping now)) (sym quiet.made)
-    ∙ c.go_on_quietly.ensures.turn k.statements old quiet.changes head quiet.made (quiet.started ∙ sym c.in_ok-started.ensures)
+    ∙ c.go_on_quietly.ensures.turn old quiet.changes head quiet.made (quiet.started ∙ sym c.in_ok-started.ensures) quiet.adds
 
 pub returns-then-lowest-clause-turn : goal.returns-then-lowest-clause-turn
 returns-then-lowest-clause-turn c =
@@ -84,7 +88,8 @@ returns-then-lowest-clause-turn c =
     let loud_known : loud_kept ≡ true = and-left loud_kept (not (has_below old id.space)) both in
     let known : c.args.kept ≡ true = and-left c.args.kept (not c.is_known_quiet-quiet.result) loud_known in
     let none : has_below old id.space ≡ false = not_true (has_below old id.space) (and-right loud_kept (not (has_below old id.space)) both) in
-    let loud : is_quiet act ≡ false = ap (λ b. b && is_quiet act) (sym known) ∙ sym c.is_known_quiet-quiet.ensures ∙ c.if-quiet.false in
+    let loud : is_quiet act ≡ false =
+    ap (λ b. b && is_quiet act) (sym known) ∙ sym c.is_known_quiet-quiet.ensures ∙ not_true c.is_known_quiet-quiet.result (and-right c.args.kept (not c.is_known_quiet-quiet.result) loud_known) in
     let told = told_done id l act old new loud (rw c.if-not-branch.false at c.in_ok-act.ensures.ok) in
     let made : new ≡ done id told.tells told.changes wt = none_fails id.space (done id told.tells told.changes wt) new told.settles (done_below id told.tells told.changes wt (pop_below id old ∙ none)) in
     ap (after_effect k id wt (stepping now)) (effect_popped id old act c.requires.there ∙ told.effect)

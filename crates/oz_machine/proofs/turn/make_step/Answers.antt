@@ -62,4 +62,4 @@ returns-in_ok-copied-in-RaisesTerm-clause-turn c = λ a h.
     let raises = rw c.in-RaisesTerm.is at h in
     let copy = c.in_ok-copied-in-RaisesTerm.field-0 in
     ok_turn c.raise.result (after_answer k id (without_top id now.levels) (stepping now) a) (raised k.statements id copy (without_top id now.levels) (stepping now)) (config_of k.statements c.raise.new.course)
-    (ap (after_answer k id (without_top id now.levels) (stepping now)) (raises ∙ ap (λ (x : Ident). answers.RaisesTerm x) (sym c.in_ok-copied-in-RaisesTerm.ensures))) (c.raise.ensures.turn k.statements c.requires.kept)
+    (ap (after_answer k id (without_top id now.levels) (stepping now)) (raises ∙ ap (λ (x : Ident). answers.RaisesTerm x) (sym c.in_ok-copied-in-RaisesTerm.ensures))) c.raise.ensures.turn

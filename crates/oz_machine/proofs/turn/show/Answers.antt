@@ -35,4 +35,4 @@ returns-in_ok-show_text-in-Some-clause-turn c =
     let stored : Printed = term_text k.words c.store_at-store.result.now x in
     let text : Printed = record { bytes = c.in-Some.text.bytes; nodes = c.in-Some.text.nodes } in
     let same : stored ≡ text = λ i. record { bytes = sym within.0 i; nodes = sym within.1 i } in
-    ap (λ (p : Printed). shown_by k.statements id p wt (stepping now)) (ap (λ (ts : View). term_text k.words ts x) (sym seen) ∙ same) ∙ c.in_ok-show_text-in-Some.ensures.turn k.statements c.requires.kept
+    ap (λ (p : Printed). shown_by k.statements id p wt (stepping now)) (ap (λ (ts : View). term_text k.words ts x) (sym seen) ∙ same) ∙ c.in_ok-show_text-in-Some.ensures.turn
