@@ -71,10 +71,10 @@ numbers_sync : IsSync numbers.the_row
 numbers_sync = declared_sync numbers.the_type (search sendable, (search sendable, (search sendable, (search sendable, tt))))
 
 level_send : IsSend name.the_row → IsSend status.the_row → IsSend store.the_row → IsSend (sequence.the_row ident.the_row) → IsSend (sequence.the_row thread.the_row) → IsSend (sequence.the_row trigger.the_row) → IsSend objects.the_row → IsSend level.the_row
-level_send s t u i h q o = declared_send level.the_type (s, (t, (u, (search sendable, (i, (threads_send h, (q, (o, (numbers_send, (search sendable, (search sendable, tt)))))))))))
+level_send s t u i h q o = declared_send level.the_type (s, (t, (u, (search sendable, (i, (threads_send h, (q, (o, (numbers_send, (search sendable, (search sendable, (search sendable, tt))))))))))))
 
 level_sync : IsSync name.the_row → IsSync status.the_row → IsSync store.the_row → IsSync (sequence.the_row ident.the_row) → IsSync (sequence.the_row thread.the_row) → IsSync (sequence.the_row trigger.the_row) → IsSync objects.the_row → IsSync level.the_row
-level_sync s t u i h q o = declared_sync level.the_type (s, (t, (u, (search sendable, (i, (threads_sync h, (q, (o, (numbers_sync, (search sendable, (search sendable, tt)))))))))))
+level_sync s t u i h q o = declared_sync level.the_type (s, (t, (u, (search sendable, (i, (threads_sync h, (q, (o, (numbers_sync, (search sendable, (search sendable, (search sendable, tt))))))))))))
 
 pub levels_send : IsSend name.the_row → IsSend status.the_row → IsSend store.the_row → IsSend (sequence.the_row ident.the_row) → IsSend (sequence.the_row thread.the_row) → IsSend (sequence.the_row trigger.the_row) → IsSend objects.the_row → IsSend levels.the_row
 levels_send s t u i h q o = view_send _ _ _ _ _ (declared_send levels.TheInside.the_type (Vec-send level.the_row (level_send s t u i h q o), tt))
