@@ -1,6 +1,5 @@
 -- The threads that come into the queue after a step: those of the ancestors of its space, and then those of the space itself.
-use Rattle.std.proofs.Common.{◌≡◌, inl, inr, ℕ, Bool, true, false, not, ◌&&◌, cond, List, [], ◌∷◌, ◌++◌, filter, flat_map, refl, sym, ap, ap₂, subst, ◌∙◌, append_assoc, Contains, Option, Some, None}
-use Rattle.std.specs.List.{list_all}
+use Rattle.std.proofs.Common.{◌≡◌, inl, inr, ℕ, Bool, true, false, not, ◌&&◌, cond, List, [], ◌∷◌, ◌++◌, filter, flat_map, refl, sym, ap, ap₂, subst, ◌∙◌, append_assoc, Option, Some, None}
 use Rattle.std.proofs.lemmas.List.{append-nil}
 use Rattle.std.proofs.lemmas.List.Elements.{filter-append}
 use Rattle.oz_base.specs.declared.names.Ident.{Ident}
@@ -11,7 +10,7 @@ use Rattle.oz_laws.proofs.SameLaws.{In, contains-from_In, and-left, and-right}
 use Rattle.view_laws.specs.Sights.{is_led}
 use Rattle.view_laws.proofs.Members.{decide, not_both, each}
 use Rattle.view_laws.proofs.ListLaws.{filter_none}
-use Rattle.view_laws.proofs.NameLaws.{equal_names, names_equal, properly, properly_by}
+use Rattle.view_laws.proofs.NameLaws.{names_equal, properly, properly_by}
 use Rattle.view_laws.proofs.SightLaws.{of_space}
 use Rattle.quiet_laws.specs.Among.{above_of, AboveTop}
 

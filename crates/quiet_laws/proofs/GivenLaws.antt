@@ -1,12 +1,11 @@
 -- How many variables a space has given out after a step.
-use Rattle.std.proofs.Common.{◌≡◌, ℕ, ◌+◌, Bool, true, false, cond, List, [], ◌∷◌, drop, refl, sym, ap, ◌∙◌, arith, Option, Some}
+use Rattle.std.proofs.Common.{◌≡◌, ℕ, ◌+◌, Bool, true, false, cond, List, [], ◌∷◌, drop, refl, ap, ◌∙◌, arith, Some}
 use Rattle.std.specs.List.{find}
 use Rattle.oz_base.specs.Lists.{list_eq}
 use Rattle.oz_base.specs.declared.names.Ident.{Ident}
-use Rattle.oz_semantics.specs.Configurations.{is_of, layer_at, in_layer, with_frames, without_terminated}
+use Rattle.oz_semantics.specs.Configurations.{is_of, layer_at, in_layer, with_frames}
 use Rattle.oz_semantics.specs.Changes.{Change, GivesOut, changed, changed_all}
 use Rattle.oz_semantics.specs.Steps.{without_top}
-use Rattle.oz_semantics.specs.declared.configuration.Frame.{Frame}
 use Rattle.oz_semantics.specs.declared.configuration.Layer.{Layer}
 use Rattle.view_laws.proofs.ChangeLaws.{edit_of, changed_by, edit_keeps}
 use Rattle.quiet_laws.specs.Unknown.{given_by}

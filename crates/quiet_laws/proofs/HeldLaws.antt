@@ -1,5 +1,5 @@
 -- By which ancestors' variables a space goes after a step above it that gives some out: those are unknown below.
-use Rattle.std.proofs.Common.{◌≡◌, ◌⊎◌, inl, inr, ℕ, suc, zero, ◌+◌, ◌<◌, ◌≤◌, nat_lt, Bool, true, false, if◌then◌else◌, List, [], ◌∷◌, map, flat_map, refl, sym, ap, subst, ◌∙◌, arith, Contains, Option, Some, None}
+use Rattle.std.proofs.Common.{◌≡◌, ◌⊎◌, inl, inr, ℕ, suc, zero, ◌+◌, ◌<◌, ◌≤◌, nat_lt, Bool, true, false, if◌then◌else◌, List, [], map, flat_map, refl, sym, ap, subst, ◌∙◌, arith, Contains, Option, Some, None}
 use Rattle.std.specs.List.{list_any, range_with_len}
 use Rattle.std.proofs.lemmas.Bool.{false≢true}
 use Rattle.std.proofs.lemmas.Bool.Decides.{nat_tests}
@@ -16,9 +16,9 @@ use Rattle.oz_semantics.specs.declared.value.Tell.{Tell}
 use Rattle.oz_semantics.specs.declared.value.Tell.TheVariants.{Is}
 use Rattle.oz_semantics.specs.declared.configuration.Layer.{Layer}
 use Rattle.oz_laws.proofs.SameLaws.{In, In-from_contains, contains-from_In, In-flat, In-flat_back, ident_eq-true, ident_eq-refl, tests_same}
-use Rattle.view_laws.proofs.Members.{bool_eq, decide, not_both, some_of, by_some}
+use Rattle.view_laws.proofs.Members.{bool_eq, decide, some_of, by_some}
 use Rattle.view_laws.proofs.ListLaws.{map_in, in_map, in_edit, edit_in, edited_in, found_in}
-use Rattle.view_laws.proofs.NameLaws.{below_itself, below_trans, properly, properly_by, properly_trans}
+use Rattle.view_laws.proofs.NameLaws.{below_trans, properly_trans}
 use Rattle.view_laws.proofs.ViewLaws.{same_named, given_value}
 use Rattle.view_laws.proofs.TouchedLaws.{AreAlike, alike_meaning, meaning_alike}
 use Rattle.quiet_laws.specs.Unknown.{IsUnknown, AreUnknown}

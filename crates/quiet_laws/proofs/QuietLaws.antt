@@ -1,19 +1,18 @@
 -- What a step that tells nothing makes of the queue.
-use Rattle.std.proofs.Common.{◌≡◌, ◌⊎◌, inl, inr, ℕ, ◌+◌, Bool, true, false, not, if◌then◌else◌, List, [], ◌∷◌, ◌++◌, drop, filter, map, refl, sym, ap, ap₂, subst, ◌∙◌, arith, Contains, Option, Some}
+use Rattle.std.proofs.Common.{◌≡◌, ◌⊎◌, inl, inr, ℕ, Bool, true, false, not, if◌then◌else◌, List, [], ◌∷◌, ◌++◌, drop, filter, map, refl, sym, ap, ap₂, subst, ◌∙◌, arith, Option, Some}
 use Rattle.std.specs.List.{range_with_len}
 use Rattle.std.proofs.lemmas.List.{append-nil, map-append}
 use Rattle.std.proofs.lemmas.List.Elements.{filter-append}
 use Rattle.oz_base.specs.Lists.{list_eq, is_empty}
 use Rattle.oz_base.specs.declared.names.Ident.{Ident}
 use Rattle.oz_language.specs.declared.kernel.Statement.{Statement}
-use Rattle.oz_semantics.specs.Names.{is_below, is_properly_below, parent_of, named}
+use Rattle.oz_semantics.specs.Names.{is_properly_below, parent_of, named}
 use Rattle.oz_semantics.specs.Configurations.{is_of, layer_at, layer_of, is_numbered, is_open, view, in_layer, in_thread, with_frames, without_terminated}
 use Rattle.oz_semantics.specs.Sights.{can_step}
 use Rattle.oz_semantics.specs.Spaces.{states_of, thread_ready}
 use Rattle.oz_semantics.specs.Changes.{Change, changed_all}
 use Rattle.oz_semantics.specs.Settling.{Turned, is_among, mover_in, queue_after, runnable_in, runnable, settled}
 use Rattle.oz_semantics.specs.Steps.{without_top}
-use Rattle.oz_semantics.specs.declared.configuration.Frame.{Frame}
 use Rattle.oz_semantics.specs.declared.configuration.Thread.{Thread}
 use Rattle.oz_semantics.specs.declared.configuration.Status.{Status}
 use Rattle.oz_semantics.specs.declared.configuration.Layer.{Layer}
@@ -27,7 +26,7 @@ use Rattle.view_laws.proofs.Members.{In-left, In-right, In-cases, decide, not_bo
 use Rattle.view_laws.proofs.ListLaws.{among_in, in_among, filter_in, filter_all, filter_none, in_map, in_edit, edited_in, found_in}
 use Rattle.view_laws.proofs.NameLaws.{names_equal, properly}
 use Rattle.view_laws.proofs.SightLaws.{space_of, quiet_unseen}
-use Rattle.view_laws.proofs.QueueLaws.{mover_able, able_mover, not_among, can_from, from_can, CanStep}
+use Rattle.view_laws.proofs.QueueLaws.{mover_able, able_mover, not_among, from_can}
 use Rattle.view_laws.proofs.StepLaws.{changes_made, stack_made}
 use Rattle.view_laws.proofs.NumberLaws.{step_new}
 use Rattle.view_laws.proofs.NeedLaws.{nothing_fires}
@@ -41,7 +40,7 @@ use Rattle.quiet_laws.specs.Unknown.{given_by, given_in, AreUnknown}
 use Rattle.quiet_laws.specs.Among.{woken, ChangesAmong, StackAmong}
 use Rattle.quiet_laws.proofs.UnknownLaws.{none_given}
 use Rattle.quiet_laws.proofs.HeldLaws.{GivesMore, gives_more}
-use Rattle.quiet_laws.proofs.GivenLaws.{Gave, changes_gave, edit_gave, popped_there, found_edit, gave_there}
+use Rattle.quiet_laws.proofs.GivenLaws.{Gave, changes_gave, edit_gave, popped_there, gave_there}
 use Rattle.quiet_laws.proofs.WakeLaws.{GoesTo, filter_twice, frames_there, found_put, queued, same_there}
 
 abbrev has_frames : Thread → Bool
@@ -257,19 +256,26 @@ module _ (statements : List Statement) (c : Configuration) (id : Ident) (queue :
       ap (λ ls. layer_at ls id.space) made.left ∙ found_put id.space made.after (subst (λ s. list_eq s id.space ≡ true) (sym own) (names_equal id.space)) c.layers before there in
       gives_more before made.after n made.steps.space (gave_there result id.space before made.after n gave found)
 
+  -- so where it makes changes
+  pub changes_give : (changes : List Change)
+      (made : MadeOf id c.layers (in_layer id.space without_terminated (changed_all id changes (without_top id c.layers))) before (spawned_from before.next.thread changes))
+      → GivesMore before made.after (given_in before changes)
+  changes_give changes made =
+      let rest : List Layer = without_top id c.layers in
+      let gave = changes_gave id changes rest (with_frames id.number (λ frames. drop 1 frames) before) (popped_there id c.layers before there) in
+      let given : Gave (in_layer id.space without_terminated (changed_all id changes rest)) id.space before (given_by changes) =
+      edit_gave id.space without_terminated (λ l. refl) (λ l. refl) (changed_all id changes rest) before (given_by changes)
+      (record { layer = gave.layer; there = gave.there; variable = gave.variable }) in
+      made_gives (in_layer id.space without_terminated (changed_all id changes rest)) (spawned_from before.next.thread changes) (given_by changes) made given
+
 pub changes_among : ChangesAmong
 changes_among statements c id queue changes cost kept unknown layers e none =
     let first : Layer = layer_of c.layers id.space in
     let head = kept_head statements id queue c kept in
-    let news : List Thread = spawned_from first.next.thread changes in
-    let result : List Layer = in_layer id.space without_terminated (changed_all id changes (without_top id c.layers)) in
-    let made : MadeOf id c.layers result first news = changes_made id changes c.layers first head.layer head.thread in
-    let gave = changes_gave id changes (without_top id c.layers) (with_frames id.number (λ frames. drop 1 frames) first) (popped_there id c.layers first head.layer) in
-    let given : Gave result id.space first (given_by changes) =
-    edit_gave id.space without_terminated (λ l. refl) (λ l. refl) (changed_all id changes (without_top id c.layers)) first (given_by changes)
-    (record { layer = gave.layer; there = gave.there; variable = gave.variable }) in
-    settles_as statements c id queue first made.after news (given_in first changes) kept head.layer made.steps (made_gives statements c id queue kept result news (given_by changes) made given) unknown
-    (step_new statements changes c.layers id.space (id ∷ queue) first kept.tree.ordered head.layer (head_numbered statements id queue c kept) kept.exact) cost result layers made.left e none
+    let made = changes_made id changes c.layers first head.layer head.thread in
+    settles_as statements c id queue first made.after (spawned_from first.next.thread changes) (given_in first changes) kept head.layer made.steps (changes_give statements c id queue kept changes made) unknown
+    (step_new statements changes c.layers id.space (id ∷ queue) first kept.tree.ordered head.layer (head_numbered statements id queue c kept) kept.exact) cost
+    (in_layer id.space without_terminated (changed_all id changes (without_top id c.layers))) layers made.left e none
 
 -- or goes on with another stack
 

@@ -1,7 +1,6 @@
 -- A step in a space leaves the states of all spaces as they are that are not above it; those above it ran.
-use Rattle.std.proofs.Common.{◌≡◌, inl, inr, ℕ, Bool, true, false, not, ◌&&◌, ◌||◌, if◌then◌else◌, cond, List, [], ◌∷◌, ◌++◌, filter, map, flat_map, refl, sym, ap, ap₂, subst, ◌∙◌, append_assoc, Option, Some, None}
+use Rattle.std.proofs.Common.{◌≡◌, inl, inr, ℕ, Bool, true, false, not, ◌&&◌, ◌||◌, if◌then◌else◌, List, [], ◌∷◌, ◌++◌, map, flat_map, refl, sym, ap, ap₂, subst, ◌∙◌, append_assoc, Option, Some}
 use Rattle.std.specs.List.{list_any, filter_map}
-use Rattle.std.proofs.lemmas.Bool.{false≢true}
 use Rattle.oz_base.specs.Lists.{list_eq, first}
 use Rattle.oz_base.specs.declared.names.Ident.{Ident}
 use Rattle.oz_language.specs.declared.kernel.Statement.{Statement}
@@ -9,7 +8,7 @@ use Rattle.oz_semantics.specs.Names.{is_below, is_properly_below, is_child_of, p
 use Rattle.oz_semantics.specs.Store.{View, same, is_determined}
 use Rattle.oz_semantics.specs.Configurations.{is_open, view, ancestor_variables}
 use Rattle.oz_semantics.specs.Sights.{States, state_in, Readiness, can_step, waits_of, offer_of}
-use Rattle.oz_semantics.specs.Spaces.{ready_in, readinesses, layer_goes_on, waited_in, layers_below, subtree_goes_on, is_held, layer_waits, waits_outside, alike_on, is_stable, offer_in, stable_state, open_state, state_by, states_behind, states_of, thread_ready, goes_on}
+use Rattle.oz_semantics.specs.Spaces.{readinesses, layer_goes_on, waited_in, layers_below, subtree_goes_on, is_held, layer_waits, waits_outside, alike_on, is_stable, offer_in, stable_state, open_state, state_by, states_behind, states_of, thread_ready, goes_on}
 use Rattle.oz_semantics.specs.declared.configuration.Thread.{Thread}
 use Rattle.oz_semantics.specs.declared.configuration.Status.{Status}
 use Rattle.oz_semantics.specs.declared.configuration.Status.TheVariants as status
@@ -20,7 +19,7 @@ use Rattle.oz_laws.proofs.SameLaws.{In, and-right}
 use Rattle.view_laws.specs.Trees.{is_ascending, names_of}
 use Rattle.view_laws.proofs.Members.{decide, not_both}
 use Rattle.view_laws.proofs.ListLaws.{filter_in}
-use Rattle.view_laws.proofs.NameLaws.{below_itself, below_trans, below_anti, equal_names, properly_by, above_parent}
+use Rattle.view_laws.proofs.NameLaws.{below_itself, below_trans, equal_names, properly_by, above_parent}
 use Rattle.view_laws.proofs.ReadyLaws.{same_seen}
 use Rattle.view_laws.proofs.BehindLaws.{ready_agrees, behind_goes_on}
 use Rattle.edit_laws.proofs.ViewLaws.{child_above}

@@ -1,7 +1,6 @@
 -- Where the new variables of a step are unknown below its space.
-use Rattle.std.proofs.Common.{◌≡◌, ℕ, List, [], subst, sym, Contains, map}
+use Rattle.std.proofs.Common.{ℕ, [], subst, Contains, map}
 use Rattle.std.specs.List.{range_with_len}
-use Rattle.oz_base.specs.declared.names.Ident.{Ident}
 use Rattle.oz_semantics.specs.Names.{named}
 use Rattle.oz_semantics.specs.Configurations.{layer_of}
 use Rattle.oz_laws.proofs.SameLaws.{In-from_contains}

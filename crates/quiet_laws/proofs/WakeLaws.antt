@@ -1,10 +1,8 @@
 -- What a step of the thread at the head makes of the queue, where only its own space may see more than before: the rest stays, and
 -- besides threads of the space only threads of its ancestors come.
-use Rattle.std.proofs.Common.{◌≡◌, ◌⊎◌, inl, inr, ℕ, Bool, true, false, not, if◌then◌else◌, cond, List, [], ◌∷◌, ◌++◌, filter, map, flat_map, refl, sym, ap, ap₂, subst, ◌∙◌, append_assoc, Contains, Option, Some, None}
+use Rattle.std.proofs.Common.{◌≡◌, inl, inr, ℕ, Bool, true, false, not, cond, List, [], ◌∷◌, ◌++◌, filter, refl, sym, ap, ap₂, subst, ◌∙◌, append_assoc, Option, Some}
 use Rattle.std.specs.List.{find, list_any}
 use Rattle.std.proofs.lemmas.Bool.{false≢true}
-use Rattle.std.proofs.lemmas.List.{map-append}
-use Rattle.std.proofs.lemmas.List.Elements.{filter-append}
 use Rattle.oz_base.specs.Lists.{list_eq, is_empty}
 use Rattle.oz_base.specs.declared.names.Ident.{Ident}
 use Rattle.oz_language.specs.declared.kernel.Statement.{Statement}
@@ -18,22 +16,21 @@ use Rattle.oz_semantics.specs.declared.configuration.Frame.{Frame}
 use Rattle.oz_semantics.specs.declared.configuration.Thread.{Thread}
 use Rattle.oz_semantics.specs.declared.configuration.Layer.{Layer}
 use Rattle.oz_semantics.specs.declared.configuration.Configuration.{Configuration}
-use Rattle.oz_laws.proofs.SameLaws.{In, contains-from_In, In-flat, In-flat_back, eq-true}
+use Rattle.oz_laws.proofs.SameLaws.{In, In-flat, In-flat_back, eq-true}
 use Rattle.view_laws.specs.Trees.{is_ascending, names_of}
-use Rattle.view_laws.specs.Queues.{AreNew}
-use Rattle.view_laws.proofs.Members.{In-left, In-right, In-cases, decide, not_both, or_left}
-use Rattle.view_laws.proofs.ListLaws.{among_in, in_among, filter_in, in_filter, filter_all, filter_none, in_map, in_edit, edit_in, edited_in, found_in}
+use Rattle.view_laws.proofs.Members.{In-left, decide, not_both, or_left}
+use Rattle.view_laws.proofs.ListLaws.{among_in, in_among, in_filter, filter_all, filter_none, in_edit, edit_in, edited_in, found_in}
 use Rattle.view_laws.proofs.NameLaws.{below_itself, names_equal, equal_names, properly_by, properly}
 use Rattle.view_laws.proofs.SightLaws.{space_of}
 use Rattle.view_laws.proofs.TreeLaws.{names_edited, ascending_leads}
-use Rattle.view_laws.proofs.QueueLaws.{mover_able, able_mover, not_among, once_head, can_from, from_can, CanStep}
+use Rattle.view_laws.proofs.QueueLaws.{once_head, can_from, from_can}
 use Rattle.edit_laws.proofs.ViewLaws.{not_above}
 use Rattle.turn_laws.specs.Kept.{IsKept}
 use Rattle.turn_laws.specs.Telling.{others_of, staying}
 use Rattle.turn_laws.proofs.HeadLaws.{kept_goes_on}
 use Rattle.quiet_laws.specs.Unknown.{AreUnknown}
 use Rattle.quiet_laws.specs.Among.{woken}
-use Rattle.quiet_laws.proofs.StateLaws.{Pair, Pairs, Rests, thread_still, thread_same}
+use Rattle.quiet_laws.proofs.StateLaws.{Pairs, Rests, thread_still, thread_same}
 use Rattle.quiet_laws.proofs.HeldLaws.{GivesMore, layer_rests}
 use Rattle.quiet_laws.proofs.ComeLaws.{own_of, above_come}
 
