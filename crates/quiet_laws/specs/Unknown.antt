@@ -34,7 +34,7 @@ pub record IsUnknown (statements : List Statement) (layers : List Layer) (l : La
   pub unnamed : Contains (flat_map named_by (view layers l.space)) x → ⊥
   pub unwaited : (states : States) → Contains (waited_in statements layers states l) x → ⊥
 
--- so it is of these variables in each layer properly below the space
+-- so it is of these variables in each layer properly below the space: else the state of a space there could change as they are given out
 abbrev pub AreUnknown : List Statement → List Layer → List ℕ → List Ident → Type 0
 AreUnknown statements layers space xs =
     (l : Layer) (x : Ident) → Contains layers l → is_properly_below space l.space ≡ true → Contains xs x → IsUnknown statements layers l x
