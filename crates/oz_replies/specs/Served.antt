@@ -10,12 +10,12 @@ use Rattle.oz_language.specs.declared.token.Sort.TheVariants as sort
 
 abbrev pub unserved_tokens : List (List ℕ)
 unserved_tokens =
-    codes "::" ∷ codes ":::" ∷ codes "=:" ∷ codes "\\=:" ∷ codes "<:" ∷ codes "=<:" ∷ codes ">:" ∷ codes ">=:" ∷ []
+    []
 
 -- whether the text binds them itself or not
 abbrev pub unserved_names : List (List ℕ)
 unserved_names =
-    codes "FD" ∷ []
+    []
 
 abbrev pub is_unserved : List ℕ → Sort → Bool
 is_unserved bytes sort.Var = list_any (list_eq bytes) unserved_names
