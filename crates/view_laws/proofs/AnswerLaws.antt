@@ -21,8 +21,14 @@ use Rattle.oz_semantics.specs.Matching.{Match, Matches, Differs, MatchWaits, mat
 use Rattle.oz_semantics.specs.Entailment.{Equality, Entailed, Contradicted, Undecided, equality}
 use Rattle.oz_semantics.specs.Terms.{list_term}
 use Rattle.oz_semantics.specs.Sights.{Sight, Number, Readiness, Offers}
-use Rattle.oz_semantics.specs.Answers.{Act, Creates, Answer, Acts, Edits, RaisesKind, RaisesTerm, Operates, Rests, GivesTerm, Passes, Reads, Writes, Exchanges, Sends, Delays, Shows, given, with_value, of_kind, argument, gives_constant}
-use Rattle.oz_semantics.specs.Builtins.{truth, gives_number, with_integers, compares, computes, of_equality, label_in, arity_in, gives_field, field_at, selects, own_act, on_cell, on_port, delays, creates, choice_limit, offered, operates, of_operation, answer, arguments_of, call_answer}
+use Rattle.oz_semantics.specs.Answers.{Act, Creates, Answer, Acts, Edits, RaisesKind, RaisesTerm, Operates, Widens, Rests, GivesTerm, Passes, Reads, Writes, Exchanges, Sends, Delays, Shows, given, with_value, of_kind, argument, gives_constant}
+use Rattle.oz_semantics.specs.Builtins.{truth, gives_number, with_integers, compares, computes, of_equality, label_in, arity_in, gives_field, field_at, selects, own_act, on_cell, on_port, delays, creates, choice_limit, offered, operates, of_input, unless_refused, confines, posts, distributes, of_operation, answer, arguments_of, call_answer}
+use Rattle.oz_semantics.specs.Inputs.{Input, Known, Unknown, OtherKind, both}
+use Rattle.oz_semantics.specs.Vectors.{vector}
+use Rattle.oz_semantics.specs.Constraints.{bounds, refusal_of}
+use Rattle.oz_semantics.specs.Distributors as distributors
+use Rattle.oz_semantics.specs.Distributors.{Distribution, Finished, Splits, distribution}
+use Rattle.oz_base.specs.declared.relation.Relation.TheVariants.{Distinct}
 use Rattle.oz_semantics.specs.Statements.{procedure_called, value_called, called, branch, constant_branch, clause, statement_answer, numbered_answer, code_answer, stack_answer}
 use Rattle.oz_semantics.specs.declared.configuration.Code.{Code}
 use Rattle.oz_semantics.specs.declared.configuration.Code.TheVariants as code
@@ -33,14 +39,15 @@ use Rattle.oz_semantics.specs.declared.value.Builtin.TheVariants as builtin
 use Rattle.oz_semantics.specs.declared.value.SpaceOperation.{SpaceOperation}
 use Rattle.oz_semantics.specs.declared.value.Value.{Value}
 use Rattle.oz_semantics.specs.declared.value.Value.TheVariants as value
+use Rattle.oz_semantics.specs.declared.value.Tell.{Tell}
 use Rattle.oz_semantics.specs.declared.value.Tell.TheVariants.{Is}
 use Rattle.oz_semantics.specs.declared.outcome.RaiseKind.{RaiseKind}
 use Rattle.oz_semantics.specs.declared.outcome.RaiseKind.TheVariants as raise
-use Rattle.view_laws.proofs.ViewLaws.{Given, given_value}
+use Rattle.view_laws.proofs.KnownLaws.{Known as KnownValue, was_told, is_only, known_value}
 
 -- What is so of each of these is so of what a stack answers
 module _ (s : Sight) (Holds : Answer → Type 0) (acts : (act : Act) → Holds (Acts act)) (creation : (procedure x : Ident) → Holds (Edits (Creates procedure x)))
-    (kinds : (kind : RaiseKind) → Holds (RaisesKind kind)) (terms : (x : Ident) → Holds (RaisesTerm x)) (rests : (ready : Readiness) → Holds (Rests ready))
+    (kinds : (kind : RaiseKind) → Holds (RaisesKind kind)) (terms : (x : Ident) → Holds (RaisesTerm x)) (widens : (ts : List Tell) → Holds (Widens ts)) (rests : (ready : Readiness) → Holds (Rests ready))
     (operation_on : (op : SpaceOperation) (child : List ℕ) (x y : Ident) → Contains s.view (Is y (value.Space child)) → is_child_of s.space child ≡ true → Holds (Operates op child x)) where
   -- Answers that ask nothing of the view
 
@@ -109,14 +116,33 @@ module _ (s : Sight) (Holds : Answer → Type 0) (acts : (act : Act) → Holds (
   procedure_holds : (q : procedures.Procedure) (xs : List Ident) → Holds (procedure_called q xs)
   procedure_holds q xs = either_holds (length xs == length q.parameters) _ (RaisesKind raise.Arity) (acts _) (kinds raise.Arity)
 
+  -- Domains
+
+  input_holds : {A : Type 0} (i : Input A) (go : A → Answer) → ((a : A) → Holds (go a)) → Holds (of_input i go)
+  input_holds (Known a) go h = h a
+  input_holds (Unknown x) go h = rests _
+  input_holds OtherKind go h = kinds raise.BadKind
+
+  refusal_holds : (o : Option RaiseKind) (a : Answer) → Holds a → Holds (unless_refused o a)
+  refusal_holds None a h = h
+  refusal_holds (Some kind) a h = kinds kind
+
+  confine_holds : (xs : List Ident) (b : ℤ × ℤ) → Holds (confines s.view xs b)
+  confine_holds xs b = refusal_holds (refusal_of b.0 b.1) _ (acts _)
+
+  distribute_holds : (d : Distribution) → Holds (distributes s.view d)
+  distribute_holds (distributors.Widens xs) = widens _
+  distribute_holds Finished = acts Passes
+  distribute_holds (Splits one other xs) = rests _
+
   -- Inputs
 
-  value_holds : (x : Ident) (go : Value → Answer) → ((v : Value) → Given s.view x v → Holds (go v)) → Holds (with_value s.view x go)
+  value_holds : (x : Ident) (go : Value → Answer) → ((v : Value) → KnownValue s.view x v → Holds (go v)) → Holds (with_value s.view x go)
   value_holds x go h = by (value_of s.view x) refl
     where
       by : (o : Option Value) → value_of s.view x ≡ o → Holds (given x o go)
       by None e = rests _
-      by (Some v) e = h v (given_value s.view x v e)
+      by (Some v) e = h v (known_value s.view x v e)
 
   one_holds : (x : Ident) (go : Value → Answer) → ((v : Value) → Holds (go v)) → Holds (with_value s.view x go)
   one_holds x go h = value_holds x go (λ v e. h v)
@@ -150,8 +176,9 @@ module _ (s : Sight) (Holds : Answer → Type 0) (acts : (act : Act) → Holds (
   operation_holds operation.Div x y z = compute_holds quotient x y z
   operation_holds operation.Mod x y z = compute_holds remainder x y z
   operation_holds operation.Select x y z = two_holds x y (selects z) (selects_holds z)
-  operation_holds operation.Bound x y z = rests _
-  operation_holds operation.BoundEach x y z = rests _
+  operation_holds operation.Bound x y z = input_holds (bounds s.view y) (confines s.view (x ∷ [])) (confine_holds (x ∷ []))
+  operation_holds operation.BoundEach x y z =
+      input_holds (both (vector s.view x) (bounds s.view y)) (λ (i : List Ident × (ℤ × ℤ)). confines s.view i.0 i.1) (λ (i : List Ident × (ℤ × ℤ)). confine_holds i.0 i.1)
 
   cell_holds : (x : Ident) (act : ℕ → Act) → Holds (on_cell s x act)
   cell_holds x act =
@@ -170,8 +197,9 @@ module _ (s : Sight) (Holds : Answer → Type 0) (acts : (act : Act) → Holds (
       by true e = operation_on op child x y told e
       by false e = kinds raise.SpaceParent
 
-  on_space_holds : (op : SpaceOperation) (x y : Ident) (v : Value) → Given s.view y v → Holds (of_kind (space_in v) (operates s op x))
-  on_space_holds op x y (value.Space child) g = operates_holds op child x g.variable g.told
+  on_space_holds : (op : SpaceOperation) (x y : Ident) (v : Value) → KnownValue s.view y v → Holds (of_kind (space_in v) (operates s op x))
+  on_space_holds op x y (value.Space child) (was_told g) = operates_holds op child x g.variable g.told
+  on_space_holds op x y (value.Space child) (is_only n e o) = absurd (cc)
   on_space_holds op x y (value.Constant c) g = kinds raise.BadKind
   on_space_holds op x y (value.Record r) g = kinds raise.BadKind
   on_space_holds op x y (value.Procedure p) g = kinds raise.BadKind
@@ -201,6 +229,8 @@ module _ (s : Sight) (Holds : Answer → Type 0) (acts : (act : Act) → Holds (
   answer_holds builtin.Show x = either_holds (is_top s.space) (Acts (Shows (x 0))) (RaisesKind raise.GlobalIo) (acts _) (kinds raise.GlobalIo)
   answer_holds builtin.NewSpace x = one_holds (x 0) (creates (x 0) (x 1)) (create_holds (x 0) (x 1))
   answer_holds builtin.Choose x = one_holds (x 0) (λ v. of_kind (integer_in v) (offered (x 1))) (λ v. kind_holds (integer_in v) (offered (x 1)) (offer_holds (x 1)))
+  answer_holds builtin.Distinct x = input_holds (vector s.view (x 0)) (posts s.view Distinct) (λ xs. acts _)
+  answer_holds builtin.Distribute x = input_holds (distribution s.view (x 0) (x 1)) (distributes s.view) distribute_holds
   answer_holds (builtin.OnSpace op) x = value_holds (x 0) (λ v. of_kind (space_in v) (operates s op (x 1))) (on_space_holds op (x 1) (x 0))
 
   call_holds : (b : Builtin) (xs : List Ident) → Holds (call_answer s b xs)
@@ -241,8 +271,8 @@ module _ (s : Sight) (Holds : Answer → Type 0) (acts : (act : Act) → Holds (
   statement_holds environment (statement.Thread body) = acts _
   statement_holds environment (statement.Try body exception handler) = acts _
   statement_holds environment (statement.Raise name) = terms _
-  statement_holds environment (statement.Post sign constant terms) = rests _
-  statement_holds environment (statement.PostTimes left right product) = rests _
+  statement_holds environment (statement.Post sign constant terms) = acts _
+  statement_holds environment (statement.PostTimes left right product) = acts _
 
   numbered_holds : (environment : Environment) (o : Option Statement) → Holds (numbered_answer s environment o)
   numbered_holds environment (Some st) = statement_holds environment st
