@@ -28,6 +28,7 @@ use Rattle.view_laws.proofs.SightLaws.{space_of, failure_unseen, creation_unseen
 use Rattle.need_laws.proofs.FireLaws.{all_fired}
 use Rattle.need_laws.proofs.AfterLaws.{fired_tree, fired_sound}
 use Rattle.view_laws.specs.Sights.{committed_tells}
+use Rattle.view_laws.proofs.ChoiceLaws.{committed_consistent}
 use Rattle.settle_laws.specs.Edits.{choosing_in}
 use Rattle.settle_laws.proofs.TellLaws.{tell_below}
 use Rattle.settle_laws.specs.Sound.{SoundNothing, SoundTop, SoundSettles, QuietStaysSound, CommittedSettles, FollowedSettles, FollowedLeft, LeftTree, LeftSound, SettledSound, CreatedSound, CommittedSound}
@@ -57,7 +58,7 @@ sound_top layers sound = top_kept [] layers layers (sound_settles [] layers soun
 abbrev Rest : List Layer → List (List ℕ) → Type 0
 Rest layers ts = (l : Layer) → In l layers → is_inconsistent layers l ≡ true → In l.space ts
 
-some_found : {A : Type 0} (test : A → Bool) (xs : List A) (x : A) → In x xs → test x ≡ true → (y : A) × (find test xs ≡ Some y)
+pub some_found : {A : Type 0} (test : A → Bool) (xs : List A) (x : A) → In x xs → test x ≡ true → (y : A) × (find test xs ≡ Some y)
 some_found test [] x h e = elim h [ ]
 some_found {A = A} test (z ∷ xs) x h e = by (test z) refl h (some_found test xs x)
   where
@@ -222,11 +223,11 @@ committed_sound statements space i layers none sound =
     (quiet_stays_sound (telling []) layers space (record { space = λ l. refl; status = λ l. refl; tells = λ l. append-nil l.tells }) sound))
 
 pub committed_settles : CommittedSettles
-committed_settles statements space i layers l at sound fits =
+committed_settles statements space i layers l at sound consistent =
     let ts : List Tell = committed_tells statements layers space i in
     let quiet = are_quiet.choice (sight statements layers space) i in
     record {
-      below = λ t c. tell_below space ts layers l sound at fits t
+      below = λ t c. tell_below space ts layers l sound at (committed_consistent statements layers space i consistent) t
           (subst (λ ss. Contains ss t) (ap inconsistent_spaces (committed_by statements space i layers ts refl) ∙ quiet_inconsistent (choosing_in (sight statements layers space) i) (in_layer space (telling ts) layers) space quiet) c);
       left = refl;
     }

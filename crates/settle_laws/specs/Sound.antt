@@ -1,5 +1,5 @@
 -- Layers in which no space sees what is inconsistent.
-use Rattle.std.specs.Prelude.{ℕ, ◌≡◌, true, false, List, [], ◌++◌, Option, Some, None}
+use Rattle.std.specs.Prelude.{ℕ, ◌≡◌, true, false, List, [], Option, Some, None}
 use Rattle.oz_base.specs.declared.names.Ident.{Ident}
 use Rattle.oz_language.specs.declared.kernel.Statement.{Statement}
 use Rattle.oz_language.specs.declared.kernel.Kernel.{Kernel}
@@ -76,12 +76,11 @@ CommittedSound =
     (statements : List Statement) (space : List ℕ) (i : ℕ) (layers : List Layer) → committed_tells statements layers space i ≡ [] → IsSound layers
     → IsSound (committed statements space i layers)
 
--- Where it tells what is consistent with all that the space sees, only spaces below it fail
+-- Where the space is consistent, only spaces below it fail
 abbrev pub CommittedSettles : Type 0
 CommittedSettles =
     (statements : List Statement) (space : List ℕ) (i : ℕ) (layers : List Layer) (l : Layer) → layer_at layers space ≡ Some l → IsSound layers
-    → is_consistent (view layers space ++ committed_tells statements layers space i) ≡ true
-    → Settles space (committed statements space i layers) (without_inconsistent (committed statements space i layers))
+    → is_consistent (view layers space) ≡ true → Settles space (committed statements space i layers) (without_inconsistent (committed statements space i layers))
 
 -- What follows an edit by the search after which only spaces below one fail is that these fail, what is needed begins, and the queue follows
 abbrev pub FollowedSettles : Type 0

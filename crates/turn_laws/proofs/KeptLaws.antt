@@ -1,13 +1,13 @@
 -- What is so of a configuration is so after each turn, and where a program opens, the search begins, or a space is committed.
-use Rattle.std.proofs.Common.{◌≡◌, inl, inr, ℕ, ◌+◌, ◌≤◌, Bool, true, false, not, ◌&&◌, if◌then◌else◌, List, [], ◌∷◌, ◌++◌, refl, sym, ap, subst, ◌∙◌, Option, Some, None, drop, arith}
+use Rattle.std.proofs.Common.{◌≡◌, inl, inr, ℕ, ◌+◌, ◌≤◌, Bool, true, false, not, ◌&&◌, if◌then◌else◌, List, [], ◌∷◌, ◌++◌, refl, sym, ap, subst, ◌∙◌, Option, Some, None, is_some, drop, arith}
 use Rattle.std.proofs.lemmas.Bool.{false≢true}
-use Rattle.oz_base.specs.Lists.{holds_of}
+use Rattle.oz_base.specs.Lists.{list_eq, holds_of}
 use Rattle.oz_base.specs.declared.names.Ident.{Ident}
 use Rattle.oz_language.specs.declared.kernel.Statement.{Statement}
 use Rattle.oz_language.specs.declared.kernel.Kernel.{Kernel}
 use Rattle.oz_semantics.specs.Names.{is_top, is_below, child_name, space_lt}
 use Rattle.oz_semantics.specs.Store.{View, is_consistent}
-use Rattle.oz_semantics.specs.Configurations.{is_of, layer_of, stack_of, view, in_layer, with_frames, without_terminated, telling, counting_child, spawning, ending, failed, raised_by, frames_of, next_child, new_layer}
+use Rattle.oz_semantics.specs.Configurations.{is_of, layer_at, layer_of, stack_of, view, in_layer, with_frames, without_terminated, telling, counting_child, spawning, ending, failed, raised_by, frames_of, next_child, new_layer}
 use Rattle.oz_semantics.specs.Answers.{Edit, Answer, Acts, Edits, RaisesKind, RaisesTerm, Operates, Widens, Rests}
 use Rattle.oz_semantics.specs.Spaces.{sight, states_of, answer_in}
 use Rattle.oz_semantics.specs.Edits.{starting, created, committing, committed}
@@ -33,19 +33,23 @@ use Rattle.oz_laws.proofs.SameLaws.{In, In-from_contains, contains-from_In, and-
 use Rattle.view_laws.specs.Steps.{IsSound, IsNumbered}
 use Rattle.view_laws.specs.Queues.{is_once}
 use Rattle.view_laws.specs.Needs.{NoneNeeded}
-use Rattle.view_laws.proofs.Members.{decide, not_both, some_of}
+use Rattle.view_laws.proofs.Members.{decide, not_both, some_of, has-left, has-right}
 use Rattle.view_laws.proofs.ListLaws.{in_edit, found_in}
-use Rattle.view_laws.proofs.SightLaws.{creation_unseen, commitment_unseen}
-use Rattle.view_laws.proofs.NameLaws.{equal_names}
+use Rattle.view_laws.proofs.SightLaws.{creation_unseen, commitment_unseen, commitment_seen}
+use Rattle.view_laws.proofs.ChoiceLaws.{committed_consistent}
+use Rattle.view_laws.specs.Sights.{committed_tells}
+use Rattle.view_laws.proofs.NameLaws.{names_equal}
 use Rattle.view_laws.proofs.TreeLaws.{in_put}
 use Rattle.view_laws.proofs.QueueLaws.{queue_exact, queue_once, not_false}
 use Rattle.view_laws.proofs.NumberLaws.{runnable_once}
 use Rattle.need_laws.proofs.FireLaws.{all_fired}
 use Rattle.need_laws.proofs.AfterLaws.{fired_sound}
-use Rattle.need_laws.proofs.RoundLaws.{none_left}
+use Rattle.need_laws.proofs.RoundLaws.{none_left, none_in}
+use Rattle.edit_laws.proofs.NameLaws.{top_is}
 use Rattle.settle_laws.specs.Turns.{opening_layers}
 use Rattle.settle_laws.proofs.FitLaws.{FitsIn, AnswerFits, answer_fits, fits_kept}
-use Rattle.settle_laws.proofs.SoundLaws.{left_sound, sound_top}
+use Rattle.settle_laws.proofs.SoundLaws.{some_found, left_sound, sound_top}
+use Rattle.settle_laws.proofs.TellLaws.{consistent_part}
 use Rattle.settle_laws.proofs.OpeningLaws.{opening_sound}
 use Rattle.settle_laws.proofs.TreeSteps.{opening_tree}
 use Rattle.turn_laws.specs.Orderly.{AreOrderly}
@@ -289,28 +293,61 @@ kept_root statements procedure c kept =
 
 -- Where it commits a space
 
-top_apart : (s t : List ℕ) → is_top s ≡ false → is_top t ≡ true → is_below s t ≡ false
-top_apart [] t e f = absurd (false≢true (sym e))
-top_apart (a ∷ s) [] e f = refl
-top_apart (a ∷ s) (b ∷ t) e f = absurd (false≢true f)
+top_name : (s : List ℕ) → is_top s ≡ true → is_below s [] ≡ true
+top_name [] e = refl
+top_name (n ∷ s) e = absurd (false≢true e)
 
--- the top does not see it
-pub committed_top : (statements : List Statement) (space : List ℕ) (i : ℕ) (layers : List Layer) → is_top space ≡ false → IsSound layers → top_is_inconsistent (committed statements space i layers) ≡ false
-committed_top statements space i layers inner sound = elim (decide (top_is_inconsistent (committed statements space i layers))) [
-  | inl e ↦ (let l = some_of (λ (m : Layer). is_top m.space && is_inconsistent (committed statements space i layers) m) (committed statements space i layers) e in
-      let top = and-left (is_top l.0.space) (is_inconsistent (committed statements space i layers) l.0) l.2 in
-      let bad = and-right (is_top l.0.space) (is_inconsistent (committed statements space i layers) l.0) l.2 in
-      elim (in_edit (is_of space) (committing (sight statements layers space) i) layers l.0 (In-from_contains (committed statements space i layers) l.0 l.1)) [
-        | inl h ↦ absurd (not_both _ bad
-            (ap (λ (v : View). may_fail l.0.status && not (is_consistent v)) (commitment_unseen statements layers space l.0.space i (inl (top_apart space l.0.space inner top)))
-            ∙ sound l.0 (contains-from_In layers l.0 h)))
-        | inr r ↦ absurd (not_both _ (subst (λ s. is_top s ≡ true) (ap (λ (m : Layer). m.space) r.2 ∙ equal_names r.0.space space (found_in (is_of space) (committing (sight statements layers space) i) layers r.0 r.1).1) top) inner)
-      ])
-  | inr e ↦ e
-]
+top_only : (s : List ℕ) → is_below s [] ≡ true → s ≡ []
+top_only [] e = refl
+top_only (n ∷ s) e = absurd (false≢true e)
+
+found_there : (layers : List Layer) (m : Layer) (space : List ℕ) → In m layers → m.space ≡ space → is_some (layer_at layers space) ≡ true
+found_there layers m space h e = ap is_some (some_found (is_of space) layers m h (subst (λ s. list_eq m.space s ≡ true) e (names_equal m.space))).1
+
+and_left_known : (a b c : Bool) → a ≡ true → b ≡ true → (a && (b && not c)) ≡ false → c ≡ true
+and_left_known true true true e f g = refl
+and_left_known true true false e f g = absurd (false≢true (sym g))
+and_left_known true false c e f g = absurd (false≢true f)
+and_left_known false b c e f g = absurd (false≢true e)
+
+-- a layer of the top that may fail saw what is consistent before, and does so still
+module _ (statements : List Statement) (space : List ℕ) (i : ℕ) (layers : List Layer) (sound : top_is_inconsistent layers ≡ false) where
+  abbrev later : List Layer
+  later = committed statements space i layers
+
+  seen_above : (m : Layer) → In m layers → is_top m.space ≡ true → is_consistent (view layers m.space) ≡ true → (b : Bool) → is_below space m.space ≡ b → is_consistent (view later m.space) ≡ true
+  seen_above m h top e false apart = ap is_consistent (commitment_unseen statements layers space m.space i (inl apart)) ∙ e
+  seen_above m h top e true below =
+      let own : space ≡ m.space = top_only space (subst (λ s. is_below space s ≡ true) (top_is m.space top) below) ∙ sym (top_is m.space top) in
+      let besides = commitment_seen statements layers space m.space i (found_there layers m space h (sym own)) below in
+      consistent_part (view later m.space) (view layers m.space ++ committed_tells statements layers space i)
+      (λ t c. elim (besides.only t c) [ inl k ↦ has-left t _ _ k | inr k ↦ has-right t (view layers m.space) _ k ])
+      (subst (λ s. is_consistent (view layers s ++ committed_tells statements layers space i) ≡ true) own
+      (committed_consistent statements layers space i (ap (λ s. is_consistent (view layers s)) own ∙ e)))
+
+  no_top : (m l : Layer) → In m layers → m.space ≡ l.space → m.status ≡ l.status → is_top l.space ≡ true → is_inconsistent later l ≡ true → ⊥
+  no_top m l h same_space same_status top bad =
+      let own_top : is_top m.space ≡ true = ap is_top same_space ∙ top in
+      let before : is_consistent (view layers m.space) ≡ true =
+      and_left_known (is_top m.space) (may_fail m.status) (is_consistent (view layers m.space)) own_top (ap may_fail same_status ∙ and-left (may_fail l.status) _ bad)
+      (none_in (λ (n : Layer). is_top n.space && is_inconsistent layers n) layers sound m h) in
+      not_both _ (and-right (may_fail l.status) _ bad) (ap not (ap (λ s. is_consistent (view later s)) (sym same_space) ∙ seen_above m h own_top before (is_below space m.space) refl))
+
+  -- it leaves a consistent top consistent
+  pub committed_top : top_is_inconsistent later ≡ false
+  committed_top = elim (decide (top_is_inconsistent later)) [
+    | inl e ↦ (let l = some_of (λ (m : Layer). is_top m.space && is_inconsistent later m) later e in
+        let top = and-left (is_top l.0.space) (is_inconsistent later l.0) l.2 in
+        let bad = and-right (is_top l.0.space) (is_inconsistent later l.0) l.2 in
+        elim (in_edit (is_of space) (committing (sight statements layers space) i) layers l.0 (In-from_contains later l.0 l.1)) [
+          | inl h ↦ absurd (no_top l.0 l.0 h refl refl top bad)
+          | inr r ↦ absurd (no_top r.0 l.0 (found_in (is_of space) (committing (sight statements layers space) i) layers r.0 r.1).0 (ap (λ (m : Layer). m.space) (sym r.2)) (ap (λ (m : Layer). m.status) (sym r.2)) top bad)
+        ])
+    | inr e ↦ e
+  ]
 
 pub kept_chosen : KeptChosen
-kept_chosen statements space i c inner kept =
+kept_chosen statements space i c kept =
     left_kept statements None 1 (record c { layers = committed statements space i c.layers })
     (committed_orderly statements space i c.layers (record { tree = kept.tree; top = kept.top; numbered = kept.numbered })) kept.once refl
-    (committed_top statements space i c.layers inner kept.sound)
+    (committed_top statements space i c.layers (sound_top c.layers kept.sound))

@@ -5,7 +5,7 @@ use Rattle.oz_base.specs.Lists.{holds_of}
 use Rattle.oz_base.specs.declared.names.Ident.{Ident}
 use Rattle.oz_language.specs.declared.kernel.Statement.{Statement}
 use Rattle.oz_language.specs.declared.kernel.Kernel.{Kernel}
-use Rattle.oz_semantics.specs.Names.{is_top, is_below}
+use Rattle.oz_semantics.specs.Names.{is_below}
 use Rattle.oz_semantics.specs.Configurations.{layer_at, layer_of, thread_at, is_open, in_layer, with_frames, without_terminated}
 use Rattle.oz_semantics.specs.Sights.{can_step}
 use Rattle.oz_semantics.specs.Spaces.{thread_ready, goes_on}
@@ -74,11 +74,10 @@ KeptOpening = (k : Kernel) → IsKept k.statements (opening k)
 abbrev pub KeptRoot : Type 0
 KeptRoot = (statements : List Statement) (procedure : Ident) (c : Configuration) → IsKept statements c → IsKept statements (with_root statements procedure c)
 
--- and where it commits a space, which is not the top
+-- and where it commits a space
 abbrev pub KeptChosen : Type 0
 KeptChosen =
-    (statements : List Statement) (space : List ℕ) (i : ℕ) (c : Configuration) → is_top space ≡ false → IsKept statements c
-    → IsKept statements (chosen_in statements space i c)
+    (statements : List Statement) (space : List ℕ) (i : ℕ) (c : Configuration) → IsKept statements c → IsKept statements (chosen_in statements space i c)
 
 -- The queue
 

@@ -11,6 +11,7 @@ pub mod FirstLaws
 pub mod TwiceLaws
 pub mod ListLaws
 pub mod SightLaws
+pub mod ChoiceLaws
 pub mod TreeLaws
 pub mod MatchLaws
 pub mod EqualLaws

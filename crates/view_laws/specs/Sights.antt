@@ -5,6 +5,7 @@ use Rattle.oz_base.specs.Lists.{first}
 use Rattle.oz_base.specs.declared.names.Ident.{Ident}
 use Rattle.oz_language.specs.declared.kernel.Statement.{Statement}
 use Rattle.oz_semantics.specs.Names.{is_below, is_properly_below, is_top, parent_of}
+use Rattle.oz_semantics.specs.Store.{is_consistent}
 use Rattle.oz_semantics.specs.Configurations.{layer_at, layer_of, view, in_layer, failed, raised_by, ending}
 use Rattle.oz_semantics.specs.Spaces.{sight}
 use Rattle.oz_semantics.specs.Edits.{chosen_tells, thread_offer, created, committed}
@@ -81,6 +82,12 @@ abbrev pub CommitmentSeen : Type 0
 CommitmentSeen =
     (statements : List Statement) (layers : List Layer) (space other : List ℕ) (i : ℕ) → is_some (layer_at layers space) ≡ true → is_below space other ≡ true
     → SeesBesides (view layers other) (view (committed statements space i layers) other) (committed_tells statements layers space i)
+
+-- A space that is consistent is consistent with what is told with the choice
+abbrev pub CommittedConsistent : Type 0
+CommittedConsistent =
+    (statements : List Statement) (layers : List Layer) (space : List ℕ) (i : ℕ) → is_consistent (view layers space) ≡ true
+    → is_consistent (view layers space ++ committed_tells statements layers space i) ≡ true
 
 -- no layer's space has one of the later layers' spaces above it, nor is it one of them. In the order of names it is so
 abbrev pub is_led : List Layer → Bool
