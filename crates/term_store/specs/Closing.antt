@@ -52,8 +52,9 @@ pub record Closing (ts : List Tell) (g : Ident → Ident) (f : Ident → Option 
   pub stands : (k : ℕ) (y : Ident) (w : Value) → slice_get ts k ≡ Some (Is y w) → Stands ts g f ps k y w
 
 -- a closing in course, over a table
-abbrev pub Going : List Tell → Table → List (Ident × Ident) → Type 0
-Going ts t ps = Closing ts (root_in t) (first_in t) ps
+pub record Going (ts : List Tell) (t : Table) (ps : List (Ident × Ident)) : Type 0 where
+  pub values : Closing ts (root_in t) (first_in t) ps
+  pub bounds : Bounded ts (root_in t) (first_in t) (domain_in t)
 
 -- What of one class was equal before, or the list meets both
 abbrev pub Tied : List Tell → List Ident → (Ident → Ident) → Type 0
@@ -97,12 +98,7 @@ Settles ts t t' now now' true = Going ts t' [] × Follows now now' t t'
 Settles ts t t' now now' false = is_consistent ts ≡ false
 
 -- the joining of two classes that have the values v and w, told at p and q
-abbrev pub TakesValues : Table → Table → Ident → Ident → ℕ → ℕ → Value → Value → List (Ident × Ident) → List (Ident × Ident) → Bool → Type 0
-TakesValues t t' x y p q v w ps ps' true = (is_like v w ≡ true) × UnitesAt t t' x y (min p q) × (ps' ≡ ps ++ zip (fields_of v) (fields_of w))
-TakesValues t t' x y p q v w ps ps' false = is_like v w ≡ false
-
--- the joining of two classes
-pub data Takes (ts : List Tell) (t t' : Table) (x y : Ident) (ps ps' : List (Ident × Ident)) (goes : Bool) : Type 0 where
-  free : goes ≡ true → UnitesFree t t' x y → ps' ≡ ps → Takes ts t t' x y ps ps' goes
-  valued : (p q : ℕ) → first_in t x ≡ Some p → first_in t y ≡ Some q
-      → ((v w : Value) → value_at ts p ≡ Some v → value_at ts q ≡ Some w → TakesValues t t' x y p q v w ps ps' goes) → Takes ts t t' x y ps ps' goes
+abbrev pub TakesValues : List Tell → Table → Table → Ident → Ident → ℕ → ℕ → Value → Value → List (Ident × Ident) → List (Ident × Ident) → Bool → Type 0
+TakesValues ts t t' x y p q v w ps ps' true =
+    (is_like v w ≡ true) × TakesKept (Some (min p q)) UnitesWith × (ps' ≡ ps ++ zip (fields_of v) (fields_of w))
+TakesValues ts t t' x y p q v w ps ps' false = is_like v w ≡ false
