@@ -1,5 +1,5 @@
 -- Whether intervals have all integers of others.
-use Rattle.std.proofs.Common.{◌≡◌, ◌∙◌, ℕ, zero, suc, ◌+◌, ◌==◌, ◌<◌, ◌≤◌, ℤ, pos, ◌+ℤ◌, ◌≤ℤ◌, ◌<ℤ◌, Bool, true, false, not, int_le, List, [], ◌∷◌, ◌⊎◌, inl, inr, refl, sym, ap, subst, arith, length, drop, length-drop}
+use Rattle.std.proofs.Common.{◌≡◌, ◌∙◌, ℕ, suc, ◌+◌, ◌==◌, ◌<◌, ◌≤◌, ℤ, pos, ◌+ℤ◌, ◌≤ℤ◌, ◌<ℤ◌, Bool, true, false, not, int_le, List, [], ◌∷◌, ◌⊎◌, inl, inr, refl, sym, ap, subst, arith, length, drop, length-drop}
 use Rattle.std.proofs.lemmas.Int.{ints}
 use Rattle.std.proofs.lemmas.List.{get_or-drop}
 use Rattle.std.proofs.lemmas.Bool.Decides.{nat_tests}
@@ -7,7 +7,7 @@ use Rattle.std.specs.Ordering.{int_cmp}
 use Rattle.std.specs.FinSet as set
 use Rattle.oz_base.specs.declared.interval.Interval.{Interval}
 use Rattle.oz_domains.specs.Domains.{IntSet, Has, union, among, is_within}
-use Rattle.fd_domain.specs.Covering.{HasAll, LacksOne}
+use Rattle.fd_domain.specs.Covering.{Ends, HasAll, LacksOne}
 use Rattle.fd_domain.specs.Parts.{interval_at, interval_has, IsPlace}
 use Rattle.fd_domain.proofs.SetLaws.{int_cases, has-empty, retain_has, or_cases, and_left, and_right, and_both}
 use Rattle.fd_domain.proofs.IntervalLaws.{contains-is, le_true, true_le}
@@ -47,6 +47,25 @@ walked is low v top k p e old w h l = elim (int_cases w v) [
   ]
 ]
 
+-- the last integer that is looked for is in the interval
+pub ends_at : (is : List Interval) (low v high : ℤ) (k : ℕ) → IsPlace v is k → high ≤ℤ (interval_at is k).high → v ≤ℤ high → ((w : ℤ) → low ≤ℤ w → w <ℤ v → among is w ≡ true) → Ends is low high k
+ends_at is low v high k p h l old = record {
+  all = λ w a b. walked is low v (interval_at is k).high k p refl old w a (omega (arith, ints, h, b));
+  last = above_place is v high k p l h;
+}
+
+-- or the next one comes after the interval
+pub walk_on : (is : List Interval) (low v high next : ℤ) (k : ℕ) → IsPlace v is k → (interval_at is k).high <ℤ high → next ≡ (interval_at is k).high +ℤ pos 1 → low ≤ℤ v → ((w : ℤ) → low ≤ℤ w → w <ℤ v → among is w ≡ true)
+    → (k ≤ length is) × (low ≤ℤ next) × (next ≤ℤ high) × ((w : ℤ) → low ≤ℤ w → w <ℤ next → among is w ≡ true)
+walk_on is low v high next k p h e l old =
+    let i = interval_at is k in
+    let reaches = le_true v i.high (and_right (int_le i.low v) (int_le v i.high) p.has) in (
+      omega (arith, p.inside),
+      omega (arith, ints, l, reaches, e),
+      omega (arith, ints, h, e),
+      λ w a b. walked is low v i.high k p refl old w a (omega (arith, ints, b, e)),
+    )
+
 -- one interval more of which all integers are there
 pub have_more : (is os : List Interval) (n : ℕ) (i : Interval) → interval_at os n ≡ i → ((v : ℤ) → i.low ≤ℤ v → v ≤ℤ i.high → among is v ≡ true)
     → ((j : ℕ) → j < n → (v : ℤ) → interval_has v (interval_at os j) ≡ true → among is v ≡ true) → (j : ℕ) → j < n + 1 → (v : ℤ) → interval_has v (interval_at os j) ≡ true → among is v ≡ true
@@ -79,12 +98,12 @@ no_members s e = ap (λ z. set.len z == 0) e ∙ ap (λ n. n == 0) (set.len-empt
 pub some_members : (s : IntSet) (q : ℤ) → Has s q → (set.len s == 0) ≡ false
 some_members s q h = by (set.len s == 0) refl
   where
+    zero_is : (n : ℕ) → (n == 0) ≡ true → n ≡ 0
+    zero_is n e = grind (arith, nat_tests)
+
     by : (b : Bool) → (set.len s == 0) ≡ b → b ≡ false
     by true e = absurd (has-empty q (subst (λ z. Has z q) (set.empty_of_len s (zero_is (set.len s) e)) h))
     by false e = refl
-
-    zero_is : (n : ℕ) → (n == 0) ≡ true → n ≡ 0
-    zero_is n e = grind (arith, nat_tests)
 
 not_true : (b : Bool) → b ≡ true → not b ≡ true → ⊥
 not_true true e f = cc
@@ -101,5 +120,5 @@ within_false s os is e l =
     (retain_has s (λ v. not (among is v)) l.value (subst (λ z. Has z l.value) e (contains-is os l.value ∙ l.there)) (ap not l.missing))
 
 pub within_is : (s : IntSet) (os is : List Interval) (b : Bool) → union os ≡ s → (b ≡ true → HasAll is os) → (b ≡ false → LacksOne is os) → b ≡ is_within is s
-within_is s os is true e yes _ = sym (within_true s os is e (yes refl))
-within_is s os is false e _ lacks = sym (within_false s os is e (lacks refl))
+within_is s os is true e all lacks = sym (within_true s os is e (all refl))
+within_is s os is false e all lacks = sym (within_false s os is e (lacks refl))

@@ -2,7 +2,7 @@
 use Rattle.std.specs.Prelude.{◌≡◌, ℕ, ℤ, ◌≤ℤ◌, true, false, List}
 use Rattle.oz_base.specs.declared.interval.Interval.{Interval}
 use Rattle.oz_domains.specs.Domains.{among}
-use Rattle.fd_domain.specs.Parts.{interval_at, interval_has, IsPlace}
+use Rattle.fd_domain.specs.Parts.{IsPlace}
 
 -- each integer of the others
 abbrev pub HasAll : List Interval → List Interval → Type 0

@@ -10,3 +10,5 @@ pub mod Pairs
 pub mod ToldLaws
 pub mod LogLaws
 pub mod TellingLaws
+pub mod BoundLaws
+pub mod ConsistencyLaws

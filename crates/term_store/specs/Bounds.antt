@@ -34,6 +34,11 @@ Meeting one other (Left domain) = (domain ≡ meets one other) × AreDomain doma
 abbrev pub has_value : IntSet → Value → Bool
 has_value s v = holds_of (set.contains s) (integer_in v)
 
+-- and of the domain, if there is one
+abbrev pub admits : Option IntSet → Value → Bool
+admits None v = true
+admits (Some s) v = has_value s v
+
 -- the value at the place, if there is one, is an integer of the domain, if there is one
 abbrev pub Suits : List Tell → Option ℕ → Option IntSet → Type 0
 Suits ts first domain = (p : ℕ) (v : Value) (s : IntSet) → first ≡ Some p → value_at ts p ≡ Some v → domain ≡ Some s → has_value s v ≡ true
@@ -47,6 +52,11 @@ pub record Clashes (ts : List Tell) (first : Option ℕ) (domain : Option IntSet
   pub told : value_at ts place ≡ Some value
   pub left : domain ≡ Some integers
   pub missing : has_value integers value ≡ false
+
+-- whether it is
+abbrev pub Fits : List Tell → Option ℕ → Option IntSet → Bool → Type 0
+Fits ts first domain true = Suits ts first domain
+Fits ts first domain false = Clashes ts first domain
 
 -- what is kept of a class that two domains are told, and whose first value is at the place, if there is one: not if nothing is left,
 -- or the value is no integer that is

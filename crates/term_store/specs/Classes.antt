@@ -1,5 +1,5 @@
 -- Classes of variables: trees, each of whose roots stands for a class.
-use Rattle.std.specs.Prelude.{ℕ, zero, suc, ◌≡◌, ◌↔◌, ◌⊎◌, ◌<◌, Bool, true, false, if◌then◌else◌, IsTrue, List, Option, Some, None}
+use Rattle.std.specs.Prelude.{ℕ, zero, suc, ◌≡◌, ◌↔◌, ◌⊎◌, ◌<◌, Bool, true, false, if◌then◌else◌, IsTrue, List, Option, Some, None, is_some}
 use Rattle.ident_map.specs.Entries.{entry}
 use Rattle.ident_map.specs.declared.map.Row.{Row}
 use Rattle.oz_base.specs.Names.{ident_eq}
@@ -122,12 +122,16 @@ UnitesFree t t' x y =
     ⊎ ((is_nothing (kept_in t y) ≡ true) × Unites t t' y x (kept_in t x))
 
 -- one of two stands for both, of which this is kept
-abbrev pub UnitesWith : Table → Table → Ident → Ident → Kept → Type 0
-UnitesWith t t' x y kept = Unites t t' x y kept ⊎ Unites t t' y x kept
+abbrev pub UnitesAny : Table → Table → Ident → Ident → Kept → Type 0
+UnitesAny t t' x y kept = Unites t t' x y kept ⊎ Unites t t' y x kept
 
--- where the other has no value
-abbrev pub UnitesValueless : Table → Table → Ident → Ident → Kept → Type 0
-UnitesValueless t t' x y kept = ((first_in t x ≡ None) × Unites t t' x y kept) ⊎ ((first_in t y ≡ None) × Unites t t' y x kept)
+-- a class that has no value is put below another, or below one that has a value
+abbrev pub IsLower : Table → Ident → Ident → Type 0
+IsLower t under over = (first_in t under ≡ None) ⊎ (is_some (first_in t over) ≡ true)
+
+-- likewise, the lower one below
+abbrev pub UnitesWith : Table → Table → Ident → Ident → Kept → Type 0
+UnitesWith t t' x y kept = (IsLower t x y × Unites t t' x y kept) ⊎ (IsLower t y x × Unites t t' y x kept)
 
 -- the classes of a table are those of variables that the tells make equal
 pub record IsPartition (ts : List Tell) (t : Table) : Type 0 where

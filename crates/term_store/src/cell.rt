@@ -46,15 +46,9 @@ impl Copies for Kept {
 #[derive(Drop)]
 pub enum Cell {
     /// It stands below another variable of its class.
-    Below {
-        parent: Ident,
-        rank: u8,
-    },
+    Below { parent: Ident, rank: u8 },
     /// It stands for its class.
-    Root {
-        rank: u8,
-        kept: Kept,
-    },
+    Root { rank: u8, kept: Kept },
 }
 
 impl Copies for Cell {

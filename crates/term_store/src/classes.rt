@@ -2,7 +2,7 @@
 ghost use Rattle.std.specs.Prelude.{◌≡◌, ◌<◌, ◌⊎◌, true, false, None, IfOk, OnOk, OnErr, option_copied};
 ghost use Rattle.oz_base.specs.Names.{ident_eq};
 ghost use Rattle.ident_map.specs.Entries.{entry};
-ghost use Rattle.term_store.specs.Classes.{link_in, rank_of, first_of, domain_of, kept_of, rank_in, first_in, domain_in, kept_in, root_in, is_nothing, IsTop, Likewise, Marks, Unites, UnitesOne, UnitesFree, UnitesWith, UnitesValueless};
+ghost use Rattle.term_store.specs.Classes.{link_in, rank_of, first_of, domain_of, kept_of, rank_in, first_in, domain_in, kept_in, root_in, is_free, is_nothing, IsTop, Likewise, Marks, Unites, UnitesOne, UnitesFree, UnitesAny, UnitesWith};
 
 use crate::cell::{Cell, Kept};
 use crate::class_domain::ClassDomain;
@@ -20,6 +20,18 @@ pub struct Found<'a> {
     pub first: Option<u64>,
     /// The integers that all domains have which were told of the class.
     pub domain: Option<&'a Shared<ClassDomain>>,
+}
+
+impl<'a> Found<'a> {
+    /// Whether the class has neither a value nor a domain.
+    pub fn has_nothing(&self) -> bool
+        ensures { result ≡ is_free self.now.first (option_copied self.now.domain) }
+    {
+        match (self.first, self.domain) {
+            (None, None) => true,
+            _ => false,
+        }
+    }
 }
 
 fn rank_of(cell: Option<&Cell>) -> u8
@@ -289,7 +301,26 @@ impl Classes {
         Ok(())
     }
 
-    /// Joins the classes that two variables stand for, of which this is kept.
+    /// Puts the lower tree of two below the other.
+    fn put_lower_with(
+        &mut self,
+        alloc: Global,
+        left: &Ident,
+        right: &Ident,
+        kept: Kept,
+    ) -> Result<(), AllocError>
+        requires left { IsTop self.old left.now }
+        requires right { IsTop self.old right.now }
+        requires apart { ident_eq left.now right.now ≡ false }
+        ensures { OnOk result (UnitesAny self.old self.new left.now right.now kept) }
+    {
+        if self.rank(left) < self.rank(right) {
+            return self.put_with(alloc, left, right, kept);
+        }
+        self.put_with(alloc, right, left, kept)
+    }
+
+    /// Joins the classes that two variables stand for, of which this is kept. Where one alone has a value, it stands for both.
     pub fn unite_with(
         &mut self,
         alloc: Global,
@@ -302,31 +333,11 @@ impl Classes {
         requires apart { ident_eq left.now right.now ≡ false }
         ensures { OnOk result (UnitesWith self.old self.new left.now right.now kept) }
     {
-        if self.rank(left) < self.rank(right) {
-            return self.put_with(alloc, left, right, kept);
-        }
-        self.put_with(alloc, right, left, kept)
-    }
-
-    /// Joins the classes that two variables stand for, of which this is kept, and one of which has no value: one that has a value stands
-    /// for both.
-    pub fn unite_valueless(
-        &mut self,
-        alloc: Global,
-        left: &Ident,
-        right: &Ident,
-        kept: Kept,
-    ) -> Result<(), AllocError>
-        requires left { IsTop self.old left.now }
-        requires right { IsTop self.old right.now }
-        requires apart { ident_eq left.now right.now ≡ false }
-        requires free { (first_in self.old left.now ≡ None) ⊎ (first_in self.old right.now ≡ None) }
-        ensures { OnOk result (UnitesValueless self.old self.new left.now right.now kept) }
-    {
         match (self.first(left), self.first(right)) {
-            (None, None) => self.unite_with(alloc, left, right, kept),
             (None, Some(_)) => self.put_with(alloc, left, right, kept),
-            (Some(_), _) => self.put_with(alloc, right, left, kept),
+            (Some(_), None) => self.put_with(alloc, right, left, kept),
+            (None, None) => self.put_lower_with(alloc, left, right, kept),
+            (Some(_), Some(_)) => self.put_lower_with(alloc, left, right, kept),
         }
     }
 }

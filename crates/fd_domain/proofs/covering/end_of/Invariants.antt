@@ -1,7 +1,7 @@
 use Rattle.std.proofs.Common.{◌≡◌, ◌≤◌, ℤ, pos, ◌+ℤ◌, ◌≤ℤ◌, ◌<ℤ◌, true, length}
 use Rattle.std.specs.Int.{int_gap}
 use Rattle.oz_domains.specs.Domains.{among}
-use Rattle.fd_domain.proofs.covers.end_of.Given as goal
+use Rattle.fd_domain.proofs.covering.end_of.Given as goal
 
 -- the intervals have all integers before the one that is looked for
 abbrev pub invariant-walk : goal.invariant-walk

@@ -1,7 +1,7 @@
 use Rattle.std.proofs.Common.{pos, ◌-ℤ◌, ◌≤ℤ◌, ◌↔◌, drop}
 use Rattle.oz_base.specs.declared.interval.TheConstants.{LEAST_VALUE, GREATEST_VALUE}
 use Rattle.oz_domains.specs.Domains.{AreApart}
-use Rattle.fd_domain.proofs.covers.are_apart.Given as goal
+use Rattle.fd_domain.proofs.covering.are_apart.Given as goal
 
 -- those that were passed are apart
 abbrev pub invariant-loop-interval : goal.invariant-loop-interval
