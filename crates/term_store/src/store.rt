@@ -114,30 +114,14 @@ impl Store {
         }
     }
 
-    /// What is left to a variable's class of the domains that it was told, with its one value.
-    fn class_domain(&self, variable: &Ident) -> Option<&Shared<ClassDomain>>
-        ensures { option_copied result ≡ told_domain self.now variable.now }
-    {
-        self.classes.find(variable).domain
-    }
-
     /// The integers that all domains have which a variable's class was told, if it was told one.
     pub fn told_domain(&self, variable: &Ident) -> Option<&Domain>
         ensures { option_copied result ≡ told_domain self.now variable.now }
     {
-        match self.class_domain(variable) {
+        let root = self.classes.root(variable);
+        match self.classes.domain(root) {
             None => None,
             Some(domain) => Some(domain.get().domain()),
-        }
-    }
-
-    /// The one value of the domain of a variable's class.
-    fn only_value(&self, variable: &Ident) -> Option<&Value>
-        ensures { option_copied result ≡ option_map integer (option_and_then only (told_domain self.now variable.now)) }
-    {
-        match self.class_domain(variable) {
-            None => None,
-            Some(domain) => domain.get().value(),
         }
     }
 
@@ -145,9 +129,10 @@ impl Store {
     pub fn value(&self, variable: &Ident) -> Option<&Value>
         ensures { option_copied result ≡ value_of self.now variable.now }
     {
-        match self.told_value(variable) {
-            None => self.only_value(variable),
-            Some(value) => Some(value),
+        let found = self.classes.find(variable);
+        match found.first {
+            None => only_value(self.classes.domain(found.root)),
+            Some(place) => self.log.value(place),
         }
     }
 
@@ -415,6 +400,16 @@ impl Store {
             [tell] => self.tell_one(alloc, tell, touched),
             _ => self.tell_each(alloc, tells, touched),
         }
+    }
+}
+
+/// The one integer of the domain, if there is one, and it has no other.
+fn only_value(domain: Option<&Shared<ClassDomain>>) -> Option<&Value>
+    ensures { option_copied result ≡ option_map integer (option_and_then only (option_copied domain.entry)) }
+{
+    match domain {
+        None => None,
+        Some(domain) => domain.get().value(),
     }
 }
 
