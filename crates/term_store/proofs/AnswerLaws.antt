@@ -1,17 +1,23 @@
 -- What a store answers.
-use Rattle.std.proofs.Common.{ℕ, ◌≡◌, ◌∙◌, Bool, true, false, List, [], Option, Some, None, is_some, refl, sym, ap, ap₂, subst}
+use Rattle.std.proofs.Common.{ℕ, ℤ, ◌≡◌, ◌∙◌, inl, inr, Bool, true, false, List, [], Option, Some, None, is_some, refl, sym, ap, ap₂, subst, arith}
 use Rattle.std.proofs.lemmas.Bool.{false≢true}
-use Rattle.std.specs.Option.{option_and_then}
+use Rattle.std.proofs.lemmas.Int.{ints}
+use Rattle.std.specs.FinSet as set
+use Rattle.std.specs.Option.{option_and_then, option_map}
 use Rattle.ident_map.specs.Entries.{entry}
 use Rattle.oz_base.specs.IdentLaws.{ident_eq-equal, ident_eq-itself}
+use Rattle.oz_base.specs.Lists.{given_or, holds_of}
 use Rattle.oz_base.specs.Names.{ident_eq}
+use Rattle.oz_base.specs.declared.interval.Interval.{Interval}
 use Rattle.oz_base.specs.declared.names.Ident.{Ident}
-use Rattle.oz_domains.specs.Domains.{IntSet}
+use Rattle.oz_domains.specs.Domains.{IntSet, Has, single, only, among, is_within}
+use Rattle.fd_domain.proofs.SetLaws.{has-empty, with_run-cases, with_run-new}
+use Rattle.oz_laws.proofs.DomainLaws.{within-among, among-within}
 use Rattle.oz_laws.proofs.SameLaws.{tests_same}
-use Rattle.oz_semantics.specs.Store.{Same, same, told_value, told_domain, is_consistent}
+use Rattle.oz_semantics.specs.Store.{same, told_value, told_domain, value_of, domain_of, domain_by, is_consistent}
+use Rattle.oz_semantics.specs.Values.{integer, integer_in}
 use Rattle.oz_semantics.specs.declared.value.Value.{Value}
 use Rattle.oz_semantics.specs.declared.value.Tell.{Tell}
-use Rattle.term_store.specs.Bounds.{left_by}
 use Rattle.term_store.specs.Classes.{Table, link_of, first_of, domain_of, root_in, first_in, domain_in, kept_in, is_free, is_nothing, IsPartition, Likewise}
 use Rattle.term_store.specs.Closing.{Going}
 use Rattle.term_store.specs.Places.{value_told, value_at, value_place}
@@ -79,6 +85,57 @@ module _ (ts : List Tell) (t : Table) (c : Going ts t []) where
   domain_is x =
       c.bounds.left (root_in t x) (c.values.idem x)
       ∙ left_same (λ y. ident_eq (root_in t y) (root_in t x)) (λ y. same ts y x) ts (λ y. same_is y x)
+
+  -- the value of a class, by what is kept of it
+  module _ (x root : Ident) (is_root : root ≡ root_in t x) where
+    first_place : first_in t root ≡ value_place ts x
+    first_place = ap (first_in t) is_root ∙ place_at x
+
+    pub domain_kept : (domain : Option IntSet) → domain ≡ domain_in t root → domain ≡ told_domain ts x
+    domain_kept domain e = e ∙ ap (domain_in t) is_root ∙ domain_is x
+
+    pub value_at_first : (p : ℕ) → first_in t root ≡ Some p → value_at ts p ≡ value_of ts x
+    value_at_first p e =
+        let at : value_place ts x ≡ Some p = sym first_place ∙ e in
+        let v = valued_at x p at in
+        let told : told_value ts x ≡ Some v.0 = sym (value_is x) ∙ ap (option_and_then (value_at ts)) at ∙ v.1 in
+        v.1 ∙ sym (ap (λ o. given_or o (option_map integer (option_and_then only (told_domain ts x)))) told)
+
+    pub value_only : first_in t root ≡ None → (domain : Option IntSet) → domain ≡ domain_in t root → option_map integer (option_and_then only domain) ≡ value_of ts x
+    value_only e domain f =
+        let untold : told_value ts x ≡ None = sym (value_is x) ∙ ap (option_and_then (value_at ts)) (sym first_place ∙ e) in
+        ap (λ d. option_map integer (option_and_then only d)) (domain_kept domain f)
+        ∙ sym (ap (λ o. given_or o (option_map integer (option_and_then only (told_domain ts x)))) untold)
+
+-- Domains of values
+
+has_single : (n m : ℤ) → Has (single n) m → m ≡ n
+has_single n m h = elim (with_run-cases n 1 set.empty m h) [
+  | inl k ↦ omega (arith, ints, k.0, k.1)
+  | inr e ↦ absurd (has-empty m e)
+]
+
+single_has : (n : ℤ) → Has (single n) n
+single_has n = with_run-new n 1 set.empty n (omega (arith, ints)) (omega (arith, ints))
+
+within_single : (is : List Interval) (n : ℤ) → among is n ≡ is_within is (single n)
+within_single is n = by (among is n) (is_within is (single n)) refl refl
+  where
+    by : (a b : Bool) → among is n ≡ a → is_within is (single n) ≡ b → a ≡ b
+    by true true e f = refl
+    by false false e f = refl
+    by true false e f = sym (among-within is (single n) (λ m h. ap (among is) (has_single n m h) ∙ e)) ∙ f
+    by false true e f = sym e ∙ within-among is (single n) f n (single_has n)
+
+pub value_keeps : (ts : List Tell) (x : Ident) (is : List Interval) (v : Value) → told_value ts x ≡ Some v → holds_of (among is) (integer_in v) ≡ holds_of (is_within is) (domain_of ts x)
+value_keeps ts x is v e = by (integer_in v) ∙ ap (λ o. holds_of (is_within is) (domain_by o (told_domain ts x))) (sym e)
+  where
+    by : (o : Option ℤ) → holds_of (among is) o ≡ holds_of (is_within is) (option_map single o)
+    by None = refl
+    by (Some n) = within_single is n
+
+pub domain_keeps : (ts : List Tell) (x : Ident) (is : List Interval) → told_value ts x ≡ None → holds_of (is_within is) (told_domain ts x) ≡ holds_of (is_within is) (domain_of ts x)
+domain_keeps ts x is e = ap (λ o. holds_of (is_within is) (domain_by o (told_domain ts x))) (sym e)
 
 -- What is kept of a class that was found
 

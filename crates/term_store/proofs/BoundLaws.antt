@@ -85,6 +85,15 @@ left_push test (u ∷ ts) t =
     ∙ sym (meets_assoc (set_given test u) (left_by test ts) (set_given test t))
     ∙ ap (λ d. meets d (set_given test t)) (sym (left_cons test u ts))
 
+-- more tells
+pub left_append : (test : Ident → Bool) (ts us : List Tell) → left_by test (ts ++ us) ≡ meets (left_by test ts) (left_by test us)
+left_append test [] us = refl
+left_append test (t ∷ ts) us =
+    left_cons test t (ts ++ us)
+    ∙ ap (meets (set_given test t)) (left_append test ts us)
+    ∙ sym (meets_assoc (set_given test t) (left_by test ts) (left_by test us))
+    ∙ ap (λ d. meets d (left_by test us)) (sym (left_cons test t ts))
+
 abbrev pub either : (Ident → Bool) → (Ident → Bool) → Ident → Bool
 either p q y = p y || q y
 

@@ -9,14 +9,6 @@ use Rattle.oz_semantics.specs.declared.value.Value.{Value}
 use Rattle.oz_semantics.specs.declared.value.Tell.{Tell}
 use Rattle.oz_semantics.specs.declared.value.Tell.TheVariants.{Equal, Is, Within}
 
-first_same : {A B : Type 0} (f g : A → Option B) → ((x : A) → f x ≡ g x) → (xs : List A) → first_given f xs ≡ first_given g xs
-first_same f g h [] = refl
-first_same f g h (x ∷ xs) = ap (λ o. given_or o (first_given f xs)) (h x) ∙ ap (given_or (g x)) (first_same f g h xs)
-
--- equal variables have one value
-pub value_same : (ts : List Tell) (x y : Ident) → Same ts x y → told_value ts x ≡ told_value ts y
-value_same ts x y s = first_same (value_given (λ z. same ts z x)) (value_given (λ z. same ts z y)) (given_row ts x y s) ts
-
 given_some : (f : Tell → Option Value) (ts : List Tell) (t : Tell) (v : Value) → Contains ts t → f t ≡ Some v → (u : Value) × (first_given f ts ≡ Some u)
 given_some f [] t v (k, l, q) e = absurd (omega (arith, l))
 given_some f (s ∷ ts) t v (zero, l, q) e = (v, ap (λ o. given_or o (first_given f ts)) (ap f q ∙ e))
@@ -30,7 +22,7 @@ given_some f (s ∷ ts) t v (suc k, l, q) e = by (f s) (given_some f ts t v (k, 
 pub some_told : (ts : List Tell) (x : Ident) (v : Value) → Contains ts (Is x v) → (u : Value) × (told_value ts x ≡ Some u)
 some_told ts x v c = given_some (value_given (λ y. same ts y x)) ts (Is x v) v c (ap (λ (b : Bool). if b then Some v else None) ((tests_same ts x x).1 itself))
 
-given_by : (f : Tell → Option Value) (ts : List Tell) (u : Value) → first_given f ts ≡ Some u → (t : Tell) × Contains ts t × (f t ≡ Some u)
+pub given_by : (f : Tell → Option Value) (ts : List Tell) (u : Value) → first_given f ts ≡ Some u → (t : Tell) × Contains ts t × (f t ≡ Some u)
 given_by f [] u e = cc
 given_by f (s ∷ ts) u e = by (f s) refl e (given_by f ts u)
   where

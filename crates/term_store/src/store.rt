@@ -280,7 +280,7 @@ impl Store {
         let rank = found.rank;
         let kept = Kept {
             first: Some(self.log.len()),
-            domain: copied(alloc, found.domain)?,
+            domain: domain_copy(alloc, found.domain)?,
         };
         let tell = binding(alloc, variable, value)?;
         touched.push(variable.copied(alloc)?)?;
@@ -443,7 +443,7 @@ fn has_value(domain: Option<&Shared<ClassDomain>>, value: &Value) -> bool
     }
 }
 
-fn copied(
+fn domain_copy(
     alloc: Global,
     domain: Option<&Shared<ClassDomain>>,
 ) -> Result<Option<Shared<ClassDomain>>, AllocError>
