@@ -10,3 +10,7 @@ pub mod Pairs
 pub mod ToldLaws
 pub mod LogLaws
 pub mod TellingLaws
+pub mod AnswerLaws
+pub mod SequenceLaws
+pub mod BoundLaws
+pub mod ConsistencyLaws

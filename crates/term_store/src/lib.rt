@@ -3,6 +3,7 @@
 #![tactic(auto)]
 
 mod cell;
+mod class_domain;
 mod classes;
 mod closing;
 mod log;
@@ -15,5 +16,7 @@ pub use places::place_law;
 pub use store::Store;
 pub use values::{fields_of, is_like};
 
+#[cfg(test)]
+mod domain_tests;
 #[cfg(test)]
 mod tests;
