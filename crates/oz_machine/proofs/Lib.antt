@@ -10,5 +10,6 @@ pub mod AwakeLaws
 pub mod StepEdits
 pub mod RunLaws
 pub mod ToldLaws
+pub mod AbleLaws
 pub mod OpeningLaws
 pub mod EditingLaws

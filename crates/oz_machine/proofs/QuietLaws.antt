@@ -48,7 +48,8 @@ use Rattle.turn_laws.specs.Kept.{IsKept, IsThere}
 use Rattle.turn_laws.proofs.OrderlyLaws.{changes_orderly, stack_orderly}
 use Rattle.turn_laws.proofs.HeadLaws.{mover_alone, kept_layers, kept_head, head_numbered, kept_changes, kept_stack}
 use Rattle.unneeded_laws.specs.Unneeded.{adds_trigger}
-use Rattle.oz_machine.specs.Quiet.{top_steps, able_in, able_of, delays, IsHead, news_of, names_in}
+use Rattle.quiet_laws.specs.Unknown.{given_by}
+use Rattle.oz_machine.specs.Quiet.{top_steps, able_in, able_of, delays, gives_out, IsHead, news_of, names_in}
 use Rattle.oz_acts.proofs.PlaceLaws.{layer_of_name}
 
 -- What the first statement of a thread can do
@@ -109,7 +110,7 @@ pub popped_next : (id : Ident) (layers : List Layer) → layer_at layers id.spac
 popped_next id layers at = ap (λ (l : Layer). l.next) (popped_layer id layers at)
 
 -- it is as open as before
-made_open : (id : Ident) (layers result : List Layer) (before : Layer) (news : List Thread) (made : MadeOf id layers result before news) → layer_at layers id.space ≡ Some before → is_of id.space before ≡ true
+pub made_open : (id : Ident) (layers result : List Layer) (before : Layer) (news : List Thread) (made : MadeOf id layers result before news) → layer_at layers id.space ≡ Some before → is_of id.space before ≡ true
     → is_open before.status ≡ true → is_open (layer_of result id.space).status ≡ true
 made_open id layers result before news made at same opened =
     let after = made.after in
@@ -120,14 +121,14 @@ made_open id layers result before news made at same opened =
 -- New threads
 
 -- either it stands there or none does
-alone_among : (b c : Bool) (n m : Ident) → m ≡ n → ident_eq n n ≡ true → (if b then (if c then m ∷ [] else []) else []) ≡ (if is_among (if b then (if c then m ∷ [] else []) else []) n then n ∷ [] else [])
+pub alone_among : (b c : Bool) (n m : Ident) → m ≡ n → ident_eq n n ≡ true → (if b then (if c then m ∷ [] else []) else []) ≡ (if is_among (if b then (if c then m ∷ [] else []) else []) n then n ∷ [] else [])
 alone_among true true n m e same =
     ap (λ (i : Ident). i ∷ []) e ∙ sym (ap (λ (d : Bool). if d || false then n ∷ [] else []) (ap (ident_eq n) e ∙ same))
 alone_among true false n m e same = refl
 alone_among false c n m e same = refl
 
 -- a list of one
-alone_in : (b : Bool) (p : Thread → Bool) (space : List ℕ) (t : Thread)
+pub alone_in : (b : Bool) (p : Thread → Bool) (space : List ℕ) (t : Thread)
     → (if b then map (λ (u : Thread). named space u.number) (filter p (t ∷ [])) else []) ≡ (if b then (if p t then named space t.number ∷ [] else []) else [])
 alone_in false p space t = refl
 alone_in true p space t = by (p t) refl
@@ -136,16 +137,16 @@ alone_in true p space t = by (p t) refl
     by true e = rw e refl
     by false e = rw e refl
 
-none_open : (b : Bool) → ◌≡◌ {A = List Ident} (if b then [] else []) []
+pub none_open : (b : Bool) → ◌≡◌ {A = List Ident} (if b then [] else []) []
 none_open true = refl
 none_open false = refl
 
 -- the threads of these names
-none_named : (space : List ℕ) (ts : List Thread) → names_in space ts ≡ [] → ts ≡ []
+pub none_named : (space : List ℕ) (ts : List Thread) → names_in space ts ≡ [] → ts ≡ []
 none_named space [] e = refl
 none_named space (t ∷ ts) e = absurd (cc)
 
-one_named : (space : List ℕ) (ts : List Thread) (n : Ident) → names_in space ts ≡ n ∷ [] → (t : Thread) × (ts ≡ t ∷ []) × (named space t.number ≡ n)
+pub one_named : (space : List ℕ) (ts : List Thread) (n : Ident) → names_in space ts ≡ n ∷ [] → (t : Thread) × (ts ≡ t ∷ []) × (named space t.number ≡ n)
 one_named space [] n e = absurd (cc)
 one_named space (t ∷ []) n e = (t, refl, (cc))
 one_named space (t ∷ u ∷ ts) n e = absurd (cc)
@@ -157,11 +158,11 @@ same_runnable statements layers a b space status threads =
     ∙ ap (λ s. if is_open b.status then map (λ (t : Thread). named s t.number) (filter (λ t. can_step (thread_ready statements layers s t)) a.threads) else []) space
     ∙ ap (λ ts. if is_open b.status then map (λ (t : Thread). named b.space t.number) (filter (λ t. can_step (thread_ready statements layers b.space t)) ts) else []) threads
 
-or_false : (a b : Bool) → (a || b) ≡ false → (a ≡ false) × (b ≡ false)
+pub or_false : (a b : Bool) → (a || b) ≡ false → (a ≡ false) × (b ≡ false)
 or_false true b e = absurd (cc)
 or_false false b e = (refl, e)
 
-among_append : (xs ys : List Ident) (id : Ident) → is_among (xs ++ ys) id ≡ (is_among xs id || is_among ys id)
+pub among_append : (xs ys : List Ident) (id : Ident) → is_among (xs ++ ys) id ≡ (is_among xs id || is_among ys id)
 among_append xs ys id = list_any-append (ident_eq id) xs ys
 
 -- a thread that is not the one that stepped does not join with it
@@ -292,12 +293,13 @@ pub record MakesQuietly (id : Ident) (l : Layer) (act : Act) (old new : List Lay
   pub made : new ≡ changed_all id changes (without_top id old)
   pub started : names_in id.space (news_of l changes) ≡ started_by id.space l act
   pub adds : list_any adds_trigger changes ≡ false
+  pub gives : gives_out act ≡ false → given_by changes ≡ 0
 
 pub quiet_done : (id : Ident) (l : Layer) (act : Act) (old new : List Layer) → is_quiet act ≡ true → delays act ≡ false → IsDone id (act_effect l act) old new true → MakesQuietly id l act old new
-quiet_done id l Passes old new e still h = record { changes = []; effect = refl; made = h; started = refl; adds = refl }
-quiet_done id l (GoesOn frames) old new e still h = record { changes = Pushes frames ∷ []; effect = refl; made = h; started = refl; adds = refl }
-quiet_done id l (Declares environment names body) old new e still h = record { changes = declared_changes l environment names body; effect = refl; made = h; started = refl; adds = refl }
-quiet_done id l (Starts frames) old new e still h = record { changes = Spawns frames ∷ []; effect = refl; made = h; started = refl; adds = refl }
+quiet_done id l Passes old new e still h = record { changes = []; effect = refl; made = h; started = refl; adds = refl; gives = λ k. refl }
+quiet_done id l (GoesOn frames) old new e still h = record { changes = Pushes frames ∷ []; effect = refl; made = h; started = refl; adds = refl; gives = λ k. refl }
+quiet_done id l (Declares environment names body) old new e still h = record { changes = declared_changes l environment names body; effect = refl; made = h; started = refl; adds = refl; gives = λ k. absurd (false≢true (sym k)) }
+quiet_done id l (Starts frames) old new e still h = record { changes = Spawns frames ∷ []; effect = refl; made = h; started = refl; adds = refl; gives = λ k. refl }
 quiet_done id l (GivesValue x v) old new e still h = absurd (false≢true e)
 quiet_done id l (GivesTerm x t) old new e still h = absurd (false≢true e)
 quiet_done id l (GivesVariable x y) old new e still h = absurd (false≢true e)
@@ -305,7 +307,7 @@ quiet_done id l (MakesProcedure x parameters body environment) old new e still h
 quiet_done id l (MakesName x) old new e still h = absurd (false≢true e)
 quiet_done id l (MakesCell x content) old new e still h = absurd (false≢true e)
 quiet_done id l (Reads n x) old new e still h = absurd (false≢true e)
-quiet_done id l (Writes n content) old new e still h = record { changes = Holds n content ∷ []; effect = refl; made = h; started = refl; adds = refl }
+quiet_done id l (Writes n content) old new e still h = record { changes = Holds n content ∷ []; effect = refl; made = h; started = refl; adds = refl; gives = λ k. refl }
 quiet_done id l (Exchanges n x content) old new e still h = absurd (false≢true e)
 quiet_done id l (MakesPort x stream) old new e still h = absurd (false≢true e)
 quiet_done id l (Sends n item) old new e still h = absurd (false≢true e)

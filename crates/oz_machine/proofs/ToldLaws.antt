@@ -61,7 +61,7 @@ module _ {A : Type 0} (p : A → Bool) where
       right false b e = e
 
 -- an edit of a layer that keeps its name brings none
-same_below : (space other : List ℕ) (edit : Layer → Layer) (layers : List Layer) → ((l : Layer) → (edit l).space ≡ l.space) → has_below (in_layer other edit layers) space ≡ has_below layers space
+pub same_below : (space other : List ℕ) (edit : Layer → Layer) (layers : List Layer) → ((l : Layer) → (edit l).space ≡ l.space) → has_below (in_layer other edit layers) space ≡ has_below layers space
 same_below space other edit [] names = refl
 same_below space other edit (l ∷ ls) names = by (is_of other l) refl (same_below space other edit ls names)
   where
@@ -70,7 +70,7 @@ same_below space other edit (l ∷ ls) names = by (is_of other l) refl (same_bel
     by true e rest = ap (λ s. is_properly_below space s || has_below ls space) (names l)
     by false e rest = ap (λ (b : Bool). is_properly_below space l.space || b) rest
 
-changes_below : (space : List ℕ) (id : Ident) (changes : List Change) (layers : List Layer) → has_below (changed_all id changes layers) space ≡ has_below layers space
+pub changes_below : (space : List ℕ) (id : Ident) (changes : List Change) (layers : List Layer) → has_below (changed_all id changes layers) space ≡ has_below layers space
 changes_below space id [] layers = refl
 changes_below space id (change ∷ changes) layers =
     changes_below space id changes (changed id layers change)
@@ -105,7 +105,7 @@ none_fails space before after h e = h.left ∙ ap (fold failing before) none
 
 -- The space stays open
 
-abbrev IsOpenAt : List Layer → List ℕ → Type 0
+abbrev pub IsOpenAt : List Layer → List ℕ → Type 0
 IsOpenAt layers space = (l : Layer) × (layer_at layers space ≡ Some l) × (is_open l.status ≡ true)
 
 open_edit : (space : List ℕ) (edit : Layer → Layer) (layers : List Layer) → ((l : Layer) → (edit l).space ≡ l.space) → ((l : Layer) → (edit l).status ≡ l.status)
@@ -121,7 +121,7 @@ open_changes id (change ∷ changes) layers h =
     open_changes id changes (changed id layers change)
     (subst (λ (ls : List Layer). IsOpenAt ls id.space) (sym (changed_by id layers change)) (open_edit id.space (edit_of id.number change) layers kept.space kept.status h))
 
-open_done : (id : Ident) (ts : List Tell) (changes : List Change) (layers : List Layer) → IsOpenAt layers id.space
+pub open_done : (id : Ident) (ts : List Tell) (changes : List Change) (layers : List Layer) → IsOpenAt layers id.space
     → IsOpenAt (in_layer id.space without_terminated (done id ts changes (without_top id layers))) id.space
 open_done id ts changes layers h =
     let pops : Layer → Layer = with_frames id.number (λ (frames : List Frame). drop 1 frames) in
@@ -142,7 +142,7 @@ module _ (statements : List Statement) (layers : List Layer) (id : Ident) (queue
   own = layer_of layers id.space
 
   -- is all that can step in it
-  itself : (o : Ident) → In o (runnable_in statements layers own) → o ≡ id
+  pub itself : (o : Ident) → In o (runnable_in statements layers own) → o ≡ id
   itself o h =
       let can = can_from statements layers own o h in
       let number : can.thread.number ≡ id.number = eqb-true can.thread.number id.number (all_pass (is_numbered id.number) own.threads can.thread single can.among) in

@@ -1,12 +1,12 @@
 -- Steps that told nothing, and the queue after them.
-use Rattle.std.specs.Prelude.{ℕ, ◌≡◌, Bool, true, false, if◌then◌else◌, List, [], ◌∷◌, Option, Some, None, map, drop}
-use Rattle.std.specs.List.{list_any}
+use Rattle.std.specs.Prelude.{ℕ, ◌≡◌, ◌⊎◌, Bool, true, false, ◌&&◌, if◌then◌else◌, List, [], ◌∷◌, Option, Some, None, map, drop}
+use Rattle.std.specs.List.{list_any, list_all}
 use Rattle.oz_base.specs.Lists.{first}
 use Rattle.oz_base.specs.declared.names.Ident.{Ident}
 use Rattle.oz_language.specs.declared.kernel.Identifier.{Identifier}
 use Rattle.oz_language.specs.declared.kernel.Statement.{Statement}
 use Rattle.oz_semantics.specs.Names.{named}
-use Rattle.oz_semantics.specs.Configurations.{stack_of}
+use Rattle.oz_semantics.specs.Configurations.{is_numbered, layer_of, stack_of}
 use Rattle.oz_semantics.specs.Sights.{Sight, can_step}
 use Rattle.oz_semantics.specs.Answers as answers
 use Rattle.oz_semantics.specs.Statements.{code_answer, stack_answer}
@@ -22,6 +22,7 @@ use Rattle.builtins.specs.declared.answer.Answer.TheVariants.{Acts, Edits, Raise
 use Rattle.view_laws.specs.Spaceless.{has_spaces}
 use Rattle.view_laws.specs.Steps.{spawned_from}
 use Rattle.need_laws.specs.Needs.{has_triggers}
+use Rattle.space_core.specs.Telling.{has_below}
 use Rattle.unneeded_laws.specs.Unneeded.{is_waiting}
 use Rattle.turn_laws.specs.Kept.{IsKept}
 use Rattle.oz_acts.specs.Doings.{is_shown}
@@ -66,8 +67,53 @@ pub record IsDeclaration (statements : List Statement) (stack : List Frame) (nam
   pub answers : AnswersDeclaration statements frame names body
 
 -- no space is a value, and where a by-need computation has not begun none of these threads waits for a variable
-abbrev pub LeavesOthers : List Statement → List Layer → List Ident → Type 0
-LeavesOthers statements layers ids = (has_spaces layers ≡ false) × (has_triggers layers ≡ true → list_any (is_waiting statements layers) ids ≡ false)
+pub record AreSpaceless (statements : List Statement) (layers : List Layer) (ids : List Ident) : Type 0 where
+  pub spaces : has_spaces layers ≡ false
+  pub waits : has_triggers layers ≡ true → list_any (is_waiting statements layers) ids ≡ false
+
+-- each of these threads can step, and what is given out in their space, if something is, no space below can know of
+pub record AreAwake (statements : List Statement) (layers : List Layer) (space : List ℕ) (gives : Bool) (ids : List Ident) : Type 0 where
+  pub below : (gives && has_below layers space) ≡ false
+  pub able : list_all (top_steps statements layers) ids ≡ true
+
+-- by either the thread that stepped in a space and told nothing, and the one that it started, leave all others and all by-need computations as they are
+abbrev pub LeavesOthers : List Statement → List Layer → List ℕ → Bool → List Ident → Type 0
+LeavesOthers statements layers space gives ids = AreSpaceless statements layers ids ⊎ AreAwake statements layers space gives ids
+
+-- no by-need computation of the thread's space has not begun, and the thread can step
+pub record IsAwakeAlone (statements : List Statement) (layers : List Layer) (id : Ident) : Type 0 where
+  pub triggers : (layer_of layers id.space).triggers ≡ []
+  pub able : top_steps statements layers id ≡ true
+
+-- no space is a value, and each by-need computation has begun
+pub record IsPlain (layers : List Layer) : Type 0 where
+  pub spaces : has_spaces layers ≡ false
+  pub triggers : has_triggers layers ≡ false
+
+-- by either the thread that stepped and told its space something, with none below, lets no other thread step and no by-need computation begin: it is alone in its space
+pub record LetsNoneStep (statements : List Statement) (layers : List Layer) (id : Ident) : Type 0 where
+  pub single : list_all (is_numbered id.number) (layer_of layers id.space).threads ≡ true
+  pub rest : IsPlain layers ⊎ IsAwakeAlone statements layers id
+
+-- an act that gives out variables and tells nothing
+abbrev pub gives_out : answers.Act → Bool
+gives_out (answers.Declares environment names body) = true
+gives_out (answers.Delays procedure x) = false
+gives_out answers.Passes = false
+gives_out (answers.GoesOn frames) = false
+gives_out (answers.Starts frames) = false
+gives_out (answers.GivesValue x v) = false
+gives_out (answers.GivesTerm x t) = false
+gives_out (answers.GivesVariable x y) = false
+gives_out (answers.MakesProcedure x parameters body environment) = false
+gives_out (answers.MakesName x) = false
+gives_out (answers.MakesCell x content) = false
+gives_out (answers.Reads n x) = false
+gives_out (answers.Writes n content) = false
+gives_out (answers.Exchanges n x content) = false
+gives_out (answers.MakesPort x stream) = false
+gives_out (answers.Sends n item) = false
+gives_out (answers.Shows x) = false
 
 -- an act that adds a by-need computation
 abbrev pub delays : answers.Act → Bool

@@ -1,8 +1,7 @@
 //! What follows a step that told its space something, where no space is below: threads of its own space alone can step by that.
-ghost use Rattle.std.specs.Prelude.{◌≡◌, ◌++◌, List, Some, true, drop};
+ghost use Rattle.std.specs.Prelude.{◌≡◌, ◌++◌, [], List, Some, true, drop};
 ghost use Rattle.std.specs.List.{list_all};
 ghost use Rattle.oz_base.specs.Lists.{first};
-ghost use Rattle.oz_language.specs.declared.kernel.Statement.{Statement};
 ghost use Rattle.oz_semantics.specs.Store.{is_consistent};
 ghost use Rattle.oz_semantics.specs.Configurations.{is_numbered, layer_of, view};
 ghost use Rattle.oz_semantics.specs.Changes.{Change, done};
@@ -12,13 +11,16 @@ ghost use Rattle.oz_semantics.specs.declared.configuration.Layer.{Layer};
 ghost use Rattle.oz_semantics.specs.declared.outcome.Stepped.TheVariants.{Moved};
 ghost use Rattle.turn_laws.specs.Telling.{IsAlone};
 ghost use Rattle.oz_machine.specs.Courses.{config_of, stepping};
-ghost use Rattle.oz_machine.specs.Quiet.{IsHead};
+ghost use Rattle.oz_machine.specs.Quiet.{IsAwakeAlone, IsHead, LetsNoneStep};
 
 use crate::course::Course;
 use crate::following::{follow, leave_alone};
+use crate::quiet::is_known_able;
 use oz_base::Ident;
+use oz_language::Kernel;
 use oz_semantics::{Stepped, Thread};
 use space_core::Levels;
+use std::alloc::Global;
 
 fn are_numbered(threads: &[Thread], number: u64) -> bool
     ensures { result ≡ list_all (is_numbered number) threads.now }
@@ -36,22 +38,58 @@ fn is_single(levels: &Levels, id: &Ident) -> bool
     }
 }
 
+/// Whether no by-need computation of the thread's space is there that has not begun.
+fn has_begun(levels: &Levels, id: &Ident) -> bool
+    ensures { result ≡ true → (layer_of levels.now id.now.space).triggers ≡ [] }
+{
+    match levels.place(&id.space) {
+        None => true,
+        Some(place) => levels.triggers_at(place).is_empty(),
+    }
+}
+
+/// Whether no by-need computation of the thread's space has to begin, and the thread can step, as far as that is known.
+fn is_awake_alone(alloc: Global, kernel: &Kernel, levels: &Levels, id: &Ident) -> bool
+    ensures { result ≡ true → IsAwakeAlone kernel.now.statements levels.now id.now }
+{
+    if !has_begun(levels, id) {
+        return false;
+    }
+    is_known_able(alloc, kernel.statements.as_slice(), levels, id)
+}
+
+/// Whether no other thread can step by what the thread told its space, and no by-need computation begins, as far as that is known.
+fn lets_none_step(alloc: Global, kernel: &Kernel, levels: &Levels, id: &Ident) -> bool
+    ensures { result ≡ true → LetsNoneStep kernel.now.statements levels.now id.now }
+{
+    if !is_single(levels, id) {
+        return false;
+    }
+    if levels.is_plain() {
+        return true;
+    }
+    is_awake_alone(alloc, kernel, levels, id)
+}
+
 /// A thread goes on after a step that told its space, below which there is none, what is consistent with what it sees.
-pub fn go_on_told(mover: &Ident, cost: u64, course: &mut Course) -> Stepped
+pub fn go_on_told(
+    alloc: Global,
+    kernel: &Kernel,
+    mover: &Ident,
+    cost: u64,
+    course: &mut Course,
+) -> Stepped
     requires { first course.old.queue ≡ Some mover.now }
-    ensures turn { (statements : List Statement) (layers : List Layer) (ts : List Tell) (changes : List Change)
-        → IsHead statements mover.now layers (drop 1 course.old.queue) course.old.shown
+    ensures turn { (layers : List Layer) (ts : List Tell) (changes : List Change)
+        → IsHead kernel.now.statements mover.now layers (drop 1 course.old.queue) course.old.shown
         → IsAlone layers mover.now.space → is_consistent (view layers mover.now.space ++ ts) ≡ true
         → course.old.levels ≡ done mover.now ts changes (without_top mover.now layers)
-        → went_on statements mover.now cost course.old.levels (stepping course.old) ≡ (result, config_of statements course.new) }
+        → went_on kernel.now.statements mover.now cost course.old.levels (stepping course.old) ≡ (result, config_of kernel.now.statements course.new) }
     ensures cost { result ≡ Moved cost }
 {
     course.levels.drop_terminated(&mover.space);
-    course.levels.consistent();
-    if !course.levels.is_plain() {
-        return follow(cost, course);
-    }
-    if !is_single(&course.levels, mover) {
+    if !lets_none_step(alloc, kernel, &course.levels, mover) {
+        course.levels.consistent();
         return follow(cost, course);
     }
     leave_alone(course, None);

@@ -18,7 +18,7 @@ ghost use Rattle.space_core.specs.Telling.{has_below};
 ghost use Rattle.oz_machine.specs.declared.course.Due.TheVariants.{Nobody};
 ghost use Rattle.oz_machine.specs.Courses.{config_of, stepping, Keeps};
 ghost use Rattle.oz_acts.specs.Doings.{is_quiet, is_shown};
-ghost use Rattle.oz_machine.specs.Quiet.{delays, IsDeclaration, IsHeadAnswer, KeepsHead, operates, shows};
+ghost use Rattle.oz_machine.specs.Quiet.{delays, gives_out, IsDeclaration, IsHeadAnswer, KeepsHead, operates, shows};
 ghost use Rattle.oz_machine.specs.Turns.{cost_of, CostsWithin, HasNotEnded, IsTurn};
 
 use crate::course::Course;
@@ -58,6 +58,16 @@ fn delays(what: &Act) -> bool
     }
 }
 
+/// Whether an act that tells nothing gives out variables.
+fn gives_out(what: &Act) -> bool
+    ensures { result ≡ gives_out (act_of what.now) }
+{
+    match what {
+        Act::Declares(_) => true,
+        _ => false,
+    }
+}
+
 /// Whether an act of which it is known that it tells nothing adds no by-need computation either.
 fn is_known_still(what: &Act, quiet: bool) -> bool
     ensures { result ≡ (quiet && not (delays (act_of what.now))) }
@@ -92,15 +102,16 @@ fn make_act(
     let quiet = is_known_quiet(what, kept);
     let lowest = is_known_lowest(&course.levels, id, kept, quiet);
     let still = is_known_still(what, quiet);
+    let gives = gives_out(what);
     let started = started(alloc, &course.levels, id, what)?;
     if !act(alloc, &mut course.levels, id, what)? {
         return clash(alloc, id, course);
     }
     if lowest {
-        return Ok(go_on_told(id, 1, course));
+        return Ok(go_on_told(alloc, kernel, id, 1, course));
     }
     if still {
-        return Ok(go_on_quietly(alloc, kernel, id, started, 1, course));
+        return Ok(go_on_quietly(alloc, kernel, id, started, gives, 1, course));
     }
     course.levels.consistent();
     Ok(go_on(id, 1, course))
@@ -224,7 +235,7 @@ fn show_text(
     course.shown.push(alloc, bytes)?;
     take_off(&mut course.levels, id);
     if kept {
-        return Ok(go_on_quietly(alloc, kernel, id, None, cost, course));
+        return Ok(go_on_quietly(alloc, kernel, id, None, false, cost, course));
     }
     course.levels.consistent();
     Ok(go_on(id, cost, course))
@@ -328,7 +339,7 @@ fn declare(
 {
     course.levels.declare_in(alloc, id, names, body)?;
     if kept {
-        return Ok(go_on_quietly(alloc, kernel, id, None, 1, course));
+        return Ok(go_on_quietly(alloc, kernel, id, None, true, 1, course));
     }
     course.levels.consistent();
     Ok(go_on(id, 1, course))

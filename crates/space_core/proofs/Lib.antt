@@ -1,5 +1,7 @@
 pub mod FiringLaws
 pub mod Firsts
+pub mod HalvingLaws
+pub mod BehindLaws
 pub mod ThreadLaws
 pub mod MemberLaws
 pub mod TraceLaws

@@ -1,13 +1,16 @@
 //! Which spaces gave out a variable.
-ghost use Rattle.std.specs.Prelude.{◌≡◌, ◌&&◌};
+ghost use Rattle.std.specs.Prelude.{◌≡◌, ◌<◌, ◌+◌, ◌&&◌, length, slice_get};
 ghost use Rattle.std.specs.List.{list_any, list_all};
+ghost use Rattle.oz_base.specs.Lists.{holds_of};
 ghost use Rattle.oz_semantics.specs.Names.{is_below, is_properly_below};
 ghost use Rattle.oz_semantics.specs.Store.{named_by};
-ghost use Rattle.space_core.specs.Shown.{shown, shown_all, gave_out, is_home, is_outer};
+ghost use Rattle.space_core.specs.Shown.{shown, shown_all, gave_out, is_home, is_outer, IsSound};
+ghost use Rattle.oz_semantics.specs.declared.configuration.Layer.{Layer};
 ghost use Rattle.space_core.specs.Telling.{has_below};
 ghost use Rattle.space_core.specs.declared.level.Level.{Level};
 
 use crate::level::Level;
+use crate::looking::level_position;
 use oz_base::{Ident, SpaceName, same_space};
 use oz_semantics::Tell;
 use term_store::fields_of;
@@ -79,6 +82,28 @@ pub fn has_below(levels: &[Level], space: &SpaceName) -> bool
     ensures { result ≡ has_below (shown_all levels.now) space.now }
 {
     any_below(levels, space)
+}
+
+/// Whether the space behind that at a place, if there is one, is properly below.
+fn is_next_below(levels: &[Level], place: usize, space: &SpaceName) -> bool
+    requires { place < length levels.now }
+    ensures { result ≡ holds_of (λ (l : Layer). is_properly_below space.now l.space) (slice_get (shown_all levels.now) (place + 1)) }
+{
+    match levels.get(place + 1) {
+        None => false,
+        Some(next) => is_properly_above(space, &next.space),
+    }
+}
+
+/// The same where the spaces stand in their order: all that is below a space stands right behind it.
+pub fn has_next_below(levels: &[Level], space: &SpaceName) -> bool
+    requires { IsSound levels.now }
+    ensures { result ≡ has_below (shown_all levels.now) space.now }
+{
+    match level_position(levels, space) {
+        None => has_below(levels, space),
+        Some(place) => is_next_below(levels, place, space),
+    }
 }
 
 fn are_home(levels: &[Level], space: &SpaceName, variables: &[Ident]) -> bool

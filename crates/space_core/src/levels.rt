@@ -25,9 +25,9 @@ use crate::advances::{tell_at, tell_under};
 use crate::copying::{count_told, next_name};
 use crate::firing::{fire, has_triggers};
 use crate::given::Given;
-use crate::homes::{all_home, has_below};
+use crate::homes::{all_home, has_next_below};
 use crate::level::{Level, top_level};
-use crate::looking::{level_place, level_position};
+use crate::looking::{changed_place, level_place, level_position};
 use crate::merging::{join_told, merge_away, merge_tells, merging};
 use crate::plain::{are_plain, has_spaces};
 use crate::remaking::{remake, tell_through};
@@ -197,7 +197,7 @@ impl Levels {
     pub fn has_below(&self, space: &SpaceName) -> bool
         ensures { result ≡ has_below self.now space.now }
     {
-        has_below(self.levels.as_slice(), space)
+        has_next_below(self.levels.as_slice(), space)
     }
 
     /// Whether a space is there, and a child of it.
@@ -302,7 +302,7 @@ impl Levels {
     {
         let alloc = *self.levels.allocator();
         drop_below(&mut self.levels, space);
-        let Some(place) = level_place(self.levels.as_slice(), space) else {
+        let Some(place) = changed_place(self.levels.as_slice(), space) else {
             return;
         };
         tree::raise(alloc, &mut self.levels[place], exception);
@@ -332,7 +332,7 @@ impl Levels {
         let level = child_of(alloc, above, procedure)?;
         let child = level.space.copied(alloc)?;
         add_level(&mut self.levels, level)?;
-        let Some(place) = level_place(self.levels.as_slice(), parent) else {
+        let Some(place) = changed_place(self.levels.as_slice(), parent) else {
             return Ok(child);
         };
         self.levels[place].numbers.child = count;
@@ -614,7 +614,7 @@ impl Levels {
             return Ok(false);
         }
         drop_below(&mut levels, child);
-        let Some(left) = level_place(levels.as_slice(), child) else {
+        let Some(left) = changed_place(levels.as_slice(), child) else {
             return Err(AllocError);
         };
         merge_away(alloc, &mut levels[left]);
@@ -630,7 +630,7 @@ impl Levels {
     {
         let alloc = *self.levels.allocator();
         drop_below(&mut self.levels, space);
-        let Some(place) = level_place(self.levels.as_slice(), space) else {
+        let Some(place) = changed_place(self.levels.as_slice(), space) else {
             return;
         };
         tree::fail(alloc, &mut self.levels[place]);

@@ -1,13 +1,42 @@
 //! Where spaces stand among the others.
 ghost use Rattle.std.specs.Prelude.{◌≡◌, MatchOption, position};
+ghost use Rattle.std.specs.Ordering.{nat_cmp};
+ghost use Rattle.std.specs.Cmp.Lexicographic.{slice_cmp};
 ghost use Rattle.oz_semantics.specs.Configurations.{is_of};
 ghost use Rattle.oz_semantics.specs.declared.configuration.Layer.{Layer};
 ghost use Rattle.space_core.specs.declared.level.Level.{Level};
 ghost use Rattle.space_core.specs.Places.{IsAbsent, IsFirst};
-ghost use Rattle.space_core.specs.Shown.{shown, shown_all};
+ghost use Rattle.space_core.specs.Shown.{shown, shown_all, IsSound};
 
 use crate::level::Level;
 use oz_base::{SpaceName, same_space};
+use std::cmp::Ordering;
+
+/// How a space's name stands to another in their order.
+fn name_order(level: &Level, space: &SpaceName) -> Ordering
+    ensures { result ≡ slice_cmp nat_cmp level.now.space space.now }
+{
+    level.space.as_slice().cmp(space.as_slice())
+}
+
+/// The place of a space. The spaces stand in the order of their names, so that half of those that are left fall away with each look.
+pub fn level_position(levels: &[Level], space: &SpaceName) -> Option<usize>
+    requires { IsSound levels.now }
+    ensures { result ≡ position (is_of space.now) (shown_all levels.now) }
+{
+    levels
+        .binary_search_by(|level| name_order(level, space))
+        .ok()
+}
+
+/// The place of a space, with what a search of its layer comes to.
+pub fn level_place(levels: &[Level], space: &SpaceName) -> Option<usize>
+    requires { IsSound levels.now }
+    ensures { MatchOption result (IsAbsent (is_of space.now) (shown_all levels.now))
+        (λ place. (l : Layer) × IsFirst (is_of space.now) (shown_all levels.now) place l) }
+{
+    level_position(levels, space)
+}
 
 fn position_in(levels: &[Level], space: &SpaceName) -> Option<usize>
     ensures { result ≡ position (λ (l : Level). is_of space.now (shown l)) levels.now }
@@ -17,17 +46,16 @@ fn position_in(levels: &[Level], space: &SpaceName) -> Option<usize>
         .position(|level| same_space(&level.space, space))
 }
 
-/// The place of a space.
-pub fn level_position(levels: &[Level], space: &SpaceName) -> Option<usize>
+fn changed_position(levels: &[Level], space: &SpaceName) -> Option<usize>
     ensures { result ≡ position (is_of space.now) (shown_all levels.now) }
 {
     position_in(levels, space)
 }
 
-/// The place of a space, with what a search of its layer comes to.
-pub fn level_place(levels: &[Level], space: &SpaceName) -> Option<usize>
+/// The same amid a change, where no order is known. It looks at all spaces.
+pub fn changed_place(levels: &[Level], space: &SpaceName) -> Option<usize>
     ensures { MatchOption result (IsAbsent (is_of space.now) (shown_all levels.now))
         (λ place. (l : Layer) × IsFirst (is_of space.now) (shown_all levels.now) place l) }
 {
-    level_position(levels, space)
+    changed_position(levels, space)
 }

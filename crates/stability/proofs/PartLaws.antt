@@ -2,14 +2,7 @@
 use Rattle.std.proofs.Common.{◌≡◌, inl, inr, ℕ, zero, suc, ◌+◌, ◌-◌, ◌<◌, ◌≤◌, nat_eq, Bool, true, false, cond, List, [], ◌∷◌, Contains, drop, take, length, length-append, filter, Some, None, refl, sym, ap, subst, ◌∙◌, arith}
 use Rattle.std.specs.Prelude.{slice_get}
 use Rattle.std.specs.List.{list_all, find}
-use Rattle.std.specs.Ordering.{is_lt, nat_cmp, ordering_then, ordering_reverse}
-use Rattle.std.specs.declared.cmp.Ordering.{Ordering}
-use Rattle.std.specs.declared.cmp.Ordering.TheVariants.{Less, Equal as Level, Greater}
-use Rattle.std.specs.Cmp.Lexicographic.{slice_cmp}
-use Rattle.std.proofs.lemmas.Bool.{false≢true}
 use Rattle.std.proofs.lemmas.Bool.Decides.{nat_tests}
-use Rattle.std.proofs.lemmas.Cmp.{nat_cmp_total}
-use Rattle.std.proofs.lemmas.Map.Lookups.{exact_bytes}
 use Rattle.std.proofs.Math.Seq.{take-nil}
 use Rattle.oz_base.specs.Lists.{list_eq}
 use Rattle.oz_base.specs.ListLaws.{list_eq-equivalence}
@@ -17,67 +10,16 @@ use Rattle.oz_semantics.specs.Names.{is_below, is_top, parent_of, child_name, sp
 use Rattle.oz_semantics.specs.Configurations.{is_of}
 use Rattle.oz_semantics.specs.Spaces.{layers_below}
 use Rattle.oz_semantics.specs.declared.configuration.Layer.{Layer}
-use Rattle.oz_laws.proofs.SameLaws.{In, In-from_contains, contains-from_In, and-left, and-right, eq-true, eq-refl}
+use Rattle.oz_laws.proofs.SameLaws.{In, In-from_contains, contains-from_In, and-right, eq-true}
 use Rattle.view_laws.specs.Trees.{is_ascending, names_of, IsTree}
-use Rattle.view_laws.proofs.Members.{decide, not_both, and_both, each}
-use Rattle.view_laws.proofs.ListLaws.{map_in}
+use Rattle.view_laws.proofs.Members.{decide, not_both, each}
+use Rattle.view_laws.proofs.ListLaws.{filter_none}
 use Rattle.view_laws.proofs.NameLaws.{below_itself, above_parent}
 use Rattle.view_laws.proofs.TreeLaws.{above_not_less}
+use Rattle.space_core.proofs.BehindLaws.{later_name, none_behind}
 use Rattle.stability.specs.Parts.{part}
 
--- Names
-
-one_number : (a c : ℕ) → nat_cmp a c ≡ Level → a ≡ c
-one_number a c e = same (exact_bytes (a ∷ []) (c ∷ []) (ap (λ (o : Ordering). ordering_then o Level) e))
-  where
-    same : a ∷ [] ≡ c ∷ [] → a ≡ c
-    same k = cc
-
-below_cons : (n : ℕ) (u v : List ℕ) → is_below u v ≡ true → is_below (n ∷ u) (n ∷ v) ≡ true
-below_cons n u v h = and_both (nat_eq n n) (is_below u v) (eq-refl n) h
-
--- what stands between a space and one below it is below it
-pub between : (s r m : List ℕ) → space_lt s r ≡ true → space_lt r m ≡ true → is_below s m ≡ true → is_below s r ≡ true
-between [] r m e f b = refl
-between (a ∷ s) [] m e f b = absurd (false≢true e)
-between (a ∷ s) (c ∷ r) [] e f b = absurd (false≢true b)
-between (a ∷ s) (c ∷ r) (d ∷ m) e f b = by (nat_cmp a c) refl e (between s r m)
-  where
-    same : a ≡ d
-    same = eq-true a d (and-left (nat_eq a d) (is_below s m) b)
-
-    by : (o : Ordering) → nat_cmp a c ≡ o → is_lt (ordering_then o (slice_cmp nat_cmp s r)) ≡ true → (space_lt s r ≡ true → space_lt r m ≡ true → is_below s m ≡ true → is_below s r ≡ true)
-        → is_below (a ∷ s) (c ∷ r) ≡ true
-    by Less k g inside =
-        let turned : nat_cmp c d ≡ Greater = ap (nat_cmp c) (sym same) ∙ nat_cmp_total.antisymm c a ∙ ap ordering_reverse k in
-        absurd (false≢true (sym (ap (λ (o : Ordering). is_lt (ordering_then o (slice_cmp nat_cmp r m))) turned) ∙ f))
-    by Level k g inside =
-        let here : a ≡ c = one_number a c k in
-        let later : nat_cmp c d ≡ Level = subst (λ n. nat_cmp n d ≡ Level) here (subst (λ n. nat_cmp a n ≡ Level) (sym here ∙ same) k) in
-        subst (λ n. is_below (a ∷ s) (n ∷ r) ≡ true) here
-        (below_cons a s r (inside g (sym (ap (λ (o : Ordering). is_lt (ordering_then o (slice_cmp nat_cmp r m))) later) ∙ f) (and-right (nat_eq a d) (is_below s m) b)))
-    by Greater k g inside = absurd (false≢true g)
-
 -- Lists
-
-filter_none : {A : Type 0} (p : A → Bool) (xs : List A) → ((x : A) → In x xs → p x ≡ false) → filter p xs ≡ []
-filter_none p [] h = refl
-filter_none p (x ∷ xs) h = ap (λ b. cond b (x ∷ filter p xs) (filter p xs)) (h x (inl refl)) ∙ filter_none p xs (λ y k. h y (inr k))
-
--- each later layer has a greater name
-later_name : (l : Layer) (ls : List Layer) (m : Layer) → is_ascending (names_of (l ∷ ls)) ≡ true → In m ls → space_lt l.space m.space ≡ true
-later_name l ls m e h = each (space_lt l.space) (names_of ls) (and-left _ _ e) m.space (contains-from_In (names_of ls) m.space (map_in (λ (n : Layer). n.space) ls m h))
-
--- behind one that is not below a space, and greater, none is
-none_behind : (s : List ℕ) (r : Layer) (ls : List Layer) → is_ascending (names_of (r ∷ ls)) ≡ true → space_lt s r.space ≡ true → is_below s r.space ≡ false → layers_below (r ∷ ls) s ≡ []
-none_behind s r ls e less not_it = filter_none (λ (m : Layer). is_below s m.space) (r ∷ ls) no
-  where
-    no : (m : Layer) → In m (r ∷ ls) → is_below s m.space ≡ false
-    no m (inl k) = ap (λ (n : Layer). is_below s n.space) (sym k) ∙ not_it
-    no m (inr h) = elim (decide (is_below s m.space)) [
-      | inl k ↦ absurd (not_both _ (between s r.space m.space less (later_name r ls m e h) k) not_it)
-      | inr k ↦ k
-    ]
 
 -- those below it end where the first is not
 front_only : (s : List ℕ) (ls : List Layer) (n : ℕ) → is_ascending (names_of ls) ≡ true → ((m : Layer) → In m ls → space_lt s m.space ≡ true)

@@ -9,12 +9,11 @@ use Rattle.oz_machine.specs.declared.course.Due.TheVariants.{Mover}
 use Rattle.oz_machine.specs.Courses.{asked, stepping}
 use Rattle.oz_machine.specs.Quiet.{LeavesOthers}
 use Rattle.oz_machine.proofs.DoingLaws.{course_view}
-use Rattle.oz_machine.proofs.QuietLaws.{quiet_turn}
-use Rattle.oz_machine.proofs.AwakeLaws.{quiet_content}
+use Rattle.oz_machine.proofs.AbleLaws.{quiet_course}
 use Rattle.oz_machine.proofs.quiet.go_on_quietly.Goals as goal
 
 pub returns-then-not-leaves_others-clause-turn : goal.returns-then-not-leaves_others-clause-turn
-returns-then-not-leaves_others-clause-turn c = λ layers changes head is names quiet.
+returns-then-not-leaves_others-clause-turn c = λ layers changes head is names quiet unless.
     let statements = c.args.kernel.now.statements in
     let id = c.args.mover.now in
     let old = c.args.course.now in
@@ -23,13 +22,13 @@ returns-then-not-leaves_others-clause-turn c = λ layers changes head is names q
     ∙ c.follow.ensures.turn statements id left c.requires (nothing_fails id.space left c.consistent.ensures)
 
 pub returns-clause-turn : goal.returns-clause-turn
-returns-clause-turn c = λ layers changes head is names quiet.
+returns-clause-turn c = λ layers changes head is names quiet unless.
     let statements = c.args.kernel.now.statements in
     let id = c.args.mover.now in
     let old = c.args.course.now in
     let new = c.drop_terminated.new.self in
     let left = c.leave_alone.ensures in
-    let others = subst (λ (o : Option Ident). LeavesOthers statements new (id ∷ option_to_list o)) c.as_ref.ensures.value (c.leaves_others.ensures c.if-not-leaves_others.false) in
-    let none = quiet_content statements id layers old.levels new (drop 1 old.queue) old.shown changes c.args.started head is names quiet c.drop_terminated.ensures others in
-    quiet_turn statements id layers old.levels new (drop 1 old.queue) (asked statements new (Mover id c.args.started) (drop 1 old.queue)) old.shown changes c.args.started c.args.cost head is names c.drop_terminated.ensures none others.0 refl
+    let others = subst (λ (o : Option Ident). LeavesOthers statements new id.space c.args.gives (id ∷ option_to_list o)) c.as_ref.ensures.value (c.leaves_others.ensures c.if-not-leaves_others.false) in
+    quiet_course statements id layers old.levels new (drop 1 old.queue) (asked statements new (Mover id c.args.started) (drop 1 old.queue)) old.shown changes c.args.started c.args.gives c.args.cost head is names quiet unless
+    c.drop_terminated.ensures others refl
     ∙ ap (λ d. (Moved c.args.cost, d)) (sym (course_view statements c.leave_alone.new.course new (Mover id c.args.started) (drop 1 old.queue) old.shown left.levels (left.due id c.requires) left.queue left.shown))

@@ -8,8 +8,7 @@ use Rattle.oz_machine.specs.declared.course.Due.TheVariants.{Mover}
 use Rattle.oz_machine.specs.Courses.{asked, stepping}
 use Rattle.oz_machine.specs.Quiet.{able_in}
 use Rattle.oz_machine.proofs.DoingLaws.{course_view}
-use Rattle.oz_machine.proofs.QuietLaws.{unwound_turn}
-use Rattle.oz_machine.proofs.AwakeLaws.{unwound_content}
+use Rattle.oz_machine.proofs.AbleLaws.{unwound_course}
 use Rattle.oz_machine.proofs.quiet.go_on_unwound.Goals as goal
 
 pub returns-then-not-leaves_others-clause-turn : goal.returns-then-not-leaves_others-clause-turn
@@ -29,7 +28,6 @@ returns-clause-turn c = λ layers frames head is.
     let new = c.drop_terminated.new.self in
     let left = c.leave_alone.ensures in
     let others = c.leaves_others.ensures c.if-not-leaves_others.false in
-    let none = unwound_content statements id layers old.levels new (drop 1 old.queue) old.shown frames head is c.drop_terminated.ensures others in
-    unwound_turn statements id layers old.levels new (drop 1 old.queue) (asked statements new (Mover id None) (drop 1 old.queue)) old.shown frames 1 head is c.drop_terminated.ensures none others.0
+    unwound_course statements id layers old.levels new (drop 1 old.queue) (asked statements new (Mover id None) (drop 1 old.queue)) old.shown frames 1 head is c.drop_terminated.ensures others
     (append-nil (drop 1 old.queue ++ able_in statements new id))
     ∙ ap (λ d. (Moved 1, d)) (sym (course_view statements c.leave_alone.new.course new (Mover id None) (drop 1 old.queue) old.shown left.levels (left.due id c.requires) left.queue left.shown))

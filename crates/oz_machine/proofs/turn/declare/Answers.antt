@@ -1,4 +1,5 @@
-use Rattle.std.proofs.Common.{◌∙◌, refl}
+use Rattle.std.proofs.Common.{◌∙◌, refl, sym}
+use Rattle.std.proofs.lemmas.Bool.{false≢true}
 use Rattle.oz_semantics.specs.Configurations.{layer_of}
 use Rattle.oz_semantics.specs.Effects.{declared_changes}
 use Rattle.settle_laws.proofs.SettleLaws.{nothing_fails}
@@ -16,7 +17,7 @@ returns-then-kept-clause-turn c =
     let body = c.args.body.now in
     let made = c.in_ok-declare_in.ensures.ok d.frame d.top in
     declaration_made k id names body (stepping now) d c.declare_in.new.self c.requires.there made
-    ∙ c.go_on_quietly.ensures.turn now.levels (declared_changes (layer_of now.levels id.space) d.frame.environment names body) (c.requires.kept c.if-kept.true) made refl refl
+    ∙ c.go_on_quietly.ensures.turn now.levels (declared_changes (layer_of now.levels id.space) d.frame.environment names body) (c.requires.kept c.if-kept.true) made refl refl (λ e. absurd (false≢true (sym e)))
 
 pub returns-clause-turn : goal.returns-clause-turn
 returns-clause-turn c =

@@ -71,7 +71,7 @@ returns-then-still-clause-turn c =
     let quiet = quiet_done id l act old new (and-right c.args.kept (is_quiet act) both) none (rw c.if-not-branch.false at c.in_ok-act.ensures.ok) in
     ap (after_effect k id wt (stepping now)) (effect_popped id old act c.requires.there ∙ quiet.effect)
     ∙ ap (λ (ls : List Layer). went_on k.statements id 1 ls (stepping now)) (sym quiet.made)
-    ∙ c.go_on_quietly.ensures.turn old quiet.changes head quiet.made (quiet.started ∙ sym c.in_ok-started.ensures) quiet.adds
+    ∙ c.go_on_quietly.ensures.turn old quiet.changes head quiet.made (quiet.started ∙ sym c.in_ok-started.ensures) quiet.adds (λ e. quiet.gives (sym c.gives_out-gives.ensures ∙ e))
 
 pub returns-then-lowest-clause-turn : goal.returns-then-lowest-clause-turn
 returns-then-lowest-clause-turn c =
@@ -95,7 +95,7 @@ returns-then-lowest-clause-turn c =
     ap (after_effect k id wt (stepping now)) (effect_popped id old act c.requires.there ∙ told.effect)
     ∙ ap (λ (b : Bool). if b then went_on k.statements id 1 (done id told.tells told.changes wt) (stepping now) else raised_kind k.statements id FailureTell wt (stepping now)) (fits_popped id told.tells old true told.fits)
     ∙ ap (λ (ls : List Layer). went_on k.statements id 1 ls (stepping now)) (sym made)
-    ∙ c.go_on_told.ensures.turn k.statements old told.tells told.changes (c.requires.kept known) (alone_there id old none) told.fits made
+    ∙ c.go_on_told.ensures.turn old told.tells told.changes (c.requires.kept known) (alone_there id old none) told.fits made
 
 pub returns-clause-turn : goal.returns-clause-turn
 returns-clause-turn c =

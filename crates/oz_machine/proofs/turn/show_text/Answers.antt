@@ -19,7 +19,7 @@ returns-then-kept-clause-turn c =
     ap (λ (n : ℕ). went_on st id n (without_top id now.levels) (record (stepping now) { shown = now.shown ++ text.bytes ∷ [] })) (sym cost)
     ∙ ap (λ (ls : List Layer). went_on st id c.in_ok-cost.cost ls (record (stepping now) { shown = now.shown ++ text.bytes ∷ [] })) (sym c.take_off.ensures)
     ∙ ap (λ (h : List (List ℕ)). went_on st id c.in_ok-cost.cost popped (record (stepping now) { shown = h })) (sym c.in_ok-push.ensures.ok)
-    ∙ c.go_on_quietly.ensures.turn now.levels [] head c.take_off.ensures refl refl
+    ∙ c.go_on_quietly.ensures.turn now.levels [] head c.take_off.ensures refl refl (λ e. refl)
 
 pub returns-clause-turn : goal.returns-clause-turn
 returns-clause-turn c =

@@ -33,9 +33,9 @@ invariant_of-self c =
     (by_is c.in_ok-by.by c.index-level.result.now c.index.result.now (layer_of c.args.self.now c.args.child.now) (layer_of c.args.self.now c.args.id.now.space)
     (layer_named c.self.inside.levels.items c.args.self.now c.self.view_is c.args.child.now c.in-Some-level_place.inner (place_by c.as_slice-2.ensures.value c.args.child.now c.in-Some-level_place.inner c.in-Some-level_place.ensures) c.index-level.result.now c.index-level.ensures)
     (layer_named c.self.inside.levels.items c.args.self.now c.self.view_is c.args.id.now.space c.in-Some.place (place_by c.as_slice.ensures.value c.args.id.now.space c.in-Some.place c.in-Some.ensures) c.index.result.now c.index.ensures) c.in_ok-by.ensures) c.in_ok-tells.tells.items c.in_ok-tells.ensures) c.if-not-branch.false c.in_ok-join_told.ensures)
-    c.drop_below.new.levels.items c.drop_below.ensures c.in-Some-level_place-2.left (place_by c.as_slice-5.ensures.value c.args.child.now c.in-Some-level_place-2.left c.in-Some-level_place-2.ensures)
+    c.drop_below.new.levels.items c.drop_below.ensures c.in-Some-changed_place.left (place_by c.as_slice-5.ensures.value c.args.child.now c.in-Some-changed_place.left c.in-Some-changed_place.ensures)
     c.index_mut.result.now c.merge_away.new.level c.index_mut.ensures.value c.merge_away.ensures
-    c.add_all_renamed.new.levels.items (put_same c.in_ok-by.by (slice_set c.drop_below.new.levels.items c.in-Some-level_place-2.left c.merge_away.new.level) c.add_all_renamed.new.levels.items c.as_slice-6.ensures.value c.in_ok-add_all_renamed.ensures)
+    c.add_all_renamed.new.levels.items (put_same c.in_ok-by.by (slice_set c.drop_below.new.levels.items c.in-Some-changed_place.left c.merge_away.new.level) c.add_all_renamed.new.levels.items c.as_slice-6.ensures.value c.in_ok-add_all_renamed.ensures)
     c.remake.new.levels.items c.in_ok-remake.ensures.ok
 
 pub returns-clause-told : goal.returns-clause-told
@@ -53,7 +53,7 @@ returns-clause-told c =
     (by_is c.in_ok-by.by c.index-level.result.now c.index.result.now (layer_of c.args.self.now c.args.child.now) (layer_of c.args.self.now c.args.id.now.space)
     (layer_named c.self.inside.levels.items c.args.self.now c.self.view_is c.args.child.now c.in-Some-level_place.inner (place_by c.as_slice-2.ensures.value c.args.child.now c.in-Some-level_place.inner c.in-Some-level_place.ensures) c.index-level.result.now c.index-level.ensures)
     (layer_named c.self.inside.levels.items c.args.self.now c.self.view_is c.args.id.now.space c.in-Some.place (place_by c.as_slice.ensures.value c.args.id.now.space c.in-Some.place c.in-Some.ensures) c.index.result.now c.index.ensures) c.in_ok-by.ensures) c.in_ok-tells.tells.items c.in_ok-tells.ensures) c.if-not-branch.false c.in_ok-join_told.ensures)
-    c.drop_below.new.levels.items c.drop_below.ensures c.in-Some-level_place-2.left (place_by c.as_slice-5.ensures.value c.args.child.now c.in-Some-level_place-2.left c.in-Some-level_place-2.ensures)
+    c.drop_below.new.levels.items c.drop_below.ensures c.in-Some-changed_place.left (place_by c.as_slice-5.ensures.value c.args.child.now c.in-Some-changed_place.left c.in-Some-changed_place.ensures)
     c.index_mut.result.now c.merge_away.new.level c.index_mut.ensures.value c.merge_away.ensures
-    c.add_all_renamed.new.levels.items (put_same c.in_ok-by.by (slice_set c.drop_below.new.levels.items c.in-Some-level_place-2.left c.merge_away.new.level) c.add_all_renamed.new.levels.items c.as_slice-6.ensures.value c.in_ok-add_all_renamed.ensures)
+    c.add_all_renamed.new.levels.items (put_same c.in_ok-by.by (slice_set c.drop_below.new.levels.items c.in-Some-changed_place.left c.merge_away.new.level) c.add_all_renamed.new.levels.items c.as_slice-6.ensures.value c.in_ok-add_all_renamed.ensures)
     c.remake.new.levels.items c.in_ok-remake.ensures.ok

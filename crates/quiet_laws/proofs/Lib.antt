@@ -1,0 +1,13 @@
+pub mod UnknownLaws
+pub mod MoveLaws
+pub mod StateLaws
+pub mod HeldLaws
+pub mod ComeLaws
+pub mod WakeLaws
+pub mod GivenLaws
+pub mod QuietLaws
+pub mod RestLaws
+pub mod LoneLaws
+pub mod ToldLaws
+pub mod StillLaws
+pub mod AwakeLaws
