@@ -1,6 +1,6 @@
 //! Which thread of a space offers alternatives, and what a commitment of the space comes to (CTM 12.5; Schulte 4). What is offered does not
 //! go by the states of spaces.
-ghost use Rattle.std.specs.Prelude.{ℕ, ◌≡◌, ◌<◌, ◌++◌, List, Some, slice_get, length, drop, is_some, position, option_map, IsTrue, IfOk, MatchOption};
+ghost use Rattle.std.specs.Prelude.{ℕ, ◌≡◌, ◌↔◌, ◌<◌, ◌++◌, List, Some, slice_get, length, drop, is_some, position, option_map, IsTrue, IfOk, MatchOption};
 ghost use Rattle.std.specs.List.{filter_map, find};
 ghost use Rattle.oz_base.specs.Lists.{first};
 ghost use Rattle.oz_semantics.specs.Names.{named};
@@ -206,7 +206,7 @@ fn numbered(threads: &[Thread], number: u64) -> Option<usize>
 /// Whether the thread at a place is the first of its number.
 fn is_first_numbered(threads: &[Thread], place: usize) -> bool
     requires { place < length threads.now }
-    ensures { (t : running.Thread) → slice_get threads.now place ≡ Some t → IsTrue result → position (is_numbered t.number) threads.now ≡ Some place }
+    ensures { (t : running.Thread) → slice_get threads.now place ≡ Some t → (IsTrue result ↔ (position (is_numbered t.number) threads.now ≡ Some place)) }
 {
     match numbered(threads, threads[place].number) {
         Some(first) => first == place,
