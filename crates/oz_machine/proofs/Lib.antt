@@ -1,3 +1,4 @@
+pub mod JoinLaws
 pub mod TopLaws
 pub mod DoingLaws
 pub mod NeedLaws

@@ -60,7 +60,11 @@ abbrev pub AnswersDeclaration : List Statement → Frame → List Identifier →
 AnswersDeclaration statements frame names body =
     (s : Sight) → s.statements ≡ statements → code_answer s frame.environment frame.code ≡ answers.Acts (answers.Declares frame.environment names body)
 
--- the statement on top of a stack does
+-- whatever is seen, a statement on a stack can step
+abbrev pub AlwaysSteps : List Statement → Frame → Type 0
+AlwaysSteps statements frame = (s : Sight) → s.statements ≡ statements → can_step (answer_ready (code_answer s frame.environment frame.code)) ≡ true
+
+-- the statement on top of a stack declares these
 pub record IsDeclaration (statements : List Statement) (stack : List Frame) (names : List Identifier) (body : List ℕ) : Type 0 where
   pub frame : Frame
   pub top : Some frame ≡ first stack

@@ -3,7 +3,7 @@ ghost use Rattle.std.specs.Prelude.{◌≡◌, true, IfSome};
 ghost use Rattle.oz_semantics.specs.Configurations.{stack_of};
 ghost use Rattle.oz_semantics.specs.Sights.{Sight};
 ghost use Rattle.oz_semantics.specs.Statements.{code_answer, statement_answer};
-ghost use Rattle.oz_machine.specs.Quiet.{top_steps, IsDeclaration, AnswersDeclaration};
+ghost use Rattle.oz_machine.specs.Quiet.{top_steps, AlwaysSteps, IsDeclaration, AnswersDeclaration};
 
 use oz_base::Ident;
 use oz_language::{Identifier, Statement};
@@ -28,6 +28,13 @@ fn declared<'a>(statements: &'a [Statement], frame: &Frame) -> Option<(&'a [Iden
         Statement::Local { names, body } => Some((names.as_slice(), body.as_slice())),
         _ => None,
     }
+}
+
+/// Whether a declaration stands on a stack: then it can step.
+pub fn is_declaration(statements: &[Statement], frame: &Frame) -> bool
+    ensures { result ≡ true → AlwaysSteps statements.now frame.now }
+{
+    declared(statements, frame).is_some()
 }
 
 /// The identifiers and the body of the declaration on top of a thread's stack, if there is one.

@@ -10,7 +10,7 @@ ghost use Rattle.oz_machine.specs.Courses.{asked, config_of, layers_after};
 ghost use Rattle.oz_machine.specs.Quiet.{top_steps, able_in, waits, IsHeadAnswer};
 
 use crate::course::{Course, Due};
-use crate::declarations::declares;
+use crate::declarations::is_declaration;
 use builtins::Answer;
 use oz_base::{Copies, Ident};
 use oz_language::Statement;
@@ -36,21 +36,6 @@ pub fn top_answer(
         None => Ok(Answer::Rests),
         Some(frame) => answer(alloc, statements, &id.space, levels.store_at(place), frame),
     }
-}
-
-/// What the statement on top of a thread's stack answers.
-fn thread_answer(
-    alloc: Global,
-    statements: &[Statement],
-    levels: &Levels,
-    id: &Ident,
-) -> Result<Answer, AllocError>
-    ensures { IfOk result (IsAnswer (stack_answer (sight statements.now levels.now id.now.space) (stack_of levels.now id.now))) }
-{
-    let Some(place) = levels.place(&id.space) else {
-        return Ok(Answer::Rests);
-    };
-    top_answer(alloc, statements, levels, place, id)
 }
 
 /// Whether the statement on top of the stack of a thread can step, of the space at a place.
@@ -147,6 +132,40 @@ fn waits(answer: &Answer) -> bool
     }
 }
 
+/// A thread of the space at a place joins the queue, in which no other is, if it can step. Its answer is left in `answered`, but that of
+/// a declaration.
+fn join_alone_at(
+    alloc: Global,
+    statements: &[Statement],
+    levels: &Levels,
+    place: usize,
+    id: &Ident,
+    queue: &mut Queue,
+    answered: &mut Option<Answer>,
+) -> Result<(), AllocError>
+    requires within { place < length levels.now }
+    requires place { Some place ≡ position (is_of id.now.space) levels.now }
+    requires queue { queue.old ≡ [] }
+    requires answered { answered.old ≡ None }
+    ensures ok { OnOk result (queue.new ≡ queue.old ++ able_in statements.now levels.now id.now) }
+    ensures answer { OnOk result (IsHeadAnswer statements.now levels.now queue.new answered.new) }
+    ensures err { OnErr result (queue.new ≡ queue.old) }
+{
+    let Some(frame) = levels.top_frame(id) else {
+        return Ok(());
+    };
+    if is_declaration(statements, frame) {
+        return queue.push(id.copied(alloc)?);
+    }
+    let store = levels.store_at(place);
+    let made = answered.insert(answer(alloc, statements, &id.space, store, frame)?);
+    if waits(made) {
+        return Ok(());
+    }
+    queue.push(id.copied(alloc)?)?;
+    Ok(())
+}
+
 /// A thread joins the queue, in which no other is, if it can step. Its answer is left in `answered`, but that of a declaration.
 fn join_alone(
     alloc: Global,
@@ -162,15 +181,10 @@ fn join_alone(
     ensures answer { OnOk result (IsHeadAnswer statements.now levels.now queue.new answered.new) }
     ensures err { OnErr result (queue.new ≡ queue.old) }
 {
-    if declares(statements, levels, id) {
-        return queue.push(id.copied(alloc)?);
-    }
-    let answer = answered.insert(thread_answer(alloc, statements, levels, id)?);
-    if waits(answer) {
+    let Some(place) = levels.place(&id.space) else {
         return Ok(());
-    }
-    queue.push(id.copied(alloc)?)?;
-    Ok(())
+    };
+    join_alone_at(alloc, statements, levels, place, id, queue, answered)
 }
 
 /// All threads that can step make the queue, and the one that stepped, if one did, joins before the others.

@@ -1,6 +1,6 @@
 -- One edit of a space after another, at the place that was looked up.
-use Rattle.std.proofs.Common.{◌≡◌, ℕ, ◌+◌, ◌<◌, ◌≤◌, arith, length, true, false, List, [], ◌∷◌, ◌++◌, slice_set, slice_index_or, refl, sym, ap, ap₂, subst, ◌∙◌, drop, Option, Some, None, unwrap_or, Bool}
-use Rattle.std.specs.Prelude.{MatchOption}
+use Rattle.std.proofs.Common.{◌≡◌, ℕ, ◌+◌, ◌<◌, ◌≤◌, arith, length, true, false, List, [], ◌∷◌, ◌++◌, slice_set, slice_index_or, refl, sym, ap, ap₂, subst, ◌∙◌, drop, Option, Some, None, unwrap_or, Bool, Result, Ok, Err}
+use Rattle.std.specs.Prelude.{IfOk, MatchOption}
 use Rattle.std.specs.List.{list_all}
 use Rattle.std.proofs.lemmas.List.{get_or-set_same, get_or_default, set-set, set-get_or}
 use Rattle.oz_base.specs.Lists.{list_eq}
@@ -24,7 +24,7 @@ use Rattle.space_core.specs.Giving.{giving, objects_after, after_giving}
 use Rattle.space_core.specs.Places.{IsFirst}
 use Rattle.space_core.specs.Shown.{shown, shown_all, is_home, IsSound, IsQuiet}
 use Rattle.space_core.specs.Stacks.{cut_out}
-use Rattle.space_core.specs.Telling.{after_giving_at, IsToldMore, IsLeft, ToldThrough, ToldAt, ClashesAt, HasThread}
+use Rattle.space_core.specs.Telling.{after_giving_at, IsToldMore, IsLeft, IsToldThrough, IsToldAt, ToldThrough, ToldAt, ClashesAt, HasThread}
 use Rattle.space_core.specs.declared.given.Given.{Given}
 use Rattle.space_core.specs.declared.given.Given.TheVariants.{Nothing, Variables, Procedure, Name, Cell, Content, Port, End}
 use Rattle.space_core.specs.declared.level.Level.{Level}
@@ -265,6 +265,27 @@ module _ (levels : List Level) (place : ℕ) (within : place < length levels) (g
     tells = subst (λ (n : Level). IsToldMore home ts n t.told) told_given t.tells;
     left = subst (λ (n : Level). IsLeft place n t.told (after_giving_at place given l1 levels) news) told_given (subst (λ (n : Level). IsLeft place t.before t.told (slice_set levels place n) news) e t.left);
   }
+
+-- A space that gives out nothing was told
+module _ (levels : List Level) (place : ℕ) (within : place < length levels) (ts : List Tell) (l : Level) (r : l ≡ slice_index_or levels place l)
+    (seen : List Level) (at : seen ≡ levels) (home : Bool) (homes : home ≡ list_all (λ t. list_all (is_home (shown_all seen) l.space) (named_by t)) ts) (news : List Level) where
+  gave_nothing : (before : Level) → before ≡ slice_index_or levels place before → levels ≡ after_giving_at place Nothing before levels
+  gave_nothing before read = sym (ap (slice_set levels place) read ∙ set-get_or levels place before)
+
+  pub told_nothing : {E : Type 0} (answer : Result Bool E) → IfOk answer (IsToldThrough place home ts levels news) → IfOk answer (IsToldAt place ts Nothing levels news)
+  told_nothing (Ok true) t = record {
+    before = t.before;
+    told = t.told;
+    home = home;
+    read = t.read;
+    homes = homes
+        ∙ ap₂ (λ (ls : List Level) (s : List ℕ). list_all (λ u. list_all (is_home (shown_all ls) s) (named_by u)) ts) (at ∙ gave_nothing t.before t.read)
+        (ap (λ (n : Level). n.space) (r ∙ get_or_default levels place l t.before within ∙ sym t.read));
+    tells = t.tells;
+    left = subst (λ (ls : List Level). IsLeft place t.before t.told ls news) (gave_nothing t.before t.read) t.left;
+  }
+  told_nothing (Ok false) t = t
+  told_nothing (Err e) t = t
 
 -- What the cells and ports were, where what is given out changes them
 abbrev pub IsBefore : Given → Contents → Option Contents → Type 0

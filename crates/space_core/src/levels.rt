@@ -170,6 +170,15 @@ impl Levels {
         self.levels[place].threads.top_frame(id.number)
     }
 
+    /// What is on top of the stack of a thread whose space stands at this place.
+    pub fn top_frame_at(&self, place: usize, id: &Ident) -> Option<&Frame>
+        requires within { place < length self.now }
+        requires place { Some place ≡ position (is_of id.now.space) self.now }
+        ensures { option_copied result ≡ first (stack_of self.now id.now) }
+    {
+        self.levels[place].threads.top_frame(id.number)
+    }
+
     /// Whether the space at a place tells its ancestors nothing: it sees the same values and equalities of their variables as its
     /// parent does.
     pub fn is_silent(&self, place: usize) -> bool

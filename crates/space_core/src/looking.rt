@@ -1,5 +1,5 @@
 //! Where spaces stand among the others.
-ghost use Rattle.std.specs.Prelude.{◌≡◌, MatchOption, position};
+ghost use Rattle.std.specs.Prelude.{◌≡◌, Some, true, MatchOption, position};
 ghost use Rattle.std.specs.Ordering.{nat_cmp};
 ghost use Rattle.std.specs.Cmp.Lexicographic.{slice_cmp};
 ghost use Rattle.oz_semantics.specs.Configurations.{is_of};
@@ -19,11 +19,25 @@ fn name_order(level: &Level, space: &SpaceName) -> Ordering
     level.space.as_slice().cmp(space.as_slice())
 }
 
-/// The place of a space. The spaces stand in the order of their names, so that half of those that are left fall away with each look.
+/// Whether a space is the top, and stands first.
+fn is_first(levels: &[Level], space: &SpaceName) -> bool
+    ensures { result ≡ true → position (is_of space.now) (shown_all levels.now) ≡ Some 0 }
+{
+    match levels.first() {
+        None => false,
+        Some(level) => space.is_top() && level.space.is_top(),
+    }
+}
+
+/// The place of a space. The spaces stand in the order of their names, so that half of those that are left fall away with each look. The
+/// top is found at once.
 pub fn level_position(levels: &[Level], space: &SpaceName) -> Option<usize>
     requires { IsSound levels.now }
     ensures { result ≡ position (is_of space.now) (shown_all levels.now) }
 {
+    if is_first(levels, space) {
+        return Some(0);
+    }
     levels
         .binary_search_by(|level| name_order(level, space))
         .ok()

@@ -19,6 +19,14 @@ pub struct Found<'a> {
     pub first: Option<u64>,
 }
 
+/// What is kept of a variable that stands for a class.
+#[derive(Clone, Copy)]
+struct Kept {
+    rank: u8,
+    /// The place at which the first value of the class was told.
+    first: Option<u64>,
+}
+
 fn rank_of(cell: Option<&Cell>) -> u8
     ensures { result ≡ rank_of (option_copied cell.entry) }
 {
@@ -83,6 +91,18 @@ impl Classes {
         first_of(self.cells.get(root))
     }
 
+    /// What is kept of a variable that stands for a class.
+    fn kept(&self, root: &Ident) -> Kept
+        ensures rank { result.rank ≡ rank_in self.now root.now }
+        ensures first { result.first ≡ first_in self.now root.now }
+    {
+        let cell = self.cells.get(root);
+        Kept {
+            rank: rank_of(cell),
+            first: first_of(cell),
+        }
+    }
+
     /// The variable that stands for the class of another, and what is kept of it. Each variable on the way is looked up once.
     pub fn find<'a>(&'a self, variable: &'a Ident) -> Found<'a>
         ensures root { result.root.now ≡ root_in self.now variable.now }
@@ -136,75 +156,115 @@ impl Classes {
         Ok(())
     }
 
-    /// Raises the rank of a variable that stands for a class.
-    fn raise(&mut self, alloc: Global, root: &Ident, rank: u8) -> Result<(), AllocError>
+    /// Raises the rank of a variable that stands for a class. Its class keeps its first value.
+    fn raise(
+        &mut self,
+        alloc: Global,
+        root: &Ident,
+        rank: u8,
+        first: Option<u64>,
+    ) -> Result<(), AllocError>
         requires top { IsTop self.old root.now }
         requires more { rank_in self.old root.now < rank }
+        requires first { first ≡ first_in self.old root.now }
         ensures likewise { Likewise self.old self.new }
         ensures ok { OnOk result (rank_in self.new root.now ≡ rank) }
         ensures others { (x : Ident) → ident_eq x root.now ≡ false → rank_in self.new x ≡ rank_in self.old x }
     {
-        let first = self.first(root);
         self.cells.insert(alloc, root, Cell::Root { rank, first })?;
         Ok(())
     }
 
     /// Raises the rank of a variable that stands for a class above another.
-    fn raise_above(&mut self, alloc: Global, root: &Ident, rank: u8) -> Result<(), AllocError>
+    fn raise_above(
+        &mut self,
+        alloc: Global,
+        root: &Ident,
+        kept: Kept,
+        rank: u8,
+    ) -> Result<(), AllocError>
         requires top { IsTop self.old root.now }
+        requires rank { kept.rank ≡ rank_in self.old root.now }
+        requires first { kept.first ≡ first_in self.old root.now }
         ensures likewise { Likewise self.old self.new }
         ensures ok { OnOk result (rank < rank_in self.new root.now) }
         ensures others { (x : Ident) → ident_eq x root.now ≡ false → rank_in self.new x ≡ rank_in self.old x }
     {
-        if rank < self.rank(root) {
+        if rank < kept.rank {
             return Ok(());
         }
         if rank == u8::MAX {
             return Err(AllocError);
         }
-        self.raise(alloc, root, rank + 1)
+        self.raise(alloc, root, rank + 1, kept.first)
     }
 
-    /// Puts one that stands for a class below another, of a higher rank.
-    fn link(&mut self, alloc: Global, under: &Ident, over: &Ident) -> Result<(), AllocError>
+    /// Puts one that stands for a class and has this rank below another, of a higher rank.
+    fn link(
+        &mut self,
+        alloc: Global,
+        under: &Ident,
+        rank: u8,
+        over: &Ident,
+    ) -> Result<(), AllocError>
         requires under { IsTop self.old under.now }
         requires over { IsTop self.old over.now }
+        requires rank { rank ≡ rank_in self.old under.now }
         requires higher { rank_in self.old under.now < rank_in self.old over.now }
         ensures ok { OnOk result (Unites self.old self.new under.now over.now (first_in self.old over.now)) }
         ensures err { OnErr result (self.new ≡ self.old) }
     {
-        let rank = self.rank(under);
         let parent = over.copied(alloc)?;
         self.cells
             .insert(alloc, under, Cell::Below { parent, rank })?;
         Ok(())
     }
 
-    /// Puts one that stands for a class below another.
-    fn put(&mut self, alloc: Global, under: &Ident, over: &Ident) -> Result<(), AllocError>
+    /// Puts one that stands for a class and has this rank below another, of which is kept so much.
+    fn put(
+        &mut self,
+        alloc: Global,
+        under: &Ident,
+        rank: u8,
+        over: &Ident,
+        kept: Kept,
+    ) -> Result<(), AllocError>
         requires under { IsTop self.old under.now }
         requires over { IsTop self.old over.now }
         requires apart { ident_eq under.now over.now ≡ false }
+        requires lower { rank ≡ rank_in self.old under.now }
+        requires rank { kept.rank ≡ rank_in self.old over.now }
+        requires first { kept.first ≡ first_in self.old over.now }
         ensures ok { OnOk result (Unites self.old self.new under.now over.now (first_in self.old over.now)) }
         ensures err { OnErr result (Likewise self.old self.new) }
     {
-        let rank = self.rank(under);
-        self.raise_above(alloc, over, rank)?;
-        self.link(alloc, under, over)
+        self.raise_above(alloc, over, kept, rank)?;
+        self.link(alloc, under, rank, over)
     }
 
-    /// Puts the lower tree of two below the other.
-    fn put_lower(&mut self, alloc: Global, left: &Ident, right: &Ident) -> Result<(), AllocError>
+    /// Puts the lower tree of two below the other. What is kept of both is known.
+    fn put_lower(
+        &mut self,
+        alloc: Global,
+        left: &Ident,
+        of_left: Kept,
+        right: &Ident,
+        of_right: Kept,
+    ) -> Result<(), AllocError>
         requires left { IsTop self.old left.now }
         requires right { IsTop self.old right.now }
         requires apart { ident_eq left.now right.now ≡ false }
+        requires left_rank { of_left.rank ≡ rank_in self.old left.now }
+        requires left_first { of_left.first ≡ first_in self.old left.now }
+        requires right_rank { of_right.rank ≡ rank_in self.old right.now }
+        requires right_first { of_right.first ≡ first_in self.old right.now }
         ensures ok { OnOk result (UnitesOne self.old self.new left.now right.now) }
         ensures err { OnErr result (Likewise self.old self.new) }
     {
-        if self.rank(left) < self.rank(right) {
-            return self.put(alloc, left, right);
+        if of_left.rank < of_right.rank {
+            return self.put(alloc, left, of_left.rank, right, of_right);
         }
-        self.put(alloc, right, left)
+        self.put(alloc, right, of_right.rank, left, of_left)
     }
 
     /// Joins the classes that two variables stand for, one of which has no value: one that has a value stands for both. An error
@@ -217,10 +277,12 @@ impl Classes {
         ensures ok { OnOk result (UnitesFree self.old self.new left.now right.now) }
         ensures err { OnErr result (Likewise self.old self.new) }
     {
-        match (self.first(left), self.first(right)) {
-            (None, None) => self.put_lower(alloc, left, right),
-            (None, Some(_)) => self.put(alloc, left, right),
-            (Some(_), _) => self.put(alloc, right, left),
+        let of_left = self.kept(left);
+        let of_right = self.kept(right);
+        match (of_left.first, of_right.first) {
+            (None, None) => self.put_lower(alloc, left, of_left, right, of_right),
+            (None, Some(_)) => self.put(alloc, left, of_left.rank, right, of_right),
+            (Some(_), _) => self.put(alloc, right, of_right.rank, left, of_left),
         }
     }
 
@@ -237,7 +299,8 @@ impl Classes {
         requires apart { ident_eq under.now over.now ≡ false }
         ensures { OnOk result (Unites self.old self.new under.now over.now (Some place)) }
     {
-        self.put(alloc, under, over)?;
+        let kept = self.kept(over);
+        self.put(alloc, under, self.rank(under), over, kept)?;
         let rank = self.rank(over);
         self.mark(alloc, over, rank, place)?;
         Ok(())

@@ -3,7 +3,7 @@ use Rattle.oz_semantics.specs.Store.{is_consistent}
 use Rattle.space_core.specs.Telling.{IsToldThrough}
 use Rattle.space_core.specs.declared.level.Level.{Level}
 use Rattle.space_core.proofs.AdvanceLaws.{told_at, restored, given_level}
-use Rattle.space_core.proofs.advances.tell_at.Goals as goal
+use Rattle.space_core.proofs.advances.tell_giving.Goals as goal
 
 pub returns-in-Ok-true-clause-told : goal.returns-in-Ok-true-clause-told
 returns-in-Ok-true-clause-told c =
