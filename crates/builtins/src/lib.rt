@@ -23,6 +23,3 @@ pub use calls::{answer_call, answer_given, arguments_of};
 pub use choices::choice_of;
 pub use readiness::{ready_by, ready_call, ready_given, ready_one};
 pub use table::{Row, lookup, rows};
-
-#[cfg(test)]
-mod tests;

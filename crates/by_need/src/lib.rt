@@ -6,6 +6,3 @@ mod triggers;
 
 pub use rounds::fire;
 pub use triggers::needed;
-
-#[cfg(test)]
-mod tests;

@@ -7,6 +7,3 @@ mod commands;
 mod reader;
 
 pub use reader::read_command;
-
-#[cfg(test)]
-mod tests;

@@ -9,7 +9,5 @@ mod patterns;
 mod program;
 mod records;
 mod sums;
-#[cfg(test)]
-mod tests;
 
 pub use program::kernel_text;

@@ -7,7 +7,5 @@
 mod phrases;
 mod programs;
 mod statements;
-#[cfg(test)]
-mod tests;
 
 pub use programs::translate;

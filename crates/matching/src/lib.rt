@@ -10,6 +10,3 @@ mod left;
 mod nodes;
 
 pub use decided::{Verdict, decide, waits};
-
-#[cfg(test)]
-mod tests;

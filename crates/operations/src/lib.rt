@@ -19,6 +19,3 @@ pub use outcome::Outcome;
 pub use readiness::operated_ready;
 pub use reading::{COPY_LIMIT, read_term};
 pub use resolving::operated;
-
-#[cfg(test)]
-mod tests;

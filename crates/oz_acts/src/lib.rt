@@ -8,6 +8,3 @@ mod objects;
 
 pub use acts::{act, give_term, is_quiet, started, take_off};
 pub use numbers::next_of;
-
-#[cfg(test)]
-mod tests;

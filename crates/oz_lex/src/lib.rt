@@ -16,6 +16,3 @@ mod tokens;
 pub use lexer::{LexError, lexemes, one_reading};
 pub use meanings::unquoted;
 pub use tokens::{first_words, token_of};
-
-#[cfg(test)]
-mod tests;

@@ -12,6 +12,3 @@ pub use memory::{MemSink, MemSource};
 pub use standard::{StdSink, StdSource};
 pub use streams::{Failed, Sink, Source};
 pub use transfer::{READ_LIMIT, ReadError, read_all, write_all};
-
-#[cfg(test)]
-mod tests;

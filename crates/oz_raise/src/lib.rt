@@ -12,6 +12,3 @@ pub use node::Node;
 pub use tells::{NewTerm, new_term, term_tells};
 pub use terms::{list_term, term};
 pub use words::BAR;
-
-#[cfg(test)]
-mod tests;

@@ -13,6 +13,3 @@ mod steps;
 pub use error::ReadError;
 pub use program::Program;
 pub use reader::read_program;
-
-#[cfg(test)]
-mod tests;

@@ -5,7 +5,5 @@ mod checker;
 mod features;
 mod found;
 mod names;
-#[cfg(test)]
-mod tests;
 
 pub use checker::first_fault;

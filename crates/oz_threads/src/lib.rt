@@ -8,6 +8,3 @@ mod readiness;
 
 pub use queue::Queue;
 pub use readiness::{is_step, ready_on_top, ready_where, steps_where};
-
-#[cfg(test)]
-mod tests;

@@ -4,6 +4,3 @@
 mod call;
 
 pub use call::{Outcome, oz_call};
-
-#[cfg(test)]
-mod tests;

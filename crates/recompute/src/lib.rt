@@ -7,6 +7,3 @@ mod waypoint;
 
 pub use explorer::{Explorer, Solved};
 pub use frozen::Frozen;
-
-#[cfg(test)]
-mod tests;

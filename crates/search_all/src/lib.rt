@@ -9,6 +9,3 @@ mod explore;
 mod search;
 
 pub use search::search_all;
-
-#[cfg(test)]
-mod tests;

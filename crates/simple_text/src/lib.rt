@@ -5,8 +5,6 @@ mod constants;
 mod forms;
 mod keys;
 mod plain;
-#[cfg(test)]
-mod tests;
 
 pub use constants::{
     add_constant, add_decimal, add_integer, add_literal, add_simple, is_atom, word_text,

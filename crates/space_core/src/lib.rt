@@ -28,6 +28,3 @@ mod tree;
 pub use declarations::bind_from;
 pub use given::Given;
 pub use levels::Levels;
-
-#[cfg(test)]
-mod tests;

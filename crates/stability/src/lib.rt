@@ -24,6 +24,3 @@ pub use known::States;
 pub use offers::{Choice, chosen, first_offer};
 pub use readiness::{can_step, ready_by, ready_in};
 pub use whole::{goes_on, rested_state, runnable, space_state};
-
-#[cfg(test)]
-mod tests;

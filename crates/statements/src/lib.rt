@@ -17,6 +17,3 @@ pub use frames::frames_of;
 pub use readiness::ready;
 pub use statement::answer;
 pub use variables::bound;
-
-#[cfg(test)]
-mod tests;

@@ -14,6 +14,3 @@ pub use classes::Classes;
 pub use places::place_law;
 pub use store::Store;
 pub use values::{fields_of, is_like};
-
-#[cfg(test)]
-mod tests;

@@ -5,7 +5,5 @@ mod nesting;
 mod operands;
 mod printer;
 mod terms;
-#[cfg(test)]
-mod tests;
 
 pub use terms::{Text, term_text};

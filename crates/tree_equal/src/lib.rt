@@ -4,7 +4,5 @@
 mod equality;
 mod joined;
 mod meeting;
-#[cfg(test)]
-mod tests;
 
 pub use equality::{Equality, test};
