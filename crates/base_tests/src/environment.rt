@@ -1,7 +1,7 @@
 //! Tests of environments.
 use crate::names::{of_top, space_of};
 use environments::Environment;
-use oz_base::{Copies, Ident};
+use oz_base::Ident;
 use oz_language::Identifier;
 use renamings::Renaming;
 use std::alloc::{AllocError, Global};
@@ -44,25 +44,6 @@ fn the_innermost_binding_counts(rt: HostRuntime) -> Result<(), Fail> {
     assert_eq!(rt; number_of(&inner, Identifier::Fresh(1)), Some(11));
     assert_eq!(rt; number_of(&outer, Identifier::Word(1)), Some(10));
     assert_eq!(rt; number_of(&outer, Identifier::Word(2)), None);
-    Ok(())
-}
-
-#[test]
-fn forty_bindings_with_a_copy_on_the_way(rt: HostRuntime) -> Result<(), Fail> {
-    let alloc = rt.alloc();
-    let mut environment = Environment::new();
-    bind_words(&mut environment, alloc, 0, 10)?;
-    let copy = environment.copied(alloc)?;
-    bind_words(&mut environment, alloc, 10, 40)?;
-    environment.gather(alloc)?;
-    for number in 0..30u32 {
-        let word = Identifier::Word(number);
-        let first = u64::from(number);
-        let of_copy = if number < 10 { Some(first) } else { None };
-        let last = if number < 10 { first + 30 } else { first };
-        assert_eq!(rt; number_of(&copy, word), of_copy);
-        assert_eq!(rt; number_of(&environment, word), Some(last));
-    }
     Ok(())
 }
 

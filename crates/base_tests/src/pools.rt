@@ -3,7 +3,7 @@ ghost use Rattle.std.specs.Prelude.{◌≡◌, ℕ, List, [], ◌∷◌, IfOk};
 ghost use Rattle.oz_search.specs.declared.history.Entry.TheVariants.{Claim, Split};
 
 use oz_base::Path;
-use oz_search::{Halt, Outcome, StopCause};
+use oz_search::{Outcome, StopCause};
 use pool_state::{Claimed, Ended, PoolState, Settled};
 use std::alloc::AllocError;
 use std::process::Abort;
@@ -31,21 +31,6 @@ fn take_both(rt: &impl Abort, pool: &mut PoolState) -> Result<(Path, Path), Allo
     assert!(rt; second.len() == 1 && second.last() == 2);
     assert!(rt; !pool.finished());
     Ok((first, second))
-}
-
-#[test]
-fn more_than_the_budget_is_spent(rt: HostRuntime) -> Result<(), Fail> {
-    let mut pool = PoolState::new(rt.alloc(), 10)?;
-    let (first, second) = take_both(&rt, &mut pool)?;
-    assert!(rt; matches!(&pool.leaf(1, first, Outcome::Failed, 3)?, Settled::Done));
-    let answer = pool.leaf(0, second, Outcome::Failed, 4)?;
-    assert!(rt; matches!(&answer, Settled::Spent(11)));
-    let answer = pool.claim(1)?;
-    let Claimed::Stopped(Halt { worker, cause }) = answer else {
-        panic!(rt; "the total was above the budget")
-    };
-    assert!(rt; worker == 0 && matches!(&cause, StopCause::Total(11)));
-    Ok(())
 }
 
 // The right leaf comes first, and stands second at the end. A stop for want of memory comes last.

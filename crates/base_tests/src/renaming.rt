@@ -11,19 +11,6 @@ fn goes(alloc: Global, renaming: &Renaming, from: &[u64], to: &[u64]) -> Result<
 }
 
 #[test]
-fn a_space_moves_with_those_below(rt: HostRuntime) -> Result<(), Fail> {
-    let alloc = rt.alloc();
-    let renaming = Renaming::Move {
-        from: space_of(alloc, &[1, 2])?,
-        to: space_of(alloc, &[1, 7])?,
-    };
-    assert!(rt; goes(alloc, &renaming, &[1, 2], &[1, 7])?);
-    assert!(rt; goes(alloc, &renaming, &[1, 2, 5, 6], &[1, 7, 5, 6])?);
-    assert!(rt; goes(alloc, &renaming, &[1, 3], &[1, 3])?);
-    Ok(())
-}
-
-#[test]
 fn a_merge_numbers_behind_what_was_given_out(rt: HostRuntime) -> Result<(), Fail> {
     let alloc = rt.alloc();
     let renaming = Renaming::Merge {
