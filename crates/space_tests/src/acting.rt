@@ -7,7 +7,6 @@ use crate::levels::of_top;
 use builtins::Act;
 use oz_acts::act;
 use oz_base::SpaceName;
-use oz_language::Constant;
 use oz_semantics::Value;
 use space_core::Levels;
 use std::alloc::{AllocError, Global};
@@ -24,62 +23,10 @@ fn done(alloc: Global, levels: &mut Levels, mut what: Act) -> Result<bool, Alloc
     }
 }
 
-fn gives(variable: u64, i: i128) -> Act
-    ensures { is_shown (act_of result) ≡ false }
-{
-    Act::GivesValue {
-        variable: of_top(variable),
-        value: Value::Constant(Constant::Int(i)),
-    }
-}
-
-/// The content of cell 0 becomes 3, and the variable is what it was.
-fn exchanges(variable: u64) -> Act
-    ensures { is_shown (act_of result) ≡ false }
-{
-    Act::Exchanges {
-        cell: 0,
-        variable: of_top(variable),
-        content: of_top(3),
-    }
-}
-
 fn value_of(levels: &Levels, variable: u64) -> Option<&Value> {
     let variable = of_top(variable);
     let place = levels.place(&variable.space)?;
     levels.store_at(place).value(&variable)
-}
-
-fn integer_of(levels: &Levels, variable: u64) -> Option<i128> {
-    match value_of(levels, variable) {
-        Some(Value::Constant(Constant::Int(i))) => Some(*i),
-        _ => None,
-    }
-}
-
-/// The number of the variable that cell 0 of the top contains.
-fn contained(levels: &Levels) -> Option<u64> {
-    let place = levels.place(&SpaceName::top())?;
-    Some(levels.content_at(place, 0)?.number)
-}
-
-#[test]
-fn a_cell_is_exchanged_unless_that_clashes(rt: HostRuntime) -> Result<(), Fail> {
-    let alloc = rt.alloc();
-    let mut levels = Levels::new(alloc)?;
-    levels.give_out(&SpaceName::top(), 9)?;
-    let variable = of_top(1);
-    let content = of_top(2);
-    assert!(rt; done(alloc, &mut levels, Act::MakesCell { variable, content })?);
-    assert!(rt; matches!(value_of(&levels, 1), Some(Value::Cell(_))));
-    assert!(rt; done(alloc, &mut levels, gives(2, 20))?);
-    assert!(rt; done(alloc, &mut levels, gives(4, 40))?);
-    assert!(rt; !done(alloc, &mut levels, exchanges(4))?);
-    assert_eq!(rt; contained(&levels), Some(2));
-    assert!(rt; done(alloc, &mut levels, exchanges(5))?);
-    assert_eq!(rt; contained(&levels), Some(3));
-    assert_eq!(rt; integer_of(&levels, 5), Some(20));
-    Ok(())
 }
 
 /// The numbers of the first variable of a stream and of what is behind it.

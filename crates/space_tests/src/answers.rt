@@ -1,5 +1,5 @@
 //! Tests of oz_top.
-use oz_outside::{Gate, HoldGate, MemSink, MemSource, OpenGate, READ_LIMIT};
+use oz_outside::{MemSink, MemSource, OpenGate, READ_LIMIT};
 use oz_replies::Cause;
 use oz_top::{Outcome, oz_call};
 use std::alloc::{AllocError, Global};
@@ -19,18 +19,17 @@ const END_LEAVES: &str =
 /// The second thread lets the first go on.
 const WAITS: &[u8] = b"X in thread {Wait X} {Show a} end thread X=1 {Show b} end {Show c}";
 
-fn call<G: Gate>(
+fn call(
     alloc: Global,
     words: &[&str],
     source: &mut MemSource,
     sink: &mut MemSink,
-    gate: &G,
 ) -> Result<Outcome, AllocError> {
     let mut list = Vec::new(alloc);
     for word in words {
         list.push(word.to_string(alloc)?)?;
     }
-    Ok(oz_call(alloc, list.as_slice(), source, sink, gate))
+    Ok(oz_call(alloc, list.as_slice(), source, sink, &OpenGate))
 }
 
 /// Words and a text, what is written for them, and the status.
@@ -40,7 +39,7 @@ fn check(rt: &impl Abort, alloc: Global, rows: &[Row<'_>]) -> Result<(), Fail> {
     for (words, text, reply, status) in rows {
         let mut source = MemSource::new(alloc, text, 7, &[])?;
         let mut sink = MemSink::new(alloc, 1000, 5, &[])?;
-        let outcome = call(alloc, words, &mut source, &mut sink, &OpenGate)?;
+        let outcome = call(alloc, words, &mut source, &mut sink)?;
         assert_eq!(rt; sink.written(), reply.as_bytes());
         assert_eq!(rt; outcome.status, *status);
     }
@@ -105,7 +104,7 @@ fn each_run_is_answered(rt: HostRuntime) -> Result<(), Fail> {
 fn a_failing_source_gives_no_reply(rt: HostRuntime) -> Result<(), Fail> {
     let mut source = MemSource::new(rt.alloc(), TWO, 9, &[2])?;
     let mut sink = MemSink::new(rt.alloc(), 1000, 1000, &[])?;
-    let outcome = call(rt.alloc(), &["all"], &mut source, &mut sink, &OpenGate)?;
+    let outcome = call(rt.alloc(), &["all"], &mut source, &mut sink)?;
     assert_eq!(rt; sink.written(), b"".as_slice());
     assert_eq!(rt; outcome.status, 4);
     assert!(rt; matches!(outcome.cause, Cause::ReadFault));
@@ -117,7 +116,7 @@ fn a_failing_sink_cuts_the_reply_short(rt: HostRuntime) -> Result<(), Fail> {
     for (room, at, written) in [(1000, 2, "solved 1"), (12, 9, "solved 1 a\ns"), (0, 9, "")] {
         let mut source = MemSource::new(rt.alloc(), TWO, 100, &[])?;
         let mut sink = MemSink::new(rt.alloc(), room, 8, &[at])?;
-        let outcome = call(rt.alloc(), &["all"], &mut source, &mut sink, &OpenGate)?;
+        let outcome = call(rt.alloc(), &["all"], &mut source, &mut sink)?;
         assert_eq!(rt; sink.written(), written.as_bytes());
         assert_eq!(rt; outcome.status, 5);
     }
@@ -133,21 +132,9 @@ fn one_byte_too_many(rt: HostRuntime) -> Result<(), Fail> {
         let bytes = Vec::from_elem(rt.alloc(), b' ', many)?;
         let mut source = MemSource::new(rt.alloc(), bytes.as_slice(), 100_000, &[])?;
         let mut sink = MemSink::new(rt.alloc(), 1000, 1000, &[])?;
-        let outcome = call(rt.alloc(), &["all"], &mut source, &mut sink, &OpenGate)?;
+        let outcome = call(rt.alloc(), &["all"], &mut source, &mut sink)?;
         assert_eq!(rt; sink.written(), reply.as_bytes());
         assert_eq!(rt; outcome.status, status);
     }
-    Ok(())
-}
-
-#[test]
-fn a_gate_changes_no_answer(rt: HostRuntime) -> Result<(), Fail> {
-    let gate = HoldGate::new(3);
-    let mut source = MemSource::new(rt.alloc(), TWO, 100, &[])?;
-    let mut sink = MemSink::new(rt.alloc(), 1000, 1000, &[])?;
-    let outcome = call(rt.alloc(), &["all"], &mut source, &mut sink, &gate)?;
-    assert_eq!(rt; sink.written(), TWO_LEAVES.as_bytes());
-    assert_eq!(rt; outcome.status, 0);
-    assert!(rt; !gate.met());
     Ok(())
 }

@@ -1,13 +1,12 @@
 //! Tests of by_need.
-use crate::levels::{is_integer, of_top};
-use by_need::{fire, needed};
+use crate::levels::of_top;
+use by_need::fire;
 use environments::Environment;
 use oz_base::SpaceName;
-use oz_semantics::{Code, Frame, Tell, Trigger};
+use oz_semantics::{Code, Frame};
 use space_core::Levels;
 use std::alloc::{AllocError, Global};
 use std::test::Fail;
-use term_store::Store;
 
 /// The top delays a procedure until a variable is needed.
 fn delay(levels: &mut Levels, procedure: u64, variable: u64) -> Result<(), AllocError> {
@@ -50,27 +49,5 @@ fn what_is_needed_begins_in_its_order(rt: HostRuntime) -> Result<(), Fail> {
     assert_eq!(rt; applied(&levels, 3), Some(7));
     assert_eq!(rt; applied(&levels, 4), Some(5));
     assert_eq!(rt; applied(&levels, 5), None);
-    Ok(())
-}
-
-fn trigger(variable: u64) -> Trigger {
-    Trigger {
-        procedure: of_top(7),
-        variable: of_top(variable),
-    }
-}
-
-#[test]
-fn what_is_determined_or_equal_is_needed(rt: HostRuntime) -> Result<(), Fail> {
-    let alloc = rt.alloc();
-    let mut store = Store::new(alloc);
-    let equal = Tell::Equal {
-        left: of_top(2),
-        right: of_top(3),
-    };
-    assert!(rt; store.tell(alloc, &[is_integer(1, 1), equal], &mut Vec::new(alloc))?);
-    let triggers = [trigger(1), trigger(2), trigger(4)];
-    let marks = needed(alloc, &store, &triggers, &[of_top(3)])?;
-    assert!(rt; marks.as_slice() == [true, true, false].as_slice());
     Ok(())
 }

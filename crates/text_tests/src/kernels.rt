@@ -1,4 +1,4 @@
-//! Tests of kernel_trans and kernel_form.
+//! Tests of kernel_trans, kernel_form and simple_text.
 use kernel_form::kernel_text;
 use kernel_trans::translate;
 use oz_base::{Sequence, Words};
@@ -17,8 +17,12 @@ fn kernel_of(alloc: Global, text: &[u8]) -> Result<Sequence<u8>, Fail> {
 
 #[test]
 fn each_text_has_its_kernel(rt: HostRuntime) -> Result<(), Fail> {
-    let rows: [(&[u8], &[u8]); 11] = [
+    let rows: [(&[u8], &[u8]); 12] = [
         (b"", b"skip\n"),
+        (
+            b"X in X='A b'('it\\'s':X 'if':X 'fail':X) X='fail'",
+            b"local X in X='A b'('fail':X 'if':X 'it\\'s':X) X='fail' end\n",
+        ),
         (b"{Show a} fail", b"local _1 in _1=a {Show _1} end\nfail\n"),
         (
             b"X Y in X=[Y 1 Y]",

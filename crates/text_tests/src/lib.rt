@@ -1,10 +1,8 @@
-//! Tests of what reads the words and the text of a call, of the translation, and of how kernels and constants are written.
+//! Tests of what reads the words and the text of a call, of the translation, and of how kernels are written.
 #![tactic(auto)]
 
 #[cfg(test)]
 mod commands;
-#[cfg(test)]
-mod constants;
 #[cfg(test)]
 mod kernels;
 #[cfg(test)]

@@ -89,14 +89,3 @@ fn constructs_may_be_200_deep(rt: HostRuntime) -> Result<(), Fail> {
     assert!(rt; is_accepted(rt.alloc(), &text));
     Ok(())
 }
-
-#[test]
-fn long_texts_take_little_time(rt: HostRuntime) -> Result<(), Fail> {
-    let mut text = Vec::new(rt.alloc());
-    for _ in 0..140 {
-        repeat(&mut text, b"local X in ", 100)?;
-        repeat(&mut text, b"end ", 100)?;
-    }
-    assert!(rt; is_accepted(rt.alloc(), &text));
-    Ok(())
-}

@@ -41,31 +41,7 @@ fn var(name: u32, at: usize) -> Token {
 }
 
 #[test]
-fn splits_a_program(rt: HostRuntime) -> Result<(), Fail> {
-    let text = b"local X in % one\n {F X} /* * */ X=f(a Script)\nend";
-    let found = tokens(rt.alloc(), text).ok().ok_or("tokens")?;
-    let expected = [
-        Token::Local { at: 0 },
-        var(62, 6),
-        Token::In,
-        Token::OpenBrace { at: 18 },
-        var(63, 19),
-        var(62, 21),
-        Token::CloseBrace,
-        var(62, 32),
-        Token::Equals,
-        label(64, 34),
-        atom(65, 36),
-        var(0, 38),
-        Token::CloseParen,
-        Token::End,
-    ];
-    assert_eq!(rt; found.as_slice(), expected.as_slice());
-    Ok(())
-}
-
-#[test]
-fn knows_quotes_and_given_words(rt: HostRuntime) -> Result<(), Fail> {
+fn splits_a_text(rt: HostRuntime) -> Result<(), Fail> {
     let text = b"abc 'abc' 'true' 'a\\n\\''( \"x'y\" &\\n X\\=:nil|lazy FD [@ elseif _a";
     let found = tokens(rt.alloc(), text).ok().ok_or("tokens")?;
     let comparison = Comparison::Unequal;
