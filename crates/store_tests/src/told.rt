@@ -18,7 +18,7 @@ fn integer_of(store: &Store, x: u64) -> Option<i128> {
     }
 }
 
-/// Tells the value `more` of each of the variables `from` to `to`, without the last.
+/// Tells this value of each of the variables `from` to `to`, without the last.
 fn tell_values(
     alloc: Global,
     store: &mut Store,

@@ -97,9 +97,9 @@ fn local(alloc: Global, body: u32) -> Result<Statement, AllocError> {
 fn locals_of_a_great_depth(rt: HostRuntime) -> Result<(), Fail> {
     let alloc = rt.alloc();
     let mut statements = vec![in alloc; Statement::Skip]?;
-    for inner in 0..100000 {
+    for inner in 0..10_000 {
         statements.push(local(alloc, inner)?)?;
     }
-    assert!(rt; text(alloc, statements, 100000)?.len() == 1500005);
+    assert!(rt; text(alloc, statements, 10_000)?.len() == 150_005);
     Ok(())
 }
