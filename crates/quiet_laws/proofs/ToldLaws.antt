@@ -45,7 +45,6 @@ use Rattle.quiet_laws.proofs.HeldLaws.{GivesMore}
 use Rattle.quiet_laws.proofs.AwakeLaws.{WakesNone, wakes_none, told_awake}
 use Rattle.quiet_laws.proofs.WakeLaws.{GoesTo, found_put, queued}
 use Rattle.quiet_laws.proofs.QuietLaws.{changes_give}
-use Rattle.quiet_laws.proofs.LoneLaws.{alone_still}
 
 -- A tell may come after the changes
 
@@ -177,21 +176,11 @@ module _ (statements : List Statement) (c : Configuration) (id : Ident) (queue :
       subst (λ (ls : List Layer). WakesNone statements ls id queue) (sym (e ∙ result_new))
       (wakes_none statements c id queue before after news (given_in before changes) kept at goes gives unknown unseen lower (subst (λ (ls : List Layer). IsAble statements ls id) (e ∙ result_new) able))
 
-  own_seen : SeesBesides (view old t) (view new t) ts
-  own_seen = tell_seen (λ m. after) old t t ts keeps_name (λ l e. ap (λ (us : List Tell). us ++ ts) (keeps_tells l e)) (ap is_some at) (below_itself t)
-
-  own_consistent : is_consistent (view new t) ≡ true
-  own_consistent =
-      consistent_part (view new t) (view old t ++ ts) (λ u h. elim (own_seen.only u h) [ inl k ↦ has-left u (view old t) ts k | inr k ↦ has-right u (view old t) ts k ]) fits
-
   alone_later : IsAlone new t
   alone_later l h = elim (in_edit (is_of t) (λ m. after) old l (In-from_contains new l h)) [
     | inl k ↦ alone l (contains-from_In old l k)
     | inr r ↦ (ap (λ (m : Layer). is_properly_below t m.space) r.2 ∙ ap (is_properly_below t) own ∙ elim (decide (is_properly_below t t)) [ inl k ↦ absurd ((properly t t k).1 refl) | inr k ↦ k ])
   ]
-
-  own_still : (th : Thread) → can_step (thread_ready statements old t th) ≡ true → can_step (thread_ready statements new t th) ≡ true
-  own_still = alone_still statements old new t alone alone_later own_seen.kept ((tests_consistent (view new t)).0 own_consistent)
 
   -- No space sees what is inconsistent
 
@@ -222,7 +211,7 @@ module _ (statements : List Statement) (c : Configuration) (id : Ident) (queue :
 
   all_queued : queue_after (runnable statements new) (Some id) queue ≡ stay ++ woken statements new t stay ++ others_of stay (runnable_in statements new (layer_of new t))
   all_queued =
-      queued statements c id queue before after news (given_in before changes) kept at goes gives unknown unseen lower own_still
+      queued statements c id queue before after news (given_in before changes) kept at goes gives unknown unseen lower
       ∙ ap (λ (o : Option Layer). stay ++ woken statements new t stay ++ others_of stay (runnable_in statements new (unwrap_or o (new_layer t))))
       (sym (found_put t after is_own old before at))
 
