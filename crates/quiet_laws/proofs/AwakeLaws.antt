@@ -31,7 +31,7 @@ use Rattle.turn_laws.specs.Telling.{others_of, is_able_still, staying}
 use Rattle.turn_laws.proofs.HeadLaws.{kept_head}
 use Rattle.quiet_laws.specs.Unknown.{AreUnknown}
 use Rattle.quiet_laws.specs.Among.{above_of, woken, rejoined}
-use Rattle.quiet_laws.specs.Awake.{IsAble}
+use Rattle.quiet_laws.specs.Awake.{IsAble, rest_and}
 use Rattle.quiet_laws.proofs.HeldLaws.{GivesMore}
 use Rattle.quiet_laws.proofs.WakeLaws.{GoesTo, other_able_still, found_put, pairs, ascending, goes_above, rests, after_own}
 use Rattle.quiet_laws.proofs.StillLaws.{thread_stays}
@@ -168,7 +168,7 @@ quiet_awake statements layers id queue ys w =
 
 pub told_awake : (statements : List Statement) (layers : List Layer) (id : Ident) (queue ys : List Ident) → WakesNone statements layers id queue
     → staying statements layers id queue ++ woken statements layers id.space (staying statements layers id queue) ++ others_of (staying statements layers id queue) ys
-    ≡ (filter (is_able_still statements layers id.space) queue ++ id ∷ []) ++ others_of (filter (is_able_still statements layers id.space) queue ++ id ∷ []) ys
+    ≡ rest_and statements layers id queue ++ others_of (rest_and statements layers id queue) ys
 told_awake statements layers id queue ys w =
     let rest : List Ident = filter (is_able_still statements layers id.space) queue in
     ap (λ (ms : List Ident). rest ++ ms ++ woken statements layers id.space (rest ++ ms) ++ others_of (rest ++ ms) ys) w.joins

@@ -66,8 +66,8 @@ module _ (ts : List Tell) (x : Ident) (unnamed : Contains (flat_map named_by ts)
   unbound : told_domain ts x ≡ None
   unbound =
       ap common (nothing_in (told_sets ts x) (λ s h.
-          let g = told_set_by ts x s h in
-          unnamed_tell (Within g.variable g.intervals) g.tells (inl (alone_itself g.variable g.equal))))
+      let g = told_set_by ts x s h in
+      unnamed_tell (Within g.variable g.intervals) g.tells (inl (alone_itself g.variable g.equal))))
 
   pub valueless : value_of ts x ≡ None
   valueless = rw (untold, unbound) refl

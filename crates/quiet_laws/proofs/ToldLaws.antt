@@ -1,13 +1,11 @@
 -- What a step that tells a space with none below it makes of the queue.
-use Rattle.std.proofs.Common.{◌≡◌, inl, inr, ℕ, Bool, true, false, cond, List, [], ◌∷◌, ◌++◌, filter, refl, sym, ap, subst, ◌∙◌, Contains, Option, Some, is_some, unwrap_or}
+use Rattle.std.proofs.Common.{◌≡◌, inl, inr, ℕ, Bool, true, false, cond, List, [], ◌∷◌, ◌++◌, filter, refl, sym, ap, subst, ◌∙◌, Contains, Option, Some, unwrap_or}
 use Rattle.oz_base.specs.Lists.{list_eq}
 use Rattle.oz_base.specs.declared.names.Ident.{Ident}
 use Rattle.oz_language.specs.declared.kernel.Statement.{Statement}
 use Rattle.oz_semantics.specs.Names.{is_below, is_properly_below, parent_of}
 use Rattle.oz_semantics.specs.Store.{View, is_consistent}
 use Rattle.oz_semantics.specs.Configurations.{is_of, layer_at, layer_of, new_layer, view, in_layer, without_terminated, telling}
-use Rattle.oz_semantics.specs.Sights.{can_step}
-use Rattle.oz_semantics.specs.Spaces.{thread_ready}
 use Rattle.oz_semantics.specs.Changes.{Change, GivesOut, changed, changed_all, done}
 use Rattle.oz_semantics.specs.Settling.{Turned, is_inconsistent, inconsistent_spaces, queue_after, runnable_in, runnable, settled}
 use Rattle.oz_semantics.specs.Steps.{without_top}
@@ -17,14 +15,12 @@ use Rattle.oz_semantics.specs.declared.configuration.Layer.{Layer}
 use Rattle.oz_semantics.specs.declared.configuration.Configuration.{Configuration}
 use Rattle.oz_semantics.specs.declared.outcome.Stepped.TheVariants.{Moved}
 use Rattle.oz_laws.proofs.SameLaws.{In, In-from_contains, contains-from_In}
-use Rattle.oz_laws.proofs.StoreLaws.{tests_consistent}
-use Rattle.view_laws.specs.Sights.{SeesBesides}
 use Rattle.view_laws.specs.Needs.{NoneNeeded}
 use Rattle.view_laws.specs.Steps.{spawned_from, MadeOf, IsSound}
-use Rattle.view_laws.proofs.Members.{decide, not_both, has-left, has-right}
+use Rattle.view_laws.proofs.Members.{decide, not_both}
 use Rattle.view_laws.proofs.ListLaws.{in_filter, map_in, in_edit}
 use Rattle.view_laws.proofs.NameLaws.{below_itself, below_trans, names_equal, properly, properly_by}
-use Rattle.view_laws.proofs.SightLaws.{space_of, change_unseen, quiet_unseen, tell_seen}
+use Rattle.view_laws.proofs.SightLaws.{space_of, change_unseen, quiet_unseen}
 use Rattle.view_laws.proofs.ChangeLaws.{edit_of, changed_by, edit_keeps}
 use Rattle.view_laws.proofs.StepLaws.{changes_made}
 use Rattle.view_laws.proofs.NeedLaws.{nothing_fires}
@@ -32,7 +28,7 @@ use Rattle.view_laws.proofs.SettleLaws.{quiet_sound}
 use Rattle.settle_laws.proofs.EditLaws.{edits_join, edits_agree}
 use Rattle.settle_laws.proofs.SettleLaws.{settled_by}
 use Rattle.settle_laws.proofs.SoundLaws.{sound_settles}
-use Rattle.settle_laws.proofs.TellLaws.{consistent_part, tell_below}
+use Rattle.settle_laws.proofs.TellLaws.{tell_below}
 use Rattle.turn_laws.specs.Kept.{IsKept}
 use Rattle.turn_laws.specs.Telling.{IsAlone, others_of, staying}
 use Rattle.turn_laws.proofs.HeadLaws.{kept_head}

@@ -51,6 +51,10 @@ StackAwake =
     → ◌≡◌ {A = Turned} (went_on statements id cost (in_layer id.space (with_frames id.number (λ rest. frames)) (without_top id c.layers)) (record c { queue = queue }))
     (Moved cost, record c { layers = layers; queue = queue ++ id ∷ [] })
 
+-- the rest of the queue, as far as it can step still, and the thread that stepped
+abbrev pub rest_and : List Statement → List Layer → Ident → List Ident → List Ident
+rest_and statements layers id queue = filter (is_able_still statements layers id.space) queue ++ id ∷ []
+
 -- A space with none below it is told what is consistent with what it sees, no trigger is needed then, and the thread can step still. Then
 -- the queue is the rest, the thread, and all others of its own space, as far as they can step: of the rest, only threads of its own space
 -- may no longer
@@ -63,8 +67,6 @@ TellAwake =
       Moved cost,
       record c {
         layers = layers;
-        queue =
-            (filter (is_able_still statements layers id.space) queue ++ id ∷ [])
-            ++ others_of (filter (is_able_still statements layers id.space) queue ++ id ∷ []) (runnable_in statements layers (layer_of layers id.space));
+        queue = rest_and statements layers id queue ++ others_of (rest_and statements layers id queue) (runnable_in statements layers (layer_of layers id.space));
       },
     )
