@@ -28,7 +28,7 @@ use Rattle.oz_semantics.specs.declared.outcome.Stepped.{Stepped}
 use Rattle.oz_semantics.specs.declared.outcome.Stepped.TheVariants.{Moved, TopEnded, Quiescent}
 use Rattle.oz_language.specs.declared.kernel.Kernel.{Kernel}
 use Rattle.oz_semantics.specs.Schedule.{turn}
-use Rattle.oz_machine.proofs.TurnLaws.{quiet_turn}
+use Rattle.oz_machine.proofs.TurnLaws as turns
 use Rattle.turn_laws.proofs.KeptLaws.{kept_turn}
 use Rattle.oz_machine.specs.Turns.{cost_of, HasNotEnded, IsTurn}
 use Rattle.oz_base.specs.ListLaws.{list_eq-equivalence}
@@ -322,4 +322,4 @@ pub kept_turned : (k : Kernel) (c d : Configuration) (fuel : ℕ) (o : Option St
 kept_turned k c d fuel None kept t h = subst (IsKept k.statements) (sym t.1) kept
 kept_turned k c d fuel (Some (Moved cost)) kept t h = kept_turn k c cost d kept t
 kept_turned k c d fuel (Some (TopEnded x cost)) kept t h = absurd h
-kept_turned k c d fuel (Some Quiescent) kept t h = subst (IsKept k.statements) (sym (quiet_turn k c d t)) kept
+kept_turned k c d fuel (Some Quiescent) kept t h = subst (IsKept k.statements) (sym (turns.quiet_turn k c d t)) kept
