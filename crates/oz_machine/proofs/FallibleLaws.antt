@@ -1,20 +1,20 @@
 -- How many spaces may fail tells whether one failed.
-use Rattle.std.proofs.Common.{◌≡◌, ◌∙◌, ℕ, suc, zero, ◌+◌, ◌<◌, ◌≤◌, ◌&&◌, not, Bool, true, false, cond, List, [], ◌∷◌, filter, map, length, take, Some, refl, sym, ap, subst, arith, inl, inr}
+use Rattle.std.proofs.Common.{◌≡◌, ◌∙◌, ℕ, ◌+◌, ◌<◌, ◌≤◌, not, Bool, true, false, cond, List, [], ◌∷◌, filter, map, length, take, Some, refl, sym, ap, arith, inl, inr}
 use Rattle.std.specs.Prelude.{slice_get}
 use Rattle.std.specs.List.{fold}
 use Rattle.std.proofs.lemmas.List.Filters.{length-filter_more}
 use Rattle.std.proofs.lemmas.Option.{get_or_from_slice_get}
-use Rattle.oz_base.specs.Lists.{list_eq, edit_first}
+use Rattle.oz_base.specs.Lists.{list_eq}
 use Rattle.oz_base.specs.ListLaws.{list_eq-decides}
 use Rattle.oz_semantics.specs.Names.{is_properly_below}
 use Rattle.oz_semantics.specs.Store.{is_consistent}
-use Rattle.oz_semantics.specs.Configurations.{is_of, layer_at, in_layer, failed, view, telling}
+use Rattle.oz_semantics.specs.Configurations.{layer_at, in_layer, failed, view, telling}
 use Rattle.oz_semantics.specs.Settling.{may_fail, is_inconsistent, inconsistent_spaces, failing, without_inconsistent}
 use Rattle.oz_semantics.specs.declared.value.Tell.{Tell}
 use Rattle.oz_semantics.specs.declared.configuration.Status.{Status}
 use Rattle.oz_semantics.specs.declared.configuration.Layer.{Layer}
 use Rattle.oz_laws.proofs.SameLaws.{In, and-left}
-use Rattle.view_laws.specs.Trees.{IsTree, is_ascending, names_of}
+use Rattle.view_laws.specs.Trees.{IsTree}
 use Rattle.view_laws.proofs.NameLaws.{properly}
 use Rattle.turn_laws.proofs.HeadLaws.{find_layer}
 use Rattle.stability.proofs.PlaceLaws.{item_at}

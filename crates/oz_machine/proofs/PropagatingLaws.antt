@@ -1,15 +1,9 @@
 -- The run of a propagator that is due.
-use Rattle.std.proofs.Common.{◌≡◌, ◌∙◌, ℕ, suc, zero, ◌+◌, ◌-◌, ◌<◌, ◌≤◌, inl, inr, Bool, true, false, cond, if◌then◌else◌, List, [], ◌∷◌, ◌++◌, filter, length, take, drop, get_or, Option, Some, None, refl, sym, ap, subst, Contains, arith}
-use Rattle.std.specs.Prelude.{position, slice_get, is_some, Result, Ok, Err, IfOk, unwrap_or}
-use Rattle.std.specs.List.{fold}
+use Rattle.std.proofs.Common.{◌≡◌, ◌∙◌, ℕ, ◌<◌, ◌≤◌, true, List, [], length, get_or, Some, refl, sym, ap, subst, arith}
+use Rattle.std.specs.Prelude.{position, slice_get, is_some}
 use Rattle.std.proofs.lemmas.Option.{get_or_from_slice_get}
-use Rattle.std.specs.declared.alloc.AllocError.{AllocError}
-use Rattle.oz_base.specs.Lists.{list_eq, edit_first}
-use Rattle.oz_base.specs.declared.names.Ident.{Ident}
 use Rattle.oz_base.specs.declared.interval.Interval.{Interval}
 use Rattle.oz_language.specs.declared.kernel.Kernel.{Kernel}
-use Rattle.oz_language.specs.declared.kernel.Statement.{Statement}
-use Rattle.oz_semantics.specs.Names.{is_top, is_properly_below}
 use Rattle.oz_semantics.specs.Store.{View}
 use Rattle.oz_semantics.specs.Configurations.{is_of, view, in_layer, layer_at, layer_of, telling, giving_out}
 use Rattle.oz_semantics.specs.Exceptions.{raise_term, new_term_tells}
@@ -17,13 +11,12 @@ use Rattle.oz_semantics.specs.declared.outcome.RaiseKind.{RaiseKind}
 use Rattle.edit_laws.proofs.GraftLaws.{there_of}
 use Rattle.view_laws.specs.Trees.{IsTree}
 use Rattle.view_laws.proofs.TreeLaws.{change_tree}
-use Rattle.oz_semantics.specs.Propagation.{Run, Fails, Narrows, is_due, noted, noting, run_of, after_run}
+use Rattle.oz_semantics.specs.Propagation.{is_due, noted, noting, run_of, after_run}
 use Rattle.oz_semantics.specs.Schedule.{least_due, after_run_of, turn_of, turn}
 use Rattle.oz_semantics.specs.Settling.{Turned, without_inconsistent, with_raised}
 use Rattle.oz_semantics.specs.declared.value.Tell.{Tell}
 use Rattle.oz_semantics.specs.declared.configuration.Propagator.{Propagator}
 use Rattle.oz_semantics.specs.declared.configuration.Layer.{Layer}
-use Rattle.oz_semantics.specs.declared.configuration.Configuration.{Configuration}
 use Rattle.settle_laws.specs.Settles.{Settles}
 use Rattle.settle_laws.proofs.EditLaws.{are_quiet, edits_join, term_settles}
 use Rattle.settle_laws.proofs.SettleLaws.{quiet_settles, tell_settles, keeps_own}
