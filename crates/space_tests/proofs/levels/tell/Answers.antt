@@ -1,8 +1,0 @@
-use Rattle.std.proofs.Common.{Some, ap}
-use Rattle.std.specs.Prelude.{is_some}
-use Rattle.oz_semantics.specs.Configurations.{is_of}
-use Rattle.space_core.proofs.Firsts.{found_at}
-use Rattle.space_tests.proofs.levels.tell.Goals as goal
-
-pub tell-requires : goal.tell-requires
-tell-requires c = ap is_some (found_at (is_of c.args.space.now) c.args.levels.now (Some c.in-Some.field-0) c.in-Some.ensures).1.found
