@@ -18,7 +18,6 @@ use Rattle.oz_language.specs.declared.command.Command.{Command}
 use Rattle.oz_language.specs.declared.command.Command.TheVariants as commands
 use Rattle.oz_language.specs.declared.kernel.Kernel.{Kernel}
 use Rattle.oz_language.specs.declared.fault.Fault.{Fault}
-use Rattle.oz_language.specs.declared.fault.RefusalKind.TheVariants as kinds
 use Rattle.oz_semantics.specs.declared.configuration.Configuration.{Configuration}
 use Rattle.oz_replies.specs.declared.cause.Cause.{Cause}
 use Rattle.oz_replies.specs.declared.cause.Cause.TheVariants as causes

@@ -5,6 +5,7 @@ use Rattle.std.proofs.Crossing.{Vec-send, Vec-sync}
 use Rattle.oz_base.specs.contracts.names.SpaceName as name
 use Rattle.std.specs.contracts.option.Option as option
 use Rattle.oz_base.specs.contracts.names.Ident as ident
+use Rattle.oz_base.specs.contracts.interval.Interval as interval
 use Rattle.oz_base.specs.contracts.sequence.Sequence as sequence
 use Rattle.oz_base.specs.contracts.shared.Shared as shared
 use Rattle.oz_language.specs.contracts.kernel.Kernel as kernel
@@ -13,6 +14,7 @@ use Rattle.oz_semantics.specs.contracts.value.Tell as told
 use Rattle.oz_semantics.specs.contracts.configuration.Status as status
 use Rattle.oz_semantics.specs.contracts.configuration.Thread as thread
 use Rattle.oz_semantics.specs.contracts.configuration.Trigger as trigger
+use Rattle.oz_semantics.specs.contracts.configuration.Propagator as propagator
 use Rattle.shared_list.specs.contracts.list.SharedList as list
 use Rattle.cells_ports.specs.contracts.objects.Objects as objects
 use Rattle.term_store.specs.contracts.log.Log as log
@@ -28,11 +30,11 @@ use Rattle.oz_machine.specs.contracts.course.Course as course
 use Rattle.oz_machine.specs.contracts.machine.Machine as machine
 use denote.Builtin.{u8}
 
-pub tell_send : IsSend ident.the_row → IsSend value.the_row → IsSend told.the_row
-tell_send i v = variants_send told.enum ((i, (i, tt)), ((i, (v, tt)), tt))
+pub tell_send : IsSend ident.the_row → IsSend value.the_row → IsSend (sequence.the_row interval.the_row) → IsSend told.the_row
+tell_send i v d = variants_send told.enum ((i, (i, tt)), ((i, (v, tt)), ((i, (d, tt)), tt)))
 
-pub tell_sync : IsSync ident.the_row → IsSync value.the_row → IsSync told.the_row
-tell_sync i v = variants_sync told.enum ((i, (i, tt)), ((i, (v, tt)), tt))
+pub tell_sync : IsSync ident.the_row → IsSync value.the_row → IsSync (sequence.the_row interval.the_row) → IsSync told.the_row
+tell_sync i v d = variants_sync told.enum ((i, (i, tt)), ((i, (v, tt)), ((i, (d, tt)), tt)))
 
 due_send : IsSend ident.the_row → IsSend (option.the_row ident.the_row) → IsSend due.the_row
 due_send i o = variants_send due.enum (tt, ((i, (o, tt)), ((o, tt), tt)))
@@ -70,17 +72,17 @@ numbers_send = declared_send numbers.the_type (search sendable, (search sendable
 numbers_sync : IsSync numbers.the_row
 numbers_sync = declared_sync numbers.the_type (search sendable, (search sendable, (search sendable, (search sendable, tt))))
 
-level_send : IsSend name.the_row → IsSend status.the_row → IsSend store.the_row → IsSend (sequence.the_row ident.the_row) → IsSend (sequence.the_row thread.the_row) → IsSend (sequence.the_row trigger.the_row) → IsSend objects.the_row → IsSend level.the_row
-level_send s t u i h q o = declared_send level.the_type (s, (t, (u, (search sendable, (i, (threads_send h, (q, (o, (numbers_send, (search sendable, (search sendable, (search sendable, tt))))))))))))
+level_send : IsSend name.the_row → IsSend status.the_row → IsSend store.the_row → IsSend (sequence.the_row ident.the_row) → IsSend (sequence.the_row thread.the_row) → IsSend (sequence.the_row trigger.the_row) → IsSend (sequence.the_row propagator.the_row) → IsSend objects.the_row → IsSend level.the_row
+level_send s t u i h q p o = declared_send level.the_type (s, (t, (u, (search sendable, (i, (threads_send h, (q, (p, (o, (numbers_send, (search sendable, (search sendable, (search sendable, tt)))))))))))))
 
-level_sync : IsSync name.the_row → IsSync status.the_row → IsSync store.the_row → IsSync (sequence.the_row ident.the_row) → IsSync (sequence.the_row thread.the_row) → IsSync (sequence.the_row trigger.the_row) → IsSync objects.the_row → IsSync level.the_row
-level_sync s t u i h q o = declared_sync level.the_type (s, (t, (u, (search sendable, (i, (threads_sync h, (q, (o, (numbers_sync, (search sendable, (search sendable, (search sendable, tt))))))))))))
+level_sync : IsSync name.the_row → IsSync status.the_row → IsSync store.the_row → IsSync (sequence.the_row ident.the_row) → IsSync (sequence.the_row thread.the_row) → IsSync (sequence.the_row trigger.the_row) → IsSync (sequence.the_row propagator.the_row) → IsSync objects.the_row → IsSync level.the_row
+level_sync s t u i h q p o = declared_sync level.the_type (s, (t, (u, (search sendable, (i, (threads_sync h, (q, (p, (o, (numbers_sync, (search sendable, (search sendable, (search sendable, tt)))))))))))))
 
-pub levels_send : IsSend name.the_row → IsSend status.the_row → IsSend store.the_row → IsSend (sequence.the_row ident.the_row) → IsSend (sequence.the_row thread.the_row) → IsSend (sequence.the_row trigger.the_row) → IsSend objects.the_row → IsSend levels.the_row
-levels_send s t u i h q o = view_send _ _ _ _ _ (declared_send levels.TheInside.the_type (Vec-send level.the_row (level_send s t u i h q o), tt))
+pub levels_send : IsSend name.the_row → IsSend status.the_row → IsSend store.the_row → IsSend (sequence.the_row ident.the_row) → IsSend (sequence.the_row thread.the_row) → IsSend (sequence.the_row trigger.the_row) → IsSend (sequence.the_row propagator.the_row) → IsSend objects.the_row → IsSend levels.the_row
+levels_send s t u i h q p o = view_send _ _ _ _ _ (declared_send levels.TheInside.the_type (Vec-send level.the_row (level_send s t u i h q p o), tt))
 
-pub levels_sync : IsSync name.the_row → IsSync status.the_row → IsSync store.the_row → IsSync (sequence.the_row ident.the_row) → IsSync (sequence.the_row thread.the_row) → IsSync (sequence.the_row trigger.the_row) → IsSync objects.the_row → IsSync levels.the_row
-levels_sync s t u i h q o = view_sync _ _ _ _ _ (declared_sync levels.TheInside.the_type (Vec-sync level.the_row (level_sync s t u i h q o), tt))
+pub levels_sync : IsSync name.the_row → IsSync status.the_row → IsSync store.the_row → IsSync (sequence.the_row ident.the_row) → IsSync (sequence.the_row thread.the_row) → IsSync (sequence.the_row trigger.the_row) → IsSync (sequence.the_row propagator.the_row) → IsSync objects.the_row → IsSync levels.the_row
+levels_sync s t u i h q p o = view_sync _ _ _ _ _ (declared_sync levels.TheInside.the_type (Vec-sync level.the_row (level_sync s t u i h q p o), tt))
 
 pub machine_send : IsSend (shared.the_row kernel.the_row) → IsSend levels.the_row → IsSend queue.the_row → IsSend ident.the_row → IsSend (option.the_row ident.the_row) → IsSend (list.the_row (sequence.the_row u8)) → IsSend machine.the_row
 machine_send k l q i o s = view_send _ _ _ _ _ (declared_send machine.TheInside.the_type (k, (declared_send course.the_type (l, (q, (due_send i o, (s, tt)))), (search sendable, tt))))

@@ -4,6 +4,7 @@ ghost use Rattle.std.specs.Thread.{IsSend, IsSync};
 ghost use Rattle.std.specs.contracts.option.Option as option;
 ghost use Rattle.oz_base.specs.contracts.names.SpaceName as name;
 ghost use Rattle.oz_base.specs.contracts.names.Ident as ident;
+ghost use Rattle.oz_base.specs.contracts.interval.Interval as interval;
 ghost use Rattle.oz_base.specs.contracts.sequence.Sequence as sequence;
 ghost use Rattle.oz_base.specs.contracts.shared.Shared as shared;
 ghost use Rattle.oz_language.specs.contracts.kernel.Kernel as kernel;
@@ -14,6 +15,7 @@ ghost use Rattle.oz_semantics.specs.contracts.value.Tell as told;
 ghost use Rattle.oz_semantics.specs.contracts.configuration.Status as status;
 ghost use Rattle.oz_semantics.specs.contracts.configuration.Thread as thread;
 ghost use Rattle.oz_semantics.specs.contracts.configuration.Trigger as trigger;
+ghost use Rattle.oz_semantics.specs.contracts.configuration.Propagator as propagator;
 ghost use Rattle.shared_list.specs.contracts.list.SharedList as list;
 ghost use Rattle.cells_ports.specs.contracts.objects.Objects as objects;
 ghost use Rattle.term_store.specs.contracts.classes.Classes as classes;
@@ -24,9 +26,9 @@ ghost use Rattle.oz_machine.specs.contracts.machine.Machine as machine;
 ghost use Rattle.recompute.specs.contracts.frozen.Frozen as frozen;
 
 use environments::Environment;
-use oz_base::{Ident, Sequence, Shared, SpaceName};
+use oz_base::{Ident, Interval, Sequence, Shared, SpaceName};
 use oz_language::Kernel;
-use oz_semantics::{Procedure, Status, Tell, Thread, Trigger, Value};
+use oz_semantics::{Procedure, Propagator, Status, Tell, Thread, Trigger, Value};
 use oz_threads::Queue;
 use recompute::Frozen;
 use shared_list::SharedList;
@@ -100,18 +102,28 @@ fn values_cross()
     shares::<Value>();
 }
 
+fn intervals_cross()
+    ensures send { IsSend (sequence.the_row interval.the_row) }
+    ensures sync { IsSync (sequence.the_row interval.the_row) }
+{
+    sends::<Sequence<Interval>>();
+    shares::<Sequence<Interval>>();
+}
+
 fn tells_cross()
     ensures send { IsSend told.the_row }
     ensures sync { IsSync told.the_row }
 {
     ident_crosses();
     values_cross();
+    intervals_cross();
 }
 
 fn classes_cross()
     ensures send { IsSend (classes.the_row) }
     ensures sync { IsSync (classes.the_row) }
 {
+    values_cross();
     sends::<Classes>();
     shares::<Classes>();
 }
@@ -154,6 +166,14 @@ fn triggers_cross()
 {
     sends::<Sequence<Trigger>>();
     shares::<Sequence<Trigger>>();
+}
+
+fn propagators_cross()
+    ensures send { IsSend (sequence.the_row propagator.the_row) }
+    ensures sync { IsSync (sequence.the_row propagator.the_row) }
+{
+    sends::<Sequence<Propagator>>();
+    shares::<Sequence<Propagator>>();
 }
 
 fn ident_lists_cross()
@@ -214,6 +234,7 @@ fn levels_cross()
     idents_cross();
     threads_cross();
     triggers_cross();
+    propagators_cross();
     objects_cross();
 }
 
