@@ -1,5 +1,5 @@
 -- What follows an edit by the search, and the opening.
-use Rattle.std.proofs.Common.{◌≡◌, ℕ, List, [], ap, refl, subst, sym, ◌∙◌, Option, Some, None, Result, Ok, Err}
+use Rattle.std.proofs.Common.{◌≡◌, ℕ, List, [], ap, refl, subst, sym, ◌∙◌, true, Option, Some, None, Result, Ok, Err}
 use Rattle.std.specs.Prelude.{OnOk, OnErr, is_some, MatchOption}
 use Rattle.oz_base.specs.declared.names.Ident.{Ident}
 use Rattle.oz_language.specs.declared.kernel.Statement.{Statement}

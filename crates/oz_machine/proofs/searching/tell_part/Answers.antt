@@ -13,5 +13,5 @@ returns-then-branch-clause-ok c =
     let new = c.tell.new.self in
     let ts = c.deref.result.now in
     let told = subst (IsToldTo space ts old new) c.if-branch.true c.in_ok-tell.ensures.told in
-    let are : ts ≡ c.args.tell ∷ [] = c.deref.ensures.value ∙ c.in_ok-tells.ensures in
+    let are : ts ≡ c.args.tell ∷ [] = c.deref.ensures.value ∙ c.in_ok-tells.ensures.items in
     subst (λ (us : List Tell). Settles space (in_layer space (telling us) old) new) are (tell_settles space ts old new told.below told.left)
