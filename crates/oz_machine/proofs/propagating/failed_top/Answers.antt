@@ -1,4 +1,4 @@
-use Rattle.std.proofs.Common.{◌≡◌, ◌∙◌, [], List, ℕ, sym, ap, subst}
+use Rattle.std.proofs.Common.{◌≡◌, ◌∙◌, true, [], List, ℕ, sym, ap, subst}
 use Rattle.std.specs.Prelude.{is_some}
 use Rattle.oz_semantics.specs.Configurations.{layer_at, layer_of, in_layer, giving_out}
 use Rattle.oz_semantics.specs.Exceptions.{raise_term, new_term_tells}
@@ -31,7 +31,7 @@ returns-clause-levels c =
     let are : ts ≡ new_term_tells (layer_of levels []) (raise_term FailureTop) =
     c.deref.ensures.value ∙ made.tells ∙ ap (λ (ls : List Layer). new_term_tells (layer_of ls []) (raise_term FailureTop)) (sym same) in
     let tells : ToldTo [] ts levels told = subst (λ (s : List ℕ). ToldTo s ts levels told) name (subst (IsToldTo top ts levels told) c.if-not-branch.false c.in_ok-tell.ensures.told) in
-    let as_many : fallible told ≡ fallible levels = ? in
+    let as_many : fallible told ≡ fallible levels = sym c.fallible.ensures ∙ c.if-fallible-before.false ∙ c.fallible-before.ensures in
     let gives : new ≡ in_layer [] (giving_out raised.count) told = c.in_ok-give_out.ensures.ok ∙ ap (λ (s : List ℕ). in_layer s (giving_out raised.count) told) name in
     subst (λ (ls : List Layer). new ≡ with_raised FailureTop [] ls) same (top_told levels told new ts raised.count FailureTop c.is_tree.ensures there are made.count tells as_many gives)
 

@@ -1,4 +1,4 @@
-use Rattle.std.proofs.Common.{◌∙◌, Some, None, sym}
+use Rattle.std.proofs.Common.{◌≡◌, ◌∙◌, Some, None, sym}
 use Rattle.oz_acts.proofs.PlaceLaws.{place_none, place_some}
 use Rattle.oz_machine.proofs.PropagatingLaws.{placed_noted}
 use Rattle.oz_machine.proofs.propagating.note.Goals as goal

@@ -1,14 +1,14 @@
-use Rattle.std.specs.Prelude.{IfOk}
+use Rattle.std.specs.Prelude.{◌≡◌, IfOk}
 use Rattle.oz_semantics.specs.Propagation.{run_of}
 use Rattle.propagation.specs.Runs.{run_as}
 use Rattle.oz_machine.proofs.PropagatingLaws.{due_read, read_due}
 use Rattle.oz_machine.proofs.propagating.run_at.Goals as goal
 
-pub store_at-requires : goal.store_at-requires
-store_at-requires c = c.requires.there.within
+pub store_at-store-requires : goal.store_at-store-requires
+store_at-store-requires c = c.requires.there.within
 
-pub propagators_at-requires : goal.propagators_at-requires
-propagators_at-requires c = c.requires.there.within
+pub propagators_at-propagators-requires : goal.propagators_at-propagators-requires
+propagators_at-propagators-requires c = c.requires.there.within
 
 pub returns : goal.returns
 returns c = λ l p least.
