@@ -1,7 +1,7 @@
-use Rattle.std.proofs.Common.{◌≡◌, ◌∙◌, Bool, true, false, if◌then◌else◌, List, ℕ, None, sym, ap, subst}
+use Rattle.std.proofs.Common.{◌≡◌, ◌∙◌, Bool, true, false, if◌then◌else◌, List, ℕ, None, sym, ap}
 use Rattle.oz_semantics.specs.Names.{is_top}
 use Rattle.oz_semantics.specs.Schedule.{run_failed}
-use Rattle.oz_semantics.specs.Settling.{Turned, settled, failing, top_failed}
+use Rattle.oz_semantics.specs.Settling.{settled, failing, top_failed}
 use Rattle.oz_machine.specs.Courses.{config_of}
 use Rattle.oz_machine.specs.Propagating.{as_it_is}
 use Rattle.oz_machine.proofs.DoingLaws.{ok_turn}

@@ -1,4 +1,4 @@
-use Rattle.std.proofs.Common.{◌≡◌, List, subst, sym}
+use Rattle.std.proofs.Common.{List, subst}
 use Rattle.settle_laws.specs.Settles.{Settles}
 use Rattle.settle_laws.proofs.SettleLaws.{nothing_fails}
 use Rattle.oz_semantics.specs.Settling.{failing}

@@ -1,4 +1,4 @@
-use Rattle.std.proofs.Common.{◌≡◌, ◌∙◌, ◌+◌, sym, ap, arith}
+use Rattle.std.proofs.Common.{◌∙◌, ◌+◌, sym, ap, arith}
 use Rattle.oz_semantics.specs.Settling.{may_fail}
 use Rattle.oz_machine.proofs.FallibleLaws.{fallible_more, one_at_most}
 use Rattle.oz_machine.proofs.propagating.fallible.Goals as goal

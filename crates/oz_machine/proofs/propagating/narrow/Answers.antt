@@ -1,4 +1,4 @@
-use Rattle.std.proofs.Common.{◌≡◌, ◌∙◌, false, sym, ap, subst}
+use Rattle.std.proofs.Common.{◌∙◌, ap, subst}
 use Rattle.std.specs.Prelude.{is_some}
 use Rattle.oz_semantics.specs.Configurations.{view, in_layer, layer_at}
 use Rattle.oz_semantics.specs.Propagation.{after_run}
