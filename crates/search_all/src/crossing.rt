@@ -18,6 +18,9 @@ ghost use Rattle.oz_semantics.specs.contracts.configuration.Trigger as trigger;
 ghost use Rattle.oz_semantics.specs.contracts.configuration.Propagator as propagator;
 ghost use Rattle.shared_list.specs.contracts.list.SharedList as list;
 ghost use Rattle.cells_ports.specs.contracts.objects.Objects as objects;
+ghost use Rattle.fd_domain.specs.contracts.domain.Domain as domain;
+ghost use Rattle.term_store.specs.contracts.class_domain.ClassDomain as class_domain;
+ghost use Rattle.term_store.specs.contracts.cell.Cell as cell;
 ghost use Rattle.term_store.specs.contracts.classes.Classes as classes;
 ghost use Rattle.term_store.specs.contracts.store.Store as store;
 ghost use Rattle.space_core.specs.contracts.levels.Levels as levels;
@@ -26,13 +29,13 @@ ghost use Rattle.oz_machine.specs.contracts.machine.Machine as machine;
 ghost use Rattle.recompute.specs.contracts.frozen.Frozen as frozen;
 
 use environments::Environment;
+use fd_domain::Domain;
 use oz_base::{Ident, Interval, Sequence, Shared, SpaceName};
 use oz_language::Kernel;
 use oz_semantics::{Procedure, Propagator, Status, Tell, Thread, Trigger, Value};
 use oz_threads::Queue;
 use recompute::Frozen;
 use shared_list::SharedList;
-use term_store::Classes;
 
 /// Nothing, as all functions here: its clause says that a type may be sent to another thread.
 fn sends<T: Send>()
@@ -119,13 +122,44 @@ fn tells_cross()
     intervals_cross();
 }
 
-fn classes_cross()
-    ensures send { IsSend (classes.the_row) }
-    ensures sync { IsSync (classes.the_row) }
+fn optional_values_cross()
+    ensures send { IsSend (option.the_row value.the_row) }
+    ensures sync { IsSync (option.the_row value.the_row) }
 {
     values_cross();
-    sends::<Classes>();
-    shares::<Classes>();
+    sends::<Option<Value>>();
+    shares::<Option<Value>>();
+}
+
+fn domains_cross()
+    ensures send { IsSend domain.the_row }
+    ensures sync { IsSync domain.the_row }
+{
+    sends::<Domain>();
+    shares::<Domain>();
+}
+
+fn class_domains_cross()
+    ensures send { IsSend class_domain.the_row }
+    ensures sync { IsSync class_domain.the_row }
+{
+    domains_cross();
+    optional_values_cross();
+}
+
+fn cells_cross()
+    ensures send { IsSend cell.the_row }
+    ensures sync { IsSync cell.the_row }
+{
+    ident_crosses();
+    class_domains_cross();
+}
+
+fn classes_cross()
+    ensures send { IsSend classes.the_row }
+    ensures sync { IsSync classes.the_row }
+{
+    cells_cross();
 }
 
 fn names_cross()
