@@ -94,7 +94,7 @@ fn each_run_is_answered(rt: HostRuntime) -> Result<(), Fail> {
             "2\n",
             0,
         ),
-        (&["run"], b"X in X=FD", "refused syntax 7\n", 3),
+        (&["run"], b"X in X::1#3 X::2#5 {Show X}", "_{2#3}\n", 0),
         (&["kernel"], b"thread skip end", "thread skip end\n", 0),
     ];
     check(&rt, rt.alloc(), &rows)

@@ -5,7 +5,7 @@ use oz_base::{Copies, Ident, Sequence, SpaceName};
 use oz_language::{Identifier, Statement};
 use oz_semantics::{Builtin, Code, Frame, SpaceOperation, State, Value};
 use space_core::Levels;
-use stability::{chosen, goes_on, runnable, space_state};
+use stability::{Choice, chosen, goes_on, runnable, space_state};
 use std::alloc::{AllocError, Global};
 use std::test::Fail;
 
@@ -84,6 +84,7 @@ fn a_child_that_waits_for_the_top_is_suspended(rt: HostRuntime) -> Result<(), Fa
     let top = SpaceName::top();
     let statements = program(alloc)?;
     assert!(rt; !goes_on(alloc, statements.as_slice(), &levels, &top)?);
-    assert!(rt; chosen(alloc, statements.as_slice(), &levels, &top, 1)?.is_none());
+    let choice = chosen(alloc, statements.as_slice(), &levels, &top, 1)?;
+    assert!(rt; matches!(&choice, Choice::Nothing));
     Ok(())
 }
