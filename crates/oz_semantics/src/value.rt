@@ -113,9 +113,15 @@ impl Copies for Value {
 #[derive(Drop)]
 pub enum Tell {
     /// `x=y`
-    Equal { left: Ident, right: Ident },
+    Equal {
+        left: Ident,
+        right: Ident,
+    },
     /// `x=v`
-    Is { variable: Ident, value: Value },
+    Is {
+        variable: Ident,
+        value: Value,
+    },
     /// `x` is an integer of one of these intervals, which ascend, with gaps between them.
     Within {
         variable: Ident,
