@@ -40,7 +40,7 @@ module _ (s : List ℕ) where
       by true k = let p = properly l.space s k in absurd (p.1 (below_anti l.space s p.0 e))
       by false k = rw k refl
 
-  pub quieted_is : {B : Type 0} (f : Layer → B) → ((l : Layer) → f (record l { threads = []; triggers = [] }) ≡ f l) → (l : Layer) → f (quieted s l) ≡ f l
+  pub quieted_is : {B : Type 0} (f : Layer → B) → ((l : Layer) → f (record l { threads = []; triggers = []; propagators = [] }) ≡ f l) → (l : Layer) → f (quieted s l) ≡ f l
   quieted_is f h l = by (is_properly_below l.space s) refl
     where
       by : (b : Bool) → is_properly_below l.space s ≡ b → f (quieted s l) ≡ f l

@@ -98,7 +98,7 @@ module _ (s : List ℕ) where
         by true = own_none l.space e (able l)
         by false = refl
 
-    none_runnable : (l : Layer) → runnable_in statements layers (record l { threads = []; triggers = [] }) ≡ []
+    none_runnable : (l : Layer) → runnable_in statements layers (record l { threads = []; triggers = []; propagators = [] }) ≡ []
     none_runnable l = by (is_open l.status)
       where
         by : (b : Bool) → ◌≡◌ {A = List Ident} (if b then [] else []) []
@@ -112,7 +112,7 @@ module _ (s : List ℕ) where
     | inr k ↦ absurd (not_both _ k f)
   ]
 
-  pub quiet_layer : (l : Layer) → is_kept s l ≡ true → is_below s l.space ≡ false → quieted s l ≡ record l { threads = []; triggers = [] }
+  pub quiet_layer : (l : Layer) → is_kept s l ≡ true → is_below s l.space ≡ false → quieted s l ≡ record l { threads = []; triggers = []; propagators = [] }
   quiet_layer l e f = rw (ancestor l e f) refl
 
   pub runnable_alone : (statements : List Statement) (layers : List Layer) → runnable statements (alone_layers s layers) ≡ filter (is_own s) (runnable statements layers)

@@ -1,5 +1,5 @@
 -- That a space alone rests where what steps does not concern it.
-use Rattle.std.proofs.Common.{◌≡◌, inl, inr, ℕ, Bool, true, false, not, if◌then◌else◌, cond, List, [], ◌∷◌, ◌++◌, filter, map, refl, sym, ap, ap₂, ◌∙◌, Some, None}
+use Rattle.std.proofs.Common.{◌≡◌, inl, inr, ℕ, Bool, true, false, not, if◌then◌else◌, cond, List, [], ◌∷◌, ◌++◌, filter, map, refl, sym, ap, ap₂, ◌∙◌, Option, Some, None}
 use Rattle.std.proofs.lemmas.Bool.{false≢true}
 use Rattle.std.proofs.lemmas.List.{append-nil}
 use Rattle.oz_base.specs.declared.names.Ident.{Ident}
@@ -15,12 +15,12 @@ use Rattle.view_laws.proofs.Members.{decide, not_both, or_cases}
 use Rattle.view_laws.proofs.NameLaws.{below_trans}
 use Rattle.view_laws.proofs.ListLaws.{in_among, filter_all, filter_none}
 use Rattle.settle_laws.proofs.ListEdits.{filter_inside}
-use Rattle.alone_laws.specs.Alone.{is_kept, quieted, alone_layers, is_own, alone, RestsAlone}
+use Rattle.alone_laws.specs.Alone.{is_kept, quieted, alone_layers, is_own, alone, RestsAlone, RestsAtRuns}
 use Rattle.alone_laws.proofs.OutsideLaws.{is_outside, outside, Stay}
 use Rattle.alone_laws.proofs.StepLaws.{Rested}
 use Rattle.alone_laws.proofs.AloneLaws.{comparable}
 use Rattle.alone_laws.proofs.AloneParts.{own_mover, own_queue, runnable_alone}
-use Rattle.alone_laws.proofs.AloneTurns.{turn_rests}
+use Rattle.alone_laws.proofs.AloneTurns.{turn_rests, run_turn_rests}
 
 -- A queue that holds exactly the threads that can step stays
 exact_rests : (ids queue : List Ident) → ((id : Ident) → is_among queue id ≡ is_among ids id) → queue_after ids None queue ≡ queue
@@ -54,23 +54,16 @@ module _ (s t : List ℕ) (apart : is_below s t ≡ false) (aside : is_below t s
   layers_rest : (before after : List Layer) → Stay t before after → alone_layers s after ≡ alone_layers s before
   layers_rest before after n = sym (alone_outside after) ∙ ap (alone_layers s) n ∙ alone_outside before
 
-module _ (statements : List Statement) (space : List ℕ) (c : Configuration) (id : Ident) (rest : List Ident) (exact : IsExact statements c.layers c.queue) (q : c.queue ≡ id ∷ rest)
-    (apart : is_below space id.space ≡ false) (aside : is_below id.space space ≡ false) where
-  -- the thread that stepped is none of the space's
-  rest_queue : filter (is_own space) rest ≡ filter (is_own space) c.queue
-  rest_queue = sym (ap (filter (is_own space)) q ∙ ap (λ (b : Bool). cond b (id ∷ filter (is_own space) rest) (filter (is_own space) rest)) apart)
-
-  no_mover : own_mover space (Some id) ≡ None
-  no_mover = ap (λ (b : Bool). if b then Some id else None) apart
-
-  rested : (turned : Turned) → Rested statements id c.layers (record c { queue = rest }) turned → alone space turned.1 ≡ alone space c
+module _ (statements : List Statement) (space t : List ℕ) (mover : Option Ident) (c : Configuration) (rest : List Ident) (exact : IsExact statements c.layers c.queue)
+    (rest_queue : filter (is_own space) rest ≡ filter (is_own space) c.queue) (no_mover : own_mover space mover ≡ None) (apart : is_below space t ≡ false) (aside : is_below t space ≡ false) where
+  rested : (turned : Turned) → Rested statements t mover c.layers (record c { queue = rest }) turned → alone space turned.1 ≡ alone space c
   rested (Moved cost, d) h =
       let able : List Ident = filter (is_own space) (runnable statements c.layers) in
-      let layers : alone_layers space d.layers ≡ alone_layers space c.layers = layers_rest space id.space apart aside c.layers d.layers h.0 in
+      let layers : alone_layers space d.layers ≡ alone_layers space c.layers = layers_rest space t apart aside c.layers d.layers h.0 in
       let ids : filter (is_own space) (runnable statements d.layers) ≡ able =
       sym (runnable_alone space statements d.layers) ∙ ap (runnable statements) layers ∙ runnable_alone space statements c.layers in
       let queue : filter (is_own space) d.queue ≡ filter (is_own space) c.queue =
-      ap (filter (is_own space)) h.1 ∙ own_queue space (runnable statements d.layers) (Some id) rest
+      ap (filter (is_own space)) h.1 ∙ own_queue space (runnable statements d.layers) mover rest
       ∙ ap₂ (λ xs m. queue_after xs m (filter (is_own space) rest)) ids no_mover ∙ ap (queue_after able None) rest_queue
       ∙ sym (own_queue space (runnable statements c.layers) None c.queue) ∙ ap (filter (is_own space)) (exact_rests (runnable statements c.layers) c.queue exact) in
       λ i. record { layers = layers i; queue = queue i; shown = h.2 i }
@@ -81,5 +74,13 @@ pub not_top : (s t : List ℕ) → is_below t s ≡ false → is_top t ≡ false
 not_top s [] e = absurd (false≢true (sym e))
 not_top s (n ∷ t) e = refl
 
+-- the thread that stepped is none of the space's
 pub rests_alone : RestsAlone
-rests_alone k c space id rest kept q apart aside = rested k.statements space c id rest kept.exact q apart aside (turn k c) (turn_rests k c id rest kept q (not_top space id.space aside))
+rests_alone k c space id rest kept none q apart aside =
+    rested k.statements space id.space (Some id) c rest kept.exact
+    (sym (ap (filter (is_own space)) q ∙ ap (λ (b : Bool). cond b (id ∷ filter (is_own space) rest) (filter (is_own space) rest)) apart))
+    (ap (λ (b : Bool). if b then Some id else None) apart) apart aside (turn k c) (turn_rests k c id rest kept none q (not_top space id.space aside))
+
+pub rests_at_runs : RestsAtRuns
+rests_at_runs k c space due kept e apart aside =
+    rested k.statements space due.0.space None c c.queue kept.exact refl refl apart aside (turn k c) (run_turn_rests k c due kept e (not_top space due.0.space aside))

@@ -1,5 +1,5 @@
 -- That threads and spaces below a space are in the same state where the space is alone.
-use Rattle.std.proofs.Common.{◌≡◌, inl, inr, ℕ, Bool, true, false, not, ◌&&◌, ◌||◌, if◌then◌else◌, List, [], ◌∷◌, filter, map, flat_map, filter_map, refl, sym, ap, ap₂, subst, ◌∙◌, Option, Some}
+use Rattle.std.proofs.Common.{◌≡◌, inl, inr, ℕ, Bool, true, false, not, ◌&&◌, ◌||◌, if◌then◌else◌, List, [], ◌∷◌, ◌++◌, filter, map, flat_map, filter_map, refl, sym, ap, ap₂, subst, ◌∙◌, Option, Some}
 use Rattle.std.specs.List.{list_any}
 use Rattle.oz_base.specs.Lists.{list_eq, first}
 use Rattle.oz_base.specs.declared.names.Ident.{Ident}
@@ -11,7 +11,7 @@ use Rattle.oz_semantics.specs.Sights.{Sight, States, state_in, Readiness, can_st
 use Rattle.oz_semantics.specs.Readiness.{answer_ready}
 use Rattle.oz_semantics.specs.Operations.{with_state, operated, by_state}
 use Rattle.oz_semantics.specs.Statements.{stack_answer}
-use Rattle.oz_semantics.specs.Spaces.{answer_in, ready_in, readinesses, layer_goes_on, waited_in, layers_below, subtree_goes_on, is_held, layer_waits, waits_outside, alike_on, is_stable, stable_state, open_state, state_by, states_behind, states_of, goes_on}
+use Rattle.oz_semantics.specs.Spaces.{answer_in, ready_in, readinesses, layer_goes_on, waited_in, layers_below, subtree_goes_on, is_held, has_due, undecided_in, is_left, layer_waits, waits_outside, alike_on, is_stable, stable_state, open_state, state_by, states_behind, states_of, goes_on}
 use Rattle.oz_semantics.specs.Settling.{runnable_in}
 use Rattle.oz_semantics.specs.declared.configuration.Frame.{Frame}
 use Rattle.oz_semantics.specs.declared.configuration.Layer.{Layer}
@@ -39,7 +39,7 @@ parent_above u = by (list_eq (parent_of u) u) refl
 pub answers_same : (s : Sight) (one other : List Layer) (known later : States) → ((c : List ℕ) → is_child_of s.space c ≡ true → (state_in known c ≡ state_in later c) × (view one c ≡ view other c))
     → (frames : List Frame) → by_state one s known (stack_answer s frames) ≡ by_state other s later (stack_answer s frames)
 answers_same s one other known later same frames =
-    stack_holds s (λ a. by_state one s known a ≡ by_state other s later a) (λ act. refl) (λ procedure x. refl) (λ kind. refl) (λ x. refl) (λ ready. refl)
+    stack_holds s (λ a. by_state one s known a ≡ by_state other s later a) (λ act. refl) (λ procedure x. refl) (λ kind. refl) (λ x. refl) (λ ts. refl) (λ ready. refl)
     (λ op c x y told below. let e = same c below in ap₂ (λ (o : Option State) (inner : View). with_state o (operated s inner op c x)) e.0 e.1) frames
 
 module _ (statements : List Statement) (s : List ℕ) (layers : List Layer) where
@@ -67,7 +67,7 @@ module _ (statements : List Statement) (s : List ℕ) (layers : List Layer) wher
 
   goes_same : (one other : States) → AgreeStates one other → (l : Layer) → is_below s l.space ≡ true → layer_goes_on statements part one l ≡ layer_goes_on statements layers other l
   goes_same one other a l e =
-      ap (list_any can_step) (ready_same one other a l e)
+      ap₂ (λ (rs : List Readiness) (v : View). list_any can_step rs || has_due v l) (ready_same one other a l e) (own_view s l.space e layers)
 
   below_same : (u : List ℕ) → is_below s u ≡ true → layers_below part u ≡ layers_below layers u
   below_same u e = own_filtered s (λ (l : Layer). is_below u l.space) (λ l k. below_trans s u l.space e k) (quieted_is s (λ (l : Layer). is_below u l.space) (λ l. refl)) layers
@@ -79,7 +79,7 @@ module _ (statements : List Statement) (s : List ℕ) (layers : List Layer) wher
 
   waits_same : (one other : States) → AgreeStates one other → (held : List Ident) (l : Layer) → is_below s l.space ≡ true → layer_waits statements part one held l ≡ layer_waits statements layers other held l
   waits_same one other a held l e =
-      ap₂ (λ (rs : List Readiness) (v : View). list_any (is_held v held) (flat_map waits_of rs)) (ready_same one other a l e) (own_view s l.space e layers)
+      ap₂ (λ (rs : List Readiness) (v : View). list_any (is_held v held) (flat_map waits_of rs ++ undecided_in v l)) (ready_same one other a l e) (own_view s l.space e layers)
 
   own_variables : (u : List ℕ) → is_below s u ≡ true → ancestor_variables part u ≡ ancestor_variables layers u
   own_variables u e = kept_variables s u (or_right (is_below u s) _ e) layers
@@ -104,14 +104,15 @@ module _ (statements : List Statement) (s : List ℕ) (layers : List Layer) wher
       ∙ ap (λ v. stable_by (subtree_goes_on statements layers other u) (waits_outside statements layers other u) (ancestor_variables layers u) v (view part (parent_of u))) (own_view s u e layers)
       ∙ ap (λ p. stable_by (subtree_goes_on statements layers other u) (waits_outside statements layers other u) (ancestor_variables layers u) (view layers u) p) (kept_view s (parent_of u) (parent_kept u e) layers)
 
-  abbrev open_by : Bool → Bool → List Thread → List Readiness → State
-  open_by b c ts rs = if b then states.Running else (if c then stable_state (first (filter_map offer_of rs)) ts else states.Suspended)
+  abbrev open_by : Bool → Bool → Bool → List Readiness → State
+  open_by b c left rs = if b then states.Running else (if c then stable_state (first (filter_map offer_of rs)) left else states.Suspended)
 
   open_same : (one other : States) → AgreeStates one other → (l : Layer) → is_below s l.space ≡ true → open_state statements part one l ≡ open_state statements layers other l
   open_same one other a l e =
-      ap (λ b. open_by b (is_stable statements part one l.space) l.threads (readinesses statements part one l)) (subtree_same one other a l.space e)
-      ∙ ap (λ c. open_by (subtree_goes_on statements layers other l.space) c l.threads (readinesses statements part one l)) (stable_same one other a l.space e)
-      ∙ ap (λ rs. open_by (subtree_goes_on statements layers other l.space) (is_stable statements layers other l.space) l.threads rs) (ready_same one other a l e)
+      ap (λ b. open_by b (is_stable statements part one l.space) (is_left (view part l.space) l) (readinesses statements part one l)) (subtree_same one other a l.space e)
+      ∙ ap (λ c. open_by (subtree_goes_on statements layers other l.space) c (is_left (view part l.space) l) (readinesses statements part one l)) (stable_same one other a l.space e)
+      ∙ ap (λ v. open_by (subtree_goes_on statements layers other l.space) (is_stable statements layers other l.space) (is_left v l) (readinesses statements part one l)) (own_view s l.space e layers)
+      ∙ ap (λ rs. open_by (subtree_goes_on statements layers other l.space) (is_stable statements layers other l.space) (is_left (view layers l.space) l) rs) (ready_same one other a l e)
 
   state_same : (one other : States) → AgreeStates one other → (l : Layer) → is_below s l.space ≡ true → (st : Status) → state_by statements part one l st ≡ state_by statements layers other l st
   state_same one other a l e status.Open = open_same one other a l e

@@ -6,7 +6,7 @@ use Rattle.oz_semantics.specs.Names.{is_below, is_top, named}
 use Rattle.oz_semantics.specs.Store.{View, is_consistent}
 use Rattle.oz_semantics.specs.Configurations.{view, in_layer, with_frames, without_terminated, ending, telling, frames_in, thread_at, stack_of, layer_of}
 use Rattle.oz_semantics.specs.Spaces.{states_of, answer_in}
-use Rattle.oz_semantics.specs.Answers.{Edit, Answer, Acts, Edits, RaisesKind, RaisesTerm, Operates, Rests}
+use Rattle.oz_semantics.specs.Answers.{Edit, Answer, Acts, Edits, RaisesKind, RaisesTerm, Operates, Widens, Rests}
 use Rattle.oz_semantics.specs.Changes.{changed_all}
 use Rattle.oz_semantics.specs.Effects.{Effect, Makes, Tells, ShowsText, act_effect}
 use Rattle.oz_semantics.specs.Exceptions.{raise_term, with_term, unwound}
@@ -163,6 +163,7 @@ module _ (k : Kernel) (s : List ℕ) (id : Ident) (inner : is_below s id.space �
   answer_alone part layers c (RaisesKind kind) own o n m e = raised_kind_alone kind part layers c n e
   answer_alone part layers c (RaisesTerm x) own o n m e = raised_alone x part layers c n e
   answer_alone part layers c (Operates op space x) own o n m e = settled_with 1 c (Part c.layers) c.layers m refl
+  answer_alone part layers c (Widens ts) own o n m e = told_alone ts (λ ls. ls) (Part c.layers) c.layers c m refl (λ h. h) refl
   answer_alone part layers c (Rests ready) own o n m e = settled_with 1 c (Part c.layers) c.layers m refl
 
   -- what its statement answers

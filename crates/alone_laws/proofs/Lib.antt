@@ -11,6 +11,7 @@ pub mod AloneParts
 pub mod AloneRest
 pub mod AloneEdits
 pub mod AloneSteps
+pub mod AloneDues
 pub mod AloneTurns
 pub mod AloneRests
 pub mod AloneRunLaws

@@ -1,12 +1,12 @@
 -- What follows a step: where no layer changed that is not below a space, none of these changes.
-use Rattle.std.proofs.Common.{◌≡◌, inl, inr, ℕ, zero, suc, Bool, true, false, not, ◌&&◌, ◌||◌, if◌then◌else◌, List, [], ◌∷◌, filter, map, length, refl, sym, ap, ap₂, subst, ◌∙◌, fold}
+use Rattle.std.proofs.Common.{◌≡◌, inl, inr, ℕ, zero, suc, Bool, true, false, not, ◌&&◌, ◌||◌, if◌then◌else◌, List, [], ◌∷◌, filter, map, length, refl, sym, ap, ap₂, subst, ◌∙◌, fold, is_some}
 use Rattle.std.specs.List.{list_any, sum_by}
 use Rattle.std.proofs.lemmas.Bool.{false≢true}
 use Rattle.oz_base.specs.Lists.{list_eq}
 use Rattle.oz_base.specs.declared.names.Ident.{Ident}
 use Rattle.oz_language.specs.declared.kernel.Statement.{Statement}
 use Rattle.oz_semantics.specs.Names.{is_below, is_top, is_child_of}
-use Rattle.oz_semantics.specs.Store.{View, same, is_determined, is_consistent}
+use Rattle.oz_semantics.specs.Store.{View, same, domain_of, is_determined, is_consistent}
 use Rattle.oz_semantics.specs.Configurations.{is_open, view, failed}
 use Rattle.oz_semantics.specs.Sights.{state_in}
 use Rattle.oz_semantics.specs.Spaces.{states_of, waited_in}
@@ -63,12 +63,13 @@ module _ (statements : List Statement) (t : List ℕ) (before : List Layer) (sou
       let seen : view layers l.space ≡ v = view_stays t l.space before layers k n in
       let later : List Ident = waited_in statements layers (states_of statements layers) l in
       let known : List Ident = waited_in statements before (states_of statements before) l in
-      let f : (is_determined v u.variable || list_any (same v u.variable) later) ≡ true =
+      let f : (is_determined v u.variable || is_some (domain_of v u.variable) || list_any (same v u.variable) later) ≡ true =
       ap (λ w. is_needed w later u) (sym seen) ∙ and-right (is_open l.status) _ e in
+      let known_one : Bool = is_determined v u.variable || is_some (domain_of v u.variable) in
       and_both (is_open l.status) _ (and-left _ _ e)
-      (elim (or_cases (is_determined v u.variable) _ f) [
-        | inl g ↦ or_left _ _ g
-        | inr g ↦ or_right (is_determined v u.variable) _
+      (elim (or_cases known_one (list_any (same v u.variable) later) f) [
+        | inl g ↦ or_left known_one (list_any (same v u.variable) known) g
+        | inr g ↦ or_right known_one (list_any (same v u.variable) known)
             (layer_waits_less statements before layers (states_of statements before) (states_of statements layers) l.space seen (children_fade layers n l.space k) (same v u.variable) l refl g)
       ])
 

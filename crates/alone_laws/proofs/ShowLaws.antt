@@ -23,7 +23,14 @@ use Rattle.oz_semantics.specs.Entailment.{Equality, Entailed, Contradicted, Unde
 use Rattle.oz_semantics.specs.Terms.{list_term}
 use Rattle.oz_semantics.specs.Sights.{Sight, States, state_in, Number, Offers}
 use Rattle.oz_semantics.specs.Answers.{Act, Edit, Creates, Commits, Copies, TakesIn, Answer, Acts, Edits, RaisesKind, Operates, Rests, GivesTerm, Passes, Reads, Writes, Exchanges, Sends, Delays, Shows, given, with_value, of_kind, argument, gives_constant}
-use Rattle.oz_semantics.specs.Builtins.{truth, gives_number, with_integers, compares, computes, of_equality, label_in, arity_in, gives_field, field_at, selects, own_act, on_cell, on_port, delays, creates, choice_limit, offered, operates, of_operation, answer, arguments_of, call_answer}
+use Rattle.oz_semantics.specs.Builtins.{truth, gives_number, with_integers, compares, computes, of_equality, label_in, arity_in, gives_field, field_at, selects, own_act, on_cell, on_port, delays, creates, choice_limit, offered, operates, of_input, unless_refused, confines, posts, distributes, of_operation, answer, arguments_of, call_answer}
+use Rattle.oz_semantics.specs.Inputs.{Input, Known, Unknown, OtherKind, both}
+use Rattle.oz_semantics.specs.Vectors.{vector}
+use Rattle.oz_semantics.specs.Constraints.{bounds, refusal_of}
+use Rattle.oz_semantics.specs.Distributors as distributors
+use Rattle.oz_semantics.specs.Distributors.{Distribution, Finished, Splits, distribution}
+use Rattle.oz_base.specs.declared.relation.Relation.TheVariants.{Distinct}
+use Rattle.oz_semantics.specs.declared.outcome.RaiseKind.{RaiseKind}
 use Rattle.oz_semantics.specs.Statements.{value_called, called, branch, literal_branch, clause, statement_answer, numbered_answer, code_answer, stack_answer}
 use Rattle.oz_semantics.specs.Operations.{once_decided, unless_merged, unless_ended, alternative_of, committed_in, injected_in, injects, state_term, operated, with_state, by_state}
 use Rattle.oz_semantics.specs.declared.configuration.Code.{Code}
@@ -67,6 +74,15 @@ given_silent x (Some v) go h = h v
 value_silent : (seen : View) (x : Ident) (go : Value → Answer) → ((v : Value) → Silent (go v)) → Silent (with_value seen x go)
 value_silent seen x go h = given_silent x (value_of seen x) go h
 
+input_silent : {A : Type 0} (i : Input A) (go : A → Answer) → ((a : A) → Silent (go a)) → Silent (of_input i go)
+input_silent (Known a) go h = h a
+input_silent (Unknown x) go h = refl
+input_silent OtherKind go h = refl
+
+refused_silent : (o : Option RaiseKind) (a : Answer) → Silent a → Silent (unless_refused o a)
+refused_silent None a e = e
+refused_silent (Some kind) a e = refl
+
 -- Operators
 
 number_silent : (z : Ident) (r : Result ℤ NumFault) → Silent (gives_number z r)
@@ -103,6 +119,14 @@ module _ (seen : View) where
   compute_silent : (operate : ℤ → ℤ → Result ℤ NumFault) (x y z : Ident) → Silent (computes seen operate x y z)
   compute_silent operate x y z = integers_silent x y (λ i j. gives_number z (operate i j)) (λ i j. number_silent z (operate i j))
 
+  confines_silent : (xs : List Ident) (b : ℤ × ℤ) → Silent (confines seen xs b)
+  confines_silent xs b = refused_silent (refusal_of b.0 b.1) _ refl
+
+  distributes_silent : (d : Distribution) → Silent (distributes seen d)
+  distributes_silent (distributors.Widens xs) = refl
+  distributes_silent Finished = refl
+  distributes_silent (Splits one other xs) = refl
+
   operation_silent : (op : Operation) (x y z : Ident) → Silent (of_operation seen op x y z)
   operation_silent operation.Same x y z = equality_silent z true (equality seen x y)
   operation_silent operation.Differs x y z = equality_silent z false (equality seen x y)
@@ -116,7 +140,9 @@ module _ (seen : View) where
   operation_silent operation.Div x y z = compute_silent quotient x y z
   operation_silent operation.Mod x y z = compute_silent remainder x y z
   operation_silent operation.Select x y z = two_silent x y (selects z) (selects_silent z)
-  operation_silent op x y z = refl
+  operation_silent operation.Bound x y z = input_silent (bounds seen y) (confines seen (x ∷ [])) (confines_silent (x ∷ []))
+  operation_silent operation.BoundEach x y z =
+      input_silent (both (vector seen x) (bounds seen y)) (λ (i : List Ident × (ℤ × ℤ)). confines seen i.0 i.1) (λ (i : List Ident × (ℤ × ℤ)). confines_silent i.0 i.1)
 
 -- Operations on a space
 
@@ -206,6 +232,8 @@ module _ (s : Sight) (inner : is_top s.space ≡ false) where
       value_silent s.view (x 0) (creates (x 0) (x 1)) (λ v. either_silent (is_procedure v) (Edits (Creates (x 0) (x 1))) (RaisesKind raise.BadKind) refl refl)
   answer_silent builtin.Choose x = value_silent s.view (x 0) _ (λ v. kind_silent (integer_in v) (offered (x 1)) (offered_silent (x 1)))
   answer_silent (builtin.OnSpace op) x = value_silent s.view (x 0) _ (λ v. kind_silent (space_in v) (operates s op (x 1)) (operates_silent op (x 1)))
+  answer_silent builtin.Distinct x = input_silent (vector s.view (x 0)) (posts s.view Distinct) (λ xs. refl)
+  answer_silent builtin.Distribute x = input_silent (distribution s.view (x 0) (x 1)) (distributes s.view) (distributes_silent s.view)
   answer_silent b x = refl
 
   call_silent : (b : Builtin) (xs : List Ident) → Silent (call_answer s b xs)

@@ -1,13 +1,13 @@
 -- A step of a space that is not the top leaves the layers as they are that are not below it, and what was shown.
-use Rattle.std.proofs.Common.{◌≡◌, ℕ, Bool, true, false, if◌then◌else◌, List, [], ◌∷◌, ◌++◌, refl, sym, subst, ◌∙◌, Option, Some, None, drop}
+use Rattle.std.proofs.Common.{◌≡◌, ℕ, Bool, true, false, if◌then◌else◌, List, [], ◌∷◌, ◌++◌, refl, sym, ap, subst, ◌∙◌, Option, Some, None, drop}
 use Rattle.std.proofs.lemmas.Bool.{false≢true}
 use Rattle.oz_base.specs.declared.names.Ident.{Ident}
 use Rattle.oz_language.specs.declared.kernel.Statement.{Statement}
 use Rattle.oz_language.specs.declared.kernel.Kernel.{Kernel}
-use Rattle.oz_semantics.specs.Names.{is_top, is_child_of}
+use Rattle.oz_semantics.specs.Names.{is_below, is_top, is_child_of}
 use Rattle.oz_semantics.specs.Store.{View, is_consistent}
 use Rattle.oz_semantics.specs.Configurations.{layer_of, stack_of, view, in_layer, with_frames, without_terminated, telling, failed, raised_by, ending}
-use Rattle.oz_semantics.specs.Answers.{Act, Passes, Shows, Edit, Creates, Commits, Copies, Injects, TakesIn, Answer, Acts, Edits, RaisesKind, RaisesTerm, Operates, Rests}
+use Rattle.oz_semantics.specs.Answers.{Act, Passes, Shows, Edit, Creates, Commits, Copies, Injects, TakesIn, Answer, Acts, Edits, RaisesKind, RaisesTerm, Operates, Widens, Rests}
 use Rattle.oz_semantics.specs.Spaces.{sight, states_of, answer_in}
 use Rattle.oz_semantics.specs.Edits.{starting, committing}
 use Rattle.oz_semantics.specs.Statements.{stack_answer}
@@ -15,8 +15,11 @@ use Rattle.oz_semantics.specs.Changes.{Change, changed, changed_all}
 use Rattle.oz_semantics.specs.Effects.{Effect, Makes, Tells, ShowsText, act_effect}
 use Rattle.oz_semantics.specs.Exceptions.{is_failure, raise_term, with_term, unwound}
 use Rattle.oz_semantics.specs.Triggers.{triggered}
-use Rattle.oz_semantics.specs.Settling.{Turned, runnable, queue_after, settled, top_failed, requeued, term_variable, with_raised, top_ended, without_inconsistent}
+use Rattle.oz_semantics.specs.Settling.{Turned, runnable, queue_after, settled, failing, top_failed, requeued, term_variable, with_raised, top_ended, without_inconsistent}
 use Rattle.oz_semantics.specs.Steps.{went_on, ended_by, uncaught, raised_to, raised, raised_kind, told, after_effect, edit_tells, edited, after_edit, after_answer, without_top, stepped}
+use Rattle.oz_semantics.specs.Propagation.{Run, Fails, Narrows, after_run}
+use Rattle.oz_semantics.specs.Schedule.{after_run_of}
+use Rattle.oz_semantics.specs.declared.configuration.Propagator.{Propagator}
 use Rattle.oz_semantics.specs.declared.value.Tell.{Tell}
 use Rattle.oz_semantics.specs.declared.configuration.Frame.{Frame}
 use Rattle.oz_semantics.specs.declared.configuration.Layer.{Layer}
@@ -54,6 +57,7 @@ AnswerIsOf parent (Edits edit) = EditIsOf parent edit
 AnswerIsOf parent (RaisesKind kind) = Unit {0}
 AnswerIsOf parent (RaisesTerm x) = Unit {0}
 AnswerIsOf parent (Operates op space x) = Unit {0}
+AnswerIsOf parent (Widens ts) = Unit {0}
 AnswerIsOf parent (Rests ready) = Unit {0}
 
 fits_is_of : (layers : List Layer) (parent : List ℕ) (edit : Edit) → FitsIn layers parent edit → EditIsOf parent edit
@@ -69,6 +73,7 @@ answer_is_of layers parent (Edits edit) fits = fits_is_of layers parent edit fit
 answer_is_of layers parent (RaisesKind kind) fits = tt
 answer_is_of layers parent (RaisesTerm x) fits = tt
 answer_is_of layers parent (Operates op space x) fits = tt
+answer_is_of layers parent (Widens ts) fits = tt
 answer_is_of layers parent (Rests ready) fits = tt
 
 pub step_is_of : (statements : List Statement) (layers : List Layer) (id : Ident) → AnswerIsOf id.space (answer_in statements layers (states_of statements layers) id.space (stack_of layers id))
@@ -91,11 +96,31 @@ ended_space v x l = by (is_failure v x)
     by true = refl
     by false = refl
 
--- What a step leaves, which began with these layers and this queue: the machine moved
-abbrev pub Rested : List Statement → Ident → List Layer → Configuration → Turned → Type 0
-Rested statements id before c (Moved cost, d) = Stay id.space before d.layers × (d.queue ≡ queue_after (runnable statements d.layers) (Some id) c.queue) × (d.shown ≡ c.shown)
-Rested statements id before c (TopEnded x cost, d) = ⊥
-Rested statements id before c (Quiescent, d) = ⊥
+-- What a turn of a space leaves, which began with these layers and this queue, where this thread stepped, if one did: the machine moved
+abbrev pub Rested : List Statement → List ℕ → Option Ident → List Layer → Configuration → Turned → Type 0
+Rested statements space mover before c (Moved cost, d) = Stay space before d.layers × (d.queue ≡ queue_after (runnable statements d.layers) mover c.queue) × (d.shown ≡ c.shown)
+Rested statements space mover before c (TopEnded x cost, d) = ⊥
+Rested statements space mover before c (Quiescent, d) = ⊥
+
+module _ (statements : List Statement) (t : List ℕ) (mover : Option Ident) (before : List Layer) (sound : IsSound before) (quiet : NoneNeeded statements before) (there : live_at before t ≡ true)
+    (child : is_top t ≡ false) where
+  follows_turn : (cost : ℕ) (c : Configuration) → Stay t before c.layers → Rested statements t mover before c (settled statements mover cost c)
+  follows_turn cost c n =
+      subst (λ (b : Bool). Rested statements t mover before c (if b then top_failed cost c else (Moved cost, requeued statements mover c (triggered statements (without_inconsistent c.layers)))))
+      (sym (top_sound statements t before sound quiet there child c.layers n))
+      (triggered_stays statements t before sound quiet there (without_inconsistent c.layers) (failures_stay statements t before sound quiet there c.layers n), refl, refl)
+
+-- A run of a propagator
+module _ (statements : List Statement) (t : List ℕ) (before : List Layer) (sound : IsSound before) (quiet : NoneNeeded statements before) (there : live_at before t ≡ true) (child : is_top t ≡ false) where
+  pub run_rests : (c : Configuration) (l : Layer) (p : Propagator) (run : Run) → l.space ≡ t → Stay t before c.layers → Rested statements t None before c (after_run_of statements l p c run)
+  run_rests c l p Fails name n =
+      subst (λ (b : Bool). Rested statements t None before c (if b then top_failed 1 c else settled statements None 1 (record c { layers = failing c.layers l.space }))) (sym (ap is_top name ∙ child))
+      (follows_turn statements t None before sound quiet there child 1 (record c { layers = failing c.layers l.space })
+      (end_stays t l.space failed c.layers (subst (λ u. is_below t u ≡ true) (sym name) (below_itself t)) (λ m. refl) ∙ n))
+  run_rests c l p (Narrows ts) name n =
+      let f : Layer → Layer = after_run (view c.layers l.space) p ts in
+      follows_turn statements t None before sound quiet there child 1 (record c { layers = in_layer l.space f c.layers })
+      (change_stays t l.space f c.layers (subst (λ u. is_below t u ≡ true) (sym name) (below_itself t)) (λ m. refl) ∙ n)
 
 module _ (k : Kernel) (id : Ident) (before : List Layer) (sound : IsSound before) (quiet : NoneNeeded k.statements before) (there : live_at before id.space ≡ true) where
   abbrev St : List Layer → Type 0
@@ -111,13 +136,10 @@ module _ (k : Kernel) (id : Ident) (before : List Layer) (sound : IsSound before
 
   module _ (child : is_top id.space ≡ false) where
     abbrev Rs : Configuration → Turned → Type 0
-    Rs c turned = Rested k.statements id before c turned
+    Rs c turned = Rested k.statements id.space (Some id) before c turned
 
     follows : (cost : ℕ) (c : Configuration) → St c.layers → Rs c (settled k.statements (Some id) cost c)
-    follows cost c n =
-        subst (λ (b : Bool). Rs c (if b then top_failed cost c else (Moved cost, requeued k.statements (Some id) c (triggered k.statements (without_inconsistent c.layers)))))
-        (sym (top_sound k.statements id.space before sound quiet there child c.layers n))
-        (triggered_stays k.statements id.space before sound quiet there (without_inconsistent c.layers) (failures_stay k.statements id.space before sound quiet there c.layers n), refl, refl)
+    follows cost c n = follows_turn k.statements id.space (Some id) before sound quiet there child cost c n
 
     went_rests : (cost : ℕ) (layers : List Layer) (c : Configuration) → St layers → Rs c (went_on k.statements id cost layers c)
     went_rests cost layers c n = follows cost (record c { layers = in_layer id.space without_terminated layers }) (edit_stays without_terminated layers (λ l. refl) n)
@@ -187,6 +209,7 @@ module _ (k : Kernel) (id : Ident) (before : List Layer) (sound : IsSound before
     answer_rests layers c (RaisesKind kind) own silent n m = kind_rests kind layers c n
     answer_rests layers c (RaisesTerm x) own silent n m = raised_rests x layers c n
     answer_rests layers c (Operates op space x) own silent n m = follows 1 c m
+    answer_rests layers c (Widens ts) own silent n m = told_rests ts (λ ls. ls) c.layers c m (λ h. h)
     answer_rests layers c (Rests ready) own silent n m = follows 1 c m
 
     pub step_rests : (c : Configuration) → St c.layers → Rs c (stepped k id c)

@@ -16,7 +16,7 @@ use Rattle.oz_semantics.specs.Answers.{Edit, Commits, Copies, TakesIn, Answer, A
 use Rattle.oz_semantics.specs.Operations.{once_decided, unless_merged, unless_ended, alternative_of, committed_in, injected_in, injects, operated, with_state, by_state}
 use Rattle.oz_semantics.specs.Statements.{stack_answer}
 use Rattle.oz_semantics.specs.Readiness.{answer_ready}
-use Rattle.oz_semantics.specs.Spaces.{ready_in, subtree_goes_on, is_stable, offer_in, stable_state, state_by, states_behind, waited_in}
+use Rattle.oz_semantics.specs.Spaces.{ready_in, subtree_goes_on, is_stable, offer_in, is_left, stable_state, state_by, states_behind, waited_in}
 use Rattle.oz_semantics.specs.declared.value.SpaceOperation.{SpaceOperation}
 use Rattle.oz_semantics.specs.declared.value.SpaceOperation.TheVariants as spaces
 use Rattle.oz_semantics.specs.declared.value.Value.{Value}
@@ -138,7 +138,7 @@ module _ (one other : List Layer) (s : Sight) (known later : States) (fades : (c
 
   stack_waits : (frames : List Frame) → Waiting (stack_answer s frames)
   stack_waits frames =
-      stack_holds s Waiting (λ act. inr refl) (λ procedure x. inr refl) (λ kind. inr refl) (λ x. inr refl) (λ ready. inr refl)
+      stack_holds s Waiting (λ act. inr refl) (λ procedure x. inr refl) (λ kind. inr refl) (λ x. inr refl) (λ ts. inr refl) (λ ready. inr refl)
       (λ op c x y told below.
       no_more _ _ _ _ (state_waits s (view one c) op c x (state_in known c)) (state_waits s (view other c) op c x (state_in later c))
       (live_more (found_live (state_in known c)) (found_live (state_in later c)) (operand_waits s.view op x) (fades c below)))
@@ -192,19 +192,19 @@ is_unmerged st = true
 abbrev pub live_at : List Layer → List ℕ → Bool
 live_at layers space = holds_of (λ (l : Layer). is_unmerged l.status) (layer_at layers space)
 
-stable_live : (o : Option Offer) (ts : List Thread) → is_live (stable_state o ts) ≡ true
-stable_live (Some offer) ts = refl
-stable_live None [] = refl
-stable_live None (t ∷ ts) = refl
+stable_live : (o : Option Offer) (left : Bool) → is_live (stable_state o left) ≡ true
+stable_live (Some offer) left = refl
+stable_live None true = refl
+stable_live None false = refl
 
-open_live : (goes stable : Bool) (o : Option Offer) (ts : List Thread) → is_live (if goes then states.Running else (if stable then stable_state o ts else states.Suspended)) ≡ true
-open_live true stable o ts = refl
-open_live false true o ts = stable_live o ts
-open_live false false o ts = refl
+open_live : (goes stable : Bool) (o : Option Offer) (left : Bool) → is_live (if goes then states.Running else (if stable then stable_state o left else states.Suspended)) ≡ true
+open_live true stable o left = refl
+open_live false true o left = stable_live o left
+open_live false false o left = refl
 
 status_live : (statements : List Statement) (layers : List Layer) (known : States) (l : Layer) (st : Status) → is_live (state_by statements layers known l st) ≡ is_unmerged st
 status_live statements layers known l status.Open =
-    open_live (subtree_goes_on statements layers known l.space) (is_stable statements layers known l.space) (offer_in statements layers known l) l.threads
+    open_live (subtree_goes_on statements layers known l.space) (is_stable statements layers known l.space) (offer_in statements layers known l) (is_left (view layers l.space) l)
 status_live statements layers known l status.Failed = refl
 status_live statements layers known l (status.Raised x) = refl
 status_live statements layers known l status.Merged = refl

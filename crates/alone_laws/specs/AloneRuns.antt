@@ -1,11 +1,13 @@
 -- Many turns of a space alone.
-use Rattle.std.specs.Prelude.{ℕ, zero, suc, ◌≡◌, Bool, true, false, not, ◌&&◌, ◌||◌, if◌then◌else◌, List, [], ◌∷◌}
+use Rattle.std.specs.Prelude.{ℕ, zero, suc, ◌≡◌, Bool, true, false, not, ◌&&◌, ◌||◌, if◌then◌else◌, List, [], ◌∷◌, Option, Some, None}
 use Rattle.oz_base.specs.declared.names.Ident.{Ident}
 use Rattle.oz_language.specs.declared.kernel.Kernel.{Kernel}
 use Rattle.oz_semantics.specs.Names.{is_below, is_properly_below}
 use Rattle.oz_semantics.specs.Spaces.{goes_on}
 use Rattle.oz_semantics.specs.Settling.{Turned}
-use Rattle.oz_semantics.specs.Schedule.{turn}
+use Rattle.oz_semantics.specs.Schedule.{least_due, turn}
+use Rattle.oz_semantics.specs.declared.configuration.Propagator.{Propagator}
+use Rattle.oz_semantics.specs.declared.configuration.Layer.{Layer}
 use Rattle.oz_semantics.specs.Runs.{Ran, Ended, TopRaised, Over, run_for}
 use Rattle.oz_semantics.specs.declared.configuration.Configuration.{Configuration}
 use Rattle.oz_semantics.specs.declared.outcome.Stepped.TheVariants.{Moved, TopEnded, Quiescent}
@@ -17,25 +19,38 @@ unfoldable pub turned : Kernel → ℕ → Configuration → Configuration
 turned k zero c = c
 turned k (suc n) c = turned k n (turn k c).1
 
--- the thread at the head of the queue is of the space or of one below it
-abbrev pub is_inner : List ℕ → List Ident → Bool
-is_inner space [] = false
-is_inner space (id ∷ queue) = is_below space id.space
+-- the space of the thread at the head of the queue
+abbrev pub head_space : List Ident → Option (List ℕ)
+head_space [] = None
+head_space (id ∷ queue) = Some id.space
 
--- it is not of a proper ancestor of the space
-abbrev pub spares : List ℕ → List Ident → Bool
-spares space [] = true
-spares space (id ∷ queue) = not (is_properly_below id.space space)
+-- the space of what makes the next turn: the least propagator that is due, or else the thread at the head of the queue
+abbrev pub turner_of : Option (Layer × Propagator) → List Ident → Option (List ℕ)
+turner_of (Some due) queue = Some due.0.space
+turner_of None queue = head_space queue
 
--- in so many turns no proper ancestor of the space steps
+abbrev pub turner : Configuration → Option (List ℕ)
+turner c = turner_of (least_due c.layers) c.queue
+
+-- it is the space or one below it
+abbrev pub is_inner : List ℕ → Option (List ℕ) → Bool
+is_inner space None = false
+is_inner space (Some turner) = is_below space turner
+
+-- it is not a proper ancestor of the space
+abbrev pub spares : List ℕ → Option (List ℕ) → Bool
+spares space None = true
+spares space (Some turner) = not (is_properly_below turner space)
+
+-- in so many turns no proper ancestor of the space steps or propagates
 unfoldable pub is_undisturbed : Kernel → List ℕ → ℕ → Configuration → Bool
 is_undisturbed k space zero c = true
-is_undisturbed k space (suc n) c = spares space c.queue && is_undisturbed k space n (turn k c).1
+is_undisturbed k space (suc n) c = spares space (turner c) && is_undisturbed k space n (turn k c).1
 
 -- how many of them are of the space and of those below it
 unfoldable pub inner_turns : Kernel → List ℕ → ℕ → Configuration → ℕ
 inner_turns k space zero c = 0
-inner_turns k space (suc n) c = if is_inner space c.queue then suc (inner_turns k space n (turn k c).1) else inner_turns k space n (turn k c).1
+inner_turns k space (suc n) c = if is_inner space (turner c) then suc (inner_turns k space n (turn k c).1) else inner_turns k space n (turn k c).1
 
 -- Of such turns the space alone makes those that are of it and of what is below it, and no others
 abbrev pub RunsAlone : Type 0
@@ -57,10 +72,10 @@ once_moved more (Moved cost, d) = more d
 once_moved more (TopEnded exception cost, d) = true
 once_moved more (Quiescent, d) = true
 
--- in so many turns of a run of the space, all that steps is of the space or below it
+-- in so many turns of a run of the space, all that steps or propagates is of the space or below it
 unfoldable pub is_within : Kernel → List ℕ → ℕ → Configuration → Bool
 is_within k space zero c = true
-is_within k space (suc n) c = not (goes_on k.statements c.layers space) || (is_inner space c.queue && once_moved (is_within k space n) (turn k c))
+is_within k space (suc n) c = not (goes_on k.statements c.layers space) || (is_inner space (turner c) && once_moved (is_within k space n) (turn k c))
 
 -- Then the space has alone the same run, with the same costs
 abbrev pub RunsSame : Type 0

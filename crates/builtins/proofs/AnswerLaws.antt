@@ -13,7 +13,7 @@ use Rattle.oz_semantics.specs.declared.value.Builtin.{Builtin}
 use Rattle.oz_semantics.specs.declared.value.Builtin.TheVariants as builtin
 use Rattle.oz_semantics.specs.declared.outcome.RaiseKind.TheVariants as raise
 use Rattle.builtins.specs.Answers.{IsAnswer}
-use Rattle.builtins.specs.Exact.{answer_of, erased}
+use Rattle.builtins.specs.Exact.{answer_of, erased, on_two}
 use Rattle.builtins.specs.Looks.{Given}
 use Rattle.builtins.specs.declared.answer.Answer.{Answer}
 use Rattle.builtins.specs.declared.answer.Answer.TheVariants as said
@@ -25,8 +25,18 @@ is_answer (answers.Edits b) (said.Edits c) e = sym e
 is_answer (answers.RaisesKind k) (said.RaisesKind l) e = sym e
 is_answer (answers.RaisesTerm x) (said.RaisesTerm y) e = sym e
 is_answer (answers.Operates op space x) (said.Operates other child y) e = sym e
+is_answer (answers.Widens ts) (said.Widens us) e = sym e
 is_answer (answers.Rests ready) said.Rests e = (ready, refl)
 is_answer a r e = cc
+
+-- an operator on the values of its inputs
+pub on_values_alone : (view : View) (op : Operation) (x y z : Ident) → (op ≡ operation.Same → ⊥) → (op ≡ operation.Differs → ⊥) → (op ≡ operation.Bound → ⊥) → (op ≡ operation.BoundEach → ⊥)
+    → on_two view op x y z ≡ of_operation view op x y z
+on_values_alone view operation.Same x y z a b c d = absurd (a refl)
+on_values_alone view operation.Differs x y z a b c d = absurd (b refl)
+on_values_alone view operation.Bound x y z a b c d = absurd (c refl)
+on_values_alone view operation.BoundEach x y z a b c d = absurd (d refl)
+on_values_alone view op x y z a b c d = refl
 
 one_below : 1 < 2
 one_below = lit< tt
@@ -45,8 +55,8 @@ three_of to x y z f h k l = ap (λ a. to a (f 1) (f 2)) h ∙ ap (λ a. to x a (
 
 -- an operator, by its arguments
 of_given : (view : View) (op : Operation) (x y z : Ident) (f : ℕ → Ident) → Given (builtin.Operation op) x y z f → of_operation view op (f 0) (f 1) (f 2) ≡ of_operation view op x y z
-of_given view operation.Bound x y z f g = refl
-of_given view operation.BoundEach x y z f g = refl
+of_given view operation.Bound x y z f g = two_of (λ a b. of_operation view operation.Bound a b z) x y f g.first (g.second one_below)
+of_given view operation.BoundEach x y z f g = two_of (λ a b. of_operation view operation.BoundEach a b z) x y f g.first (g.second one_below)
 of_given view op x y z f g = three_of (of_operation view op) x y z f g.first (g.second one_below_three) (g.third two_below)
 
 -- a built-in of two parameters reads the first two arguments
@@ -76,6 +86,8 @@ answer_of_given s builtin.ByNeed x y z f g = of_two s builtin.ByNeed x y z f g o
 answer_of_given s builtin.Show x y z f g = of_one s builtin.Show x y z f g
 answer_of_given s builtin.NewSpace x y z f g = of_two s builtin.NewSpace x y z f g one_below
 answer_of_given s builtin.Choose x y z f g = of_two s builtin.Choose x y z f g one_below
+answer_of_given s builtin.Distinct x y z f g = of_one s builtin.Distinct x y z f g
+answer_of_given s builtin.Distribute x y z f g = of_two s builtin.Distribute x y z f g one_below
 answer_of_given s (builtin.OnSpace op) x y z f g = of_two s (builtin.OnSpace op) x y z f g one_below
 
 -- what the first arguments answer
@@ -110,6 +122,8 @@ takes_one builtin.ByNeed = lit< tt
 takes_one builtin.Show = lit< tt
 takes_one builtin.NewSpace = lit< tt
 takes_one builtin.Choose = lit< tt
+takes_one builtin.Distinct = lit< tt
+takes_one builtin.Distribute = lit< tt
 takes_one (builtin.OnSpace op) = lit< tt
 
 -- a call with as many arguments as the built-in takes

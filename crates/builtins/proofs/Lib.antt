@@ -1,5 +1,6 @@
 pub mod AnswerLaws
 pub mod ChoiceLaws
+pub mod DomainLaws
 pub mod NameLaws
 pub mod ReadyLaws
 pub mod TableLaws

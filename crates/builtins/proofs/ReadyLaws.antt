@@ -1,5 +1,5 @@
 -- What calls of built-ins wait for is their inputs alone.
-use Rattle.std.proofs.Common.{◌≡◌, ◌<◌, ◌∷◌, [], ℕ, ℤ, refl, sym, ap, ◌∙◌, Bool, true, false, Option, Some, None, Result, Ok, Err, IfOk, List, length, subst, lit<, get_or, arith, if◌then◌else◌, pos, negsuc, ◌&&◌}
+use Rattle.std.proofs.Common.{◌≡◌, ◌<◌, ◌∷◌, [], ℕ, ℤ, refl, sym, ap, ◌∙◌, Bool, true, false, Option, Some, None, Result, Ok, Err, IfOk, List, length, subst, lit<, get_or, if◌then◌else◌, pos, negsuc, ◌&&◌}
 use Rattle.std.specs.Prelude.{nat_le}
 use Rattle.std.specs.List.{list_any}
 use Rattle.std.specs.Option.{option_and_then}
@@ -17,6 +17,8 @@ use Rattle.oz_semantics.specs.Store.{View, value_of, same}
 use Rattle.oz_semantics.specs.Sights.{Sight, Number, Readiness, Steps, Waits, WaitsForState, Offers}
 use Rattle.oz_semantics.specs.Answers.{Act, Creates, Answer, Acts, Edits, RaisesKind, Operates, Rests, Reads, Writes, Exchanges, Sends, Delays, Shows, gives_constant, given, argument, with_value, of_kind}
 use Rattle.oz_semantics.specs.Builtins.{arguments_of, gives_number, gives_field, field_at, selects, label_in, arity_in, own_act, on_cell, delays, creates, choice_limit, offered, operates, of_operation, answer}
+use Rattle.oz_semantics.specs.Vectors.{vector}
+use Rattle.oz_semantics.specs.Distributors.{distribution}
 use Rattle.oz_semantics.specs.Readiness.{answer_ready}
 use Rattle.oz_semantics.specs.declared.value.Value.{Value}
 use Rattle.oz_semantics.specs.declared.value.SpaceOperation.{SpaceOperation}
@@ -26,10 +28,11 @@ use Rattle.oz_semantics.specs.declared.outcome.RaiseKind.{RaiseKind}
 use Rattle.oz_semantics.specs.declared.outcome.RaiseKind.TheVariants as raise
 use Rattle.builtins.specs.Answers.{IsReady}
 use Rattle.builtins.specs.Choices.{size_in}
-use Rattle.builtins.specs.Looks.{Inputs, ready_by, awaiting, offering, choosing, operating, operating_on}
+use Rattle.builtins.specs.Looks.{Inputs, ready_by, awaiting, offering, choosing, operating, operating_on, input_ready, distributing}
 use Rattle.builtins.specs.declared.answer.Readiness as said
 use Rattle.tree_equal.specs.Answers.{SameClasses}
 use Rattle.builtins.proofs.AnswerLaws.{takes_one, first_argument}
+use Rattle.builtins.proofs.DomainLaws.{distinct_waits, distribute_waits}
 
 -- What looks at kinds steps
 
@@ -225,16 +228,37 @@ ready_space_input space view b op x y (Ok r) e h = λ statements f i.
     subst (λ w. IsReady view w r) (sym (ap (λ d. answer_ready (answer s d f)) e ∙ space_operates s op f ∙ ap (λ a. operating_on space a (value_of view a)) i.first)) h
 ready_space_input space view b op x y (Err f) e h = tt
 
+one_below : 1 < 2
+one_below = lit< tt
+
+one_below_three : 1 < 3
+one_below_three = lit< tt
+
+pub ready_distinct_input : {E : Type 0} (space : List ℕ) (view : View) (b : Builtin) (x y : Ident) (r : Result said.Readiness E) → b ≡ builtin.Distinct
+    → IfOk r (IsReady view (input_ready (vector view x)))
+    → IfOk r (λ r. (statements : List Statement) (given : ℕ → Ident) → Inputs b x y given → IsReady view (answer_ready (answer (record { statements = statements; space = space; view = view }) b given)) r)
+ready_distinct_input space view b x y (Ok r) e h = λ statements f i.
+    let s : Sight = record { statements = statements; space = space; view = view } in
+    subst (λ w. IsReady view w r) (sym (ap (λ d. answer_ready (answer s d f)) e ∙ distinct_waits s f ∙ ap (λ a. input_ready (vector view a)) i.first)) h
+ready_distinct_input space view b x y (Err f) e h = tt
+
+pub ready_distribute_input : {E : Type 0} (space : List ℕ) (view : View) (b : Builtin) (x y : Ident) (r : Result said.Readiness E) → b ≡ builtin.Distribute
+    → IfOk r (IsReady view (distributing (distribution view x y)))
+    → IfOk r (λ r. (statements : List Statement) (given : ℕ → Ident) → Inputs b x y given → IsReady view (answer_ready (answer (record { statements = statements; space = space; view = view }) b given)) r)
+ready_distribute_input space view b x y (Ok r) e h = λ statements f i.
+    let s : Sight = record { statements = statements; space = space; view = view } in
+    let i' : Inputs builtin.Distribute x y f = subst (λ d. Inputs d x y f) e i in
+    subst (λ w. IsReady view w r)
+    (sym (ap (λ d. answer_ready (answer s d f)) e ∙ distribute_waits s f ∙ ap (λ a. distributing (distribution view a (f 1))) i.first ∙ ap (λ a. distributing (distribution view x a)) (i'.second one_below))) h
+ready_distribute_input space view b x y (Err f) e h = tt
+
 both : (view : View) (op : Operation) (x y z a b : Ident) → a ≡ x → b ≡ y → of_operation view op a b z ≡ of_operation view op x y z
 both view op x y z a b h k = ap (λ c. of_operation view op c b z) h ∙ ap (λ c. of_operation view op x c z) k
 
-two_below : 2 < 3
-two_below = lit< tt
-
 by_inputs : (view : View) (op : Operation) (x y : Ident) (f : ℕ → Ident) → Inputs (builtin.Operation op) x y f → of_operation view op (f 0) (f 1) (f 2) ≡ of_operation view op x y (f 2)
-by_inputs view operation.Bound x y f i = refl
-by_inputs view operation.BoundEach x y f i = refl
-by_inputs view op x y f i = both view op x y (f 2) (f 0) (f 1) i.first (i.second two_below)
+by_inputs view operation.Bound x y f i = both view operation.Bound x y (f 2) (f 0) (f 1) i.first (i.second one_below)
+by_inputs view operation.BoundEach x y f i = both view operation.BoundEach x y (f 2) (f 0) (f 1) i.first (i.second one_below)
+by_inputs view op x y f i = both view op x y (f 2) (f 0) (f 1) i.first (i.second one_below_three)
 
 pub ready_two_inputs : {E : Type 0} (space : List ℕ) (view : View) (b : Builtin) (op : Operation) (x y : Ident) (r : Result said.Readiness E) → b ≡ builtin.Operation op
     → IfOk r (λ r. (z : Ident) → IsReady view (answer_ready (of_operation view op x y z)) r)
@@ -248,5 +272,5 @@ ready_two_inputs space view b op x y (Err f) e h = tt
 pub inputs_in : (b : Builtin) (xs : List Ident) (x y : Ident) → length xs ≡ arguments_of b → x ≡ get_or xs 0 x → (1 < length xs → y ≡ argument xs 1) → Inputs b x y (argument xs)
 inputs_in b xs x y e f g = record {
   first = first_argument xs x (subst (λ n. 0 < n) (sym e) (takes_one b)) f;
-  second = λ k. let k' : 2 < length xs = subst (λ n. 2 < n) (sym e) k in sym (g (omega arith));
+  second = λ k. sym (g (subst (λ n. 1 < n) (sym e) k));
 }

@@ -1,5 +1,5 @@
 -- What an answer says.
-use Rattle.std.specs.Prelude.{◌≡◌, List, []}
+use Rattle.std.specs.Prelude.{◌≡◌, List}
 use Rattle.oz_base.specs.declared.names.Ident.{Ident}
 use Rattle.oz_semantics.specs.Store.{View}
 use Rattle.oz_semantics.specs.Terms.{list_term}
@@ -33,6 +33,8 @@ act_of (act.Exchanges n x content) = answers.Exchanges n x content
 act_of (act.MakesPort x stream) = answers.MakesPort x stream
 act_of (act.Sends n item) = answers.Sends n item
 act_of (act.Delays procedure x) = answers.Delays procedure x
+act_of (act.Confines ts) = answers.Confines ts
+act_of (act.Posts p) = answers.Posts p.tells p.relation p.variables
 act_of (act.Shows x) = answers.Shows x
 
 abbrev pub edit_of : Edit → answers.Edit
@@ -53,6 +55,7 @@ IsAnswer a (answer.Edits b) = a ≡ answers.Edits (edit_of b)
 IsAnswer a (answer.RaisesKind kind) = a ≡ answers.RaisesKind kind
 IsAnswer a (answer.RaisesTerm x) = a ≡ answers.RaisesTerm x
 IsAnswer a (answer.Operates op space x) = a ≡ answers.Operates op space x
+IsAnswer a (answer.Widens ts) = a ≡ answers.Widens ts
 IsAnswer a answer.Rests = (ready : sights.Readiness) × (a ≡ answers.Rests ready)
 
 -- a thread can do this; a class that is waited for may be named by any variable of it, and more than once
@@ -60,4 +63,5 @@ abbrev pub IsReady : View → sights.Readiness → Readiness → Type 0
 IsReady view ready readiness.Steps = ready ≡ sights.Steps
 IsReady view ready (readiness.Waits xs) = (ys : List Ident) × (ready ≡ sights.Waits ys) × SameClasses view xs ys
 IsReady view ready (readiness.WaitsForState space) = ready ≡ sights.WaitsForState space
-IsReady view ready (readiness.Offers n) = (offer : Offer) × (ready ≡ sights.Offers offer []) × (n ≡ count_of offer)
+IsReady view ready (readiness.Offers n xs) =
+    (offer : Offer) × (ys : List Ident) × (ready ≡ sights.Offers offer ys) × (n ≡ count_of offer) × SameClasses view xs ys

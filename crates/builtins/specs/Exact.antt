@@ -34,6 +34,7 @@ answer_of (answer.Edits b) = answers.Edits (edit_of b)
 answer_of (answer.RaisesKind kind) = answers.RaisesKind kind
 answer_of (answer.RaisesTerm x) = answers.RaisesTerm x
 answer_of (answer.Operates op space x) = answers.Operates op space x
+answer_of (answer.Widens ts) = answers.Widens ts
 answer_of answer.Rests = resting
 
 -- without what it rests for
@@ -43,6 +44,7 @@ erased (answers.Edits e) = answers.Edits e
 erased (answers.RaisesKind kind) = answers.RaisesKind kind
 erased (answers.RaisesTerm x) = answers.RaisesTerm x
 erased (answers.Operates op space x) = answers.Operates op space x
+erased (answers.Widens ts) = answers.Widens ts
 erased (answers.Rests ready) = resting
 
 -- Operators by what they answer to values; one that is no operation on integers rests

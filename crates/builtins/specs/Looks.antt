@@ -3,10 +3,14 @@ use Rattle.std.specs.Prelude.{ℕ, ◌≡◌, ◌<◌, if◌then◌else◌, List
 use Rattle.oz_base.specs.declared.names.Ident.{Ident}
 use Rattle.oz_semantics.specs.Names.{is_child_of}
 use Rattle.oz_semantics.specs.Values.{space_in}
-use Rattle.oz_semantics.specs.Sights.{Number, Readiness, Steps, Waits, WaitsForState, Offers}
+use Rattle.oz_semantics.specs.Inputs.{Input, Known, Unknown, OtherKind}
+use Rattle.oz_semantics.specs.Distributors.{Distribution, Widens, Finished, Splits}
+use Rattle.oz_semantics.specs.Sights.{Number, Parts, Readiness, Steps, Waits, WaitsForState, Offers}
 use Rattle.oz_semantics.specs.Builtins.{arguments_of}
 use Rattle.oz_semantics.specs.declared.value.Builtin.{Builtin}
 use Rattle.oz_semantics.specs.declared.value.Value.{Value}
+use Rattle.fd_inputs.specs.declared.input.Input as inputs
+use Rattle.fd_inputs.specs.declared.input.Input.TheVariants as input
 use Rattle.builtins.specs.Choices.{choice_in}
 
 -- the arguments of a call begin with these, as far as the built-in takes so many
@@ -15,10 +19,10 @@ pub record Given (b : Builtin) (x y z : Ident) (given : ℕ → Ident) : Type 0 
   pub second : 1 < arguments_of b → given 1 ≡ y
   pub third : 2 < arguments_of b → given 2 ≡ z
 
--- the inputs of a call are these; the last argument of all that take more than one is no input that is waited for
+-- the inputs that a call waits for are among these: no third argument is an input
 pub record Inputs (b : Builtin) (x y : Ident) (given : ℕ → Ident) : Type 0 where
   pub first : given 0 ≡ x
-  pub second : 2 < arguments_of b → given 1 ≡ y
+  pub second : 1 < arguments_of b → given 1 ≡ y
 
 -- it steps, unless it waits for a variable
 abbrev pub ready_by : Option Ident → Readiness
@@ -49,3 +53,23 @@ operating space (Some other) = if is_child_of space other then WaitsForState oth
 abbrev pub operating_on : List ℕ → Ident → Option Value → Readiness
 operating_on space y None = Waits (y ∷ [])
 operating_on space y (Some v) = operating space (space_in v)
+
+-- the variable that an input waits for
+abbrev pub awaited_by : {A : Type 0} → inputs.Input A → Option Ident
+awaited_by (input.Known a) = None
+awaited_by (input.Unknown x) = Some x
+awaited_by input.OtherKind = None
+
+-- it waits for what an input waits for, and else steps
+abbrev pub input_ready : {A : Type 0} → Input A → Readiness
+input_ready (Known a) = Steps
+input_ready (Unknown x) = Waits (x ∷ [])
+input_ready OtherKind = Steps
+
+-- a distributor offers as long as there are parts
+abbrev pub distributing : Input Distribution → Readiness
+distributing (Known (Widens xs)) = Steps
+distributing (Known Finished) = Steps
+distributing (Known (Splits one other xs)) = Offers (Parts one other) xs
+distributing (Unknown x) = Waits (x ∷ [])
+distributing OtherKind = Steps

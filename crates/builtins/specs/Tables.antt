@@ -12,25 +12,25 @@ use Rattle.builtins.specs.declared.table.Row.TheVariants as row
 abbrev pub row_of : Row → builtins.Row
 row_of (row.Operator op) = builtins.Operator op
 row_of (row.Named word name b) = builtins.Named name.now b
-row_of row.Unserved = builtins.Unserved
+row_of (row.Part word name b) = builtins.Part name.now b
 
 -- the number that a row has for its name's word
 abbrev pub worded : Row → Option ℕ
 worded (row.Operator op) = None
 worded (row.Named word name b) = Some word
-worded row.Unserved = None
+worded (row.Part word name b) = Some word
 
 -- the number of the word that a row's name is
 abbrev pub word_of : builtins.Row → Option ℕ
 word_of (builtins.Operator op) = None
 word_of (builtins.Named name b) = Some (given_word name)
-word_of builtins.Unserved = None
+word_of (builtins.Part name b) = Some (given_word name)
 
 -- the built-in of a row that has this name
 abbrev pub called : List ℕ → builtins.Row → Option Builtin
 called name (builtins.Operator op) = None
 called name (builtins.Named own b) = if list_eq own name then Some b else None
-called name builtins.Unserved = None
+called name (builtins.Part own b) = None
 
 -- the built-in with this name
 abbrev pub named_builtin : List ℕ → Option Builtin

@@ -1,8 +1,8 @@
 //! What a statement answers: it acts, raises an exception, or can't step yet (CTM 2.4). An operation on a space goes by the state of that.
 use environments::Environment;
-use oz_base::{Ident, Sequence, Shared, SpaceName};
+use oz_base::{Ident, Relation, Sequence, Shared, SpaceName};
 use oz_language::{Constant, Identifier};
-use oz_semantics::{Frame, RaiseKind, SpaceOperation, Value};
+use oz_semantics::{Frame, RaiseKind, SpaceOperation, Tell, Value};
 
 /// A body, and identifiers that stand for new variables in it. The others stand for what they stand for in the environment.
 #[derive(Drop)]
@@ -18,6 +18,14 @@ pub struct Closure {
     pub parameters: Sequence<Identifier>,
     pub body: Sequence<u32>,
     pub environment: Environment,
+}
+
+/// A relation that is posted between variables, and the domains that they are told first.
+#[derive(Drop)]
+pub struct Posting {
+    pub tells: Sequence<Tell>,
+    pub relation: Relation,
+    pub variables: Sequence<Ident>,
 }
 
 /// What a step does, in words of the thread and of its space. Cells and ports are those of this space, by their numbers.
@@ -91,6 +99,10 @@ pub enum Act {
         procedure: Ident,
         variable: Ident,
     },
+    /// These domains are told.
+    Confines(Sequence<Tell>),
+    /// So are these, and the relation is posted.
+    Posts(Shared<Posting>),
     /// The text of the variable is shown.
     Shows(Ident),
 }
@@ -128,6 +140,8 @@ pub enum Answer {
         space: SpaceName,
         argument: Ident,
     },
+    /// A step too: these domains are told, and the statement stays.
+    Widens(Sequence<Tell>),
     /// It can't step yet.
     Rests,
 }
@@ -140,6 +154,6 @@ pub enum Readiness {
     Waits(Sequence<Ident>),
     /// It waits until this space neither runs nor is suspended.
     WaitsForState(SpaceName),
-    /// It offers so many alternatives, and waits for nothing.
-    Offers(u64),
+    /// It offers so many alternatives, and waits as well until one of these variables is determined, or becomes equal to another.
+    Offers { count: u64, waits: Sequence<Ident> },
 }

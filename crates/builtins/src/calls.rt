@@ -11,6 +11,7 @@ ghost use Rattle.builtins.specs.Exact.{answer_of, erased, gives_label, gives_wid
 use crate::answer::{Act, Answer};
 use crate::choices::choose;
 use crate::delays::by_need;
+use crate::domains::{distinct, distributor};
 use crate::objects::{access, assign, exchange, new_cell, new_name, new_port, send};
 use crate::operations::of_operation;
 use crate::records::{gives_arity, gives_label, gives_width};
@@ -54,6 +55,8 @@ pub fn arguments_of(builtin: Builtin) -> usize
         Builtin::NewSpace => 2,
         Builtin::Choose => 2,
         Builtin::OnSpace(_) => 2,
+        Builtin::Distinct => 1,
+        Builtin::Distribute => 2,
     }
 }
 
@@ -140,6 +143,8 @@ fn answers(
         Builtin::NewSpace => new_space(alloc, store, first, second),
         Builtin::Choose => Ok(choose(store, first)),
         Builtin::OnSpace(operation) => { on_space(alloc, store, space, operation, first, second) }
+        Builtin::Distinct => distinct(alloc, store, first),
+        Builtin::Distribute => distributor(alloc, store, first, second),
     }
 }
 

@@ -1,11 +1,11 @@
-//! Answers that give an output.
-ghost use Rattle.std.specs.Prelude.{◌≡◌, IfOk};
+//! Answers that give an output, and lists of one variable.
+ghost use Rattle.std.specs.Prelude.{◌≡◌, ◌∷◌, [], IfOk};
 ghost use Rattle.oz_semantics.specs.Answers.{gives_constant};
 ghost use Rattle.oz_semantics.specs.Builtins.{truth};
 ghost use Rattle.builtins.specs.Exact.{answer_of};
 
 use crate::answer::{Act, Answer};
-use oz_base::{Copies, Ident};
+use oz_base::{Copies, Ident, Sequence};
 use oz_language::{Constant, Literal};
 use oz_semantics::Value;
 use std::alloc::{AllocError, Global};
@@ -33,4 +33,13 @@ pub fn truth(held: bool) -> Constant
     } else {
         Constant::Literal(Literal::False)
     }
+}
+
+/// A list of one variable.
+pub fn single(alloc: Global, variable: &Ident) -> Result<Sequence<Ident>, AllocError>
+    ensures { IfOk result (λ xs. xs ≡ variable.now ∷ []) }
+{
+    let mut variables = Sequence::new(alloc);
+    variables.push(variable.copied(alloc)?)?;
+    Ok(variables)
 }

@@ -6,6 +6,7 @@ ghost use Rattle.oz_semantics.specs.Builtins.{of_equality, of_operation};
 ghost use Rattle.builtins.specs.Exact.{answer_of, erased, on_values, on_two};
 
 use crate::answer::Answer;
+use crate::domains::{bound, bound_each};
 use crate::given::{gives_constant, truth};
 use crate::integers::on_numbers;
 use crate::records::selects;
@@ -84,9 +85,8 @@ pub fn of_operation(
     match operation {
         Operation::Same => compares(alloc, store, left, right, output, true),
         Operation::Differs => compares(alloc, store, left, right, output, false),
-        // Nothing lets these step.
-        Operation::Bound => Ok(Answer::Rests),
-        Operation::BoundEach => Ok(Answer::Rests),
+        Operation::Bound => bound(alloc, store, left, right),
+        Operation::BoundEach => bound_each(alloc, store, left, right),
         _ => on_two(alloc, store, operation, left, right, output),
     }
 }

@@ -1,5 +1,5 @@
 //! Whether calls of built-ins can step.
-ghost use Rattle.std.specs.Prelude.{◌≡◌, ◌∷◌, [], ℕ, Bool, List, Some, IfOk, option_copied};
+ghost use Rattle.std.specs.Prelude.{◌≡◌, ℕ, Bool, List, Some, IfOk, option_copied};
 ghost use Rattle.oz_base.specs.declared.names.Ident.{Ident};
 ghost use Rattle.oz_language.specs.declared.kernel.Statement.{Statement};
 ghost use Rattle.oz_semantics.specs.Values.{space_in};
@@ -14,6 +14,8 @@ ghost use Rattle.builtins.specs.Looks.{Inputs, ready_by, awaiting, offering, cho
 use crate::answer::Readiness;
 use crate::calls::{argument_or, arguments_of};
 use crate::choices::choice_in;
+use crate::domain_readiness::{ready_bound, ready_bound_each, ready_distinct, ready_distributor};
+use crate::given::single;
 use crate::spaces::is_child_of;
 use oz_base::{Copies, Ident, Sequence, SpaceName};
 use oz_language::Operation;
@@ -40,15 +42,6 @@ fn awaited_of_two<'a>(store: &Store, left: &'a Ident, right: &'a Ident) -> Optio
         None => Some(left),
         Some(_) => awaited(store, right),
     }
-}
-
-/// A list of one variable.
-fn single(alloc: Global, variable: &Ident) -> Result<Sequence<Ident>, AllocError>
-    ensures { IfOk result (λ xs. xs ≡ variable.now ∷ []) }
-{
-    let mut variables = Sequence::new(alloc);
-    variables.push(variable.copied(alloc)?)?;
-    Ok(variables)
 }
 
 /// It waits for this variable, if there is one, and else steps. It refuses where there is no memory.
@@ -109,19 +102,21 @@ fn ready_operation(
     match operation {
         Operation::Same => ready_equal(alloc, store, left, right),
         Operation::Differs => ready_equal(alloc, store, left, right),
-        // Nothing lets these step.
-        Operation::Bound => Ok(Readiness::Waits(Sequence::new(alloc))),
-        Operation::BoundEach => Ok(Readiness::Waits(Sequence::new(alloc))),
+        Operation::Bound => ready_bound(alloc, store, right),
+        Operation::BoundEach => ready_bound_each(alloc, store, left, right),
         _ => ready_two(alloc, store, left, right),
     }
 }
 
 /// It offers so many alternatives, if it offers any, and else steps.
-fn offering(choice: Option<u64>) -> Readiness
+fn offering(alloc: Global, choice: Option<u64>) -> Readiness
     ensures { (view : View) (x : Ident) → IsReady view (offering x choice) result }
 {
     match choice {
-        Some(count) => Readiness::Offers(count),
+        Some(count) => Readiness::Offers {
+            count,
+            waits: Sequence::new(alloc),
+        },
         None => Readiness::Steps,
     }
 }
@@ -132,7 +127,7 @@ fn ready_choose(alloc: Global, store: &Store, number: &Ident) -> Result<Readines
 {
     match store.value(number) {
         None => ready_by(alloc, Some(number)),
-        Some(value) => Ok(offering(choice_in(value))),
+        Some(value) => Ok(offering(alloc, choice_in(value))),
     }
 }
 
@@ -172,8 +167,8 @@ fn ready_on_space(
     }
 }
 
-/// Whether a call with as many arguments as the built-in takes can step, by its inputs: the second is read where it takes three. It
-/// refuses where there is no memory, which it needs for tests of equality and for what it waits for alone.
+/// Whether a call with as many arguments as the built-in takes can step, of which these are the first two: it reads no more of them than
+/// it takes. It refuses where there is no memory, which it needs for tests of equality, for domains and for what it waits for alone.
 pub fn ready_given(
     alloc: Global,
     store: &Store,
@@ -202,6 +197,8 @@ pub fn ready_given(
         Builtin::NewSpace => ready_one(alloc, store, first),
         Builtin::Choose => ready_choose(alloc, store, first),
         Builtin::OnSpace(_) => ready_on_space(alloc, store, space, first),
+        Builtin::Distinct => ready_distinct(alloc, store, first),
+        Builtin::Distribute => ready_distributor(alloc, store, first, second),
     }
 }
 

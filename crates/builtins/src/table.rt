@@ -19,8 +19,12 @@ pub enum Row {
         name: &'static [u8],
         builtin: Builtin,
     },
-    /// One that no program can call yet.
-    Unserved,
+    /// A built-in that is a field of the record `FD`, at the atom that is the word of this number.
+    Part {
+        word: u32,
+        name: &'static [u8],
+        builtin: Builtin,
+    },
 }
 
 static ROWS: [Row; 36] = [
@@ -136,10 +140,18 @@ static ROWS: [Row; 36] = [
         name: b"Merge",
         builtin: Builtin::OnSpace(SpaceOperation::Merge),
     },
-    Row::Unserved,
-    Row::Unserved,
-    Row::Unserved,
-    Row::Unserved,
+    Row::Operator(Operation::Bound),
+    Row::Operator(Operation::BoundEach),
+    Row::Part {
+        word: 57,
+        name: b"distinct",
+        builtin: Builtin::Distinct,
+    },
+    Row::Part {
+        word: 58,
+        name: b"distribute",
+        builtin: Builtin::Distribute,
+    },
 ];
 
 /// The rows of the table.
@@ -172,7 +184,7 @@ fn called(row: &Row, name: &[u8]) -> Option<Builtin>
                 None
             }
         }
-        Row::Operator(_) | Row::Unserved => None,
+        Row::Operator(_) | Row::Part { .. } => None,
     }
 }
 

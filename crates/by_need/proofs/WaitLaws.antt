@@ -1,13 +1,13 @@
 -- The variables that threads wait for, by their classes.
 use Rattle.std.proofs.Common.{◌≡◌, ℕ, ◌+◌, ◌<◌, Bool, true, false, ◌&&◌, ◌||◌, if◌then◌else◌, List, [], ◌∷◌, ◌++◌, map, length, take, get_or, refl, sym, ap, ap₂, subst, ◌∙◌, Result}
-use Rattle.std.specs.Prelude.{IfOk}
+use Rattle.std.specs.Prelude.{IfOk, is_some}
 use Rattle.std.specs.List.{list_any, flat_map}
 use Rattle.std.proofs.lemmas.List.{take_more, map_push, append-nil}
 use Rattle.std.proofs.lemmas.List.Folds.{list_any-append}
 use Rattle.std.proofs.lemmas.Grind.{flat_map-append}
 use Rattle.oz_base.specs.declared.names.Ident.{Ident}
 use Rattle.oz_language.specs.declared.kernel.Statement.{Statement}
-use Rattle.oz_semantics.specs.Store.{View, same, is_determined}
+use Rattle.oz_semantics.specs.Store.{View, same, domain_of, is_determined}
 use Rattle.oz_semantics.specs.Configurations.{is_open, view}
 use Rattle.oz_semantics.specs.Sights.{States, Readiness, waits_of}
 use Rattle.oz_semantics.specs.Spaces.{ready_in, waited_in, states_of}
@@ -16,7 +16,6 @@ use Rattle.oz_semantics.specs.declared.configuration.Layer.{Layer}
 use Rattle.oz_semantics.specs.declared.configuration.Thread.{Thread}
 use Rattle.oz_semantics.specs.declared.configuration.Trigger.{Trigger}
 use Rattle.builtins.specs.Answers.{IsReady}
-use Rattle.builtins.specs.declared.answer.Readiness as said
 use Rattle.builtins.specs.declared.answer.Readiness.TheVariants as readiness
 use Rattle.tree_equal.specs.Answers.{SameClasses}
 use Rattle.stability.specs.Known.{Serves}
@@ -33,26 +32,18 @@ pub made_more : {A B : Type 0} (f : A → B) (xs : List A) (n : ℕ) (x : A) (ol
 made_more f xs n x old new y within e o a made =
     a ∙ ap₂ (λ ys z. ys ++ z ∷ []) o made ∙ sym (map_push f (take n xs) x) ∙ ap (map f) (sym (take_more xs n x within ∙ ap (λ z. take n xs ++ z ∷ []) (sym e)))
 
-or_false : (b : Bool) → b ≡ (b || false)
-or_false true = refl
-or_false false = refl
-
 -- What a thread waits for
 
-pub adds_waits : (view : View) (defined : Readiness) (xs old new : List Ident) → new ≡ old ++ xs → IsReady view defined (readiness.Waits xs) → AddsClasses view (waits_of defined) old new
-adds_waits view defined xs old new e h =
+pub waits_said : (view : View) (defined : Readiness) (xs : List Ident) → IsReady view defined (readiness.Waits xs) → (ys : List Ident) × SameClasses view xs ys × (waits_of defined ≡ ys)
+waits_said view defined xs h = (h.0, h.2, ap waits_of h.1)
+
+pub offers_said : (view : View) (defined : Readiness) (n : ℕ) (xs : List Ident) → IsReady view defined (readiness.Offers n xs) → (ys : List Ident) × SameClasses view xs ys × (waits_of defined ≡ ys)
+offers_said view defined n xs h = (h.1, h.4, ap waits_of h.2)
+
+pub adds_waits : (view : View) (defined : Readiness) (xs ys old new : List Ident) → new ≡ old ++ xs → SameClasses view xs ys → waits_of defined ≡ ys → AddsClasses view (waits_of defined) old new
+adds_waits view defined xs ys old new e classes is =
     λ z. ap (list_any (same view z)) e ∙ list_any-append (same view z) old xs
-    ∙ ap (λ b. list_any (same view z) old || b) (h.2 z ∙ sym (ap (λ (r : Readiness). list_any (same view z) (waits_of r)) h.1))
-
-adds_none : (view : View) (defined : Readiness) (old : List Ident) → waits_of defined ≡ [] → AddsClasses view (waits_of defined) old old
-adds_none view defined old e = λ z. or_false (list_any (same view z) old) ∙ sym (ap (λ (xs : List Ident). list_any (same view z) old || list_any (same view z) xs) e)
-
-pub others_add : (view : View) (defined : Readiness) (old : List Ident) (r : said.Readiness) → ((xs : List Ident) → r ≡ readiness.Waits xs → ⊥) → IsReady view defined r
-    → AddsClasses view (waits_of defined) old old
-others_add view defined old readiness.Steps other h = adds_none view defined old (ap waits_of h)
-others_add view defined old (readiness.WaitsForState space) other h = adds_none view defined old (ap waits_of h)
-others_add view defined old (readiness.Offers n) other h = adds_none view defined old (ap waits_of h.1)
-others_add view defined old (readiness.Waits xs) other h = absurd (other xs refl)
+    ∙ ap (λ b. list_any (same view z) old || b) (classes z ∙ sym (ap (λ (zs : List Ident). list_any (same view z) zs) is))
 
 -- One more thread
 
@@ -67,7 +58,8 @@ waits_more view f ts n t old new within e s a =
 
 pub needed_same : (view : View) (xs ys : List Ident) (ts : List Trigger) → SameClasses view xs ys → map (is_needed view xs) ts ≡ map (is_needed view ys) ts
 needed_same view xs ys [] s = refl
-needed_same view xs ys (t ∷ ts) s = ap₂ (λ (b : Bool) (bs : List Bool). (is_determined view t.variable || b) ∷ bs) (s t.variable) (needed_same view xs ys ts s)
+needed_same view xs ys (t ∷ ts) s =
+    ap₂ (λ (b : Bool) (bs : List Bool). (is_determined view t.variable || is_some (domain_of view t.variable) || b) ∷ bs) (s t.variable) (needed_same view xs ys ts s)
 
 waits_mapped : (f : Thread → Readiness) (ts : List Thread) → flat_map waits_of (map f ts) ≡ flat_map (λ t. waits_of (f t)) ts
 waits_mapped f [] = refl

@@ -1,7 +1,7 @@
 //! Which triggers of a space are needed.
-ghost use Rattle.std.specs.Prelude.{◌≡◌, ◌<◌, false, length, map, IfOk, OnOk};
+ghost use Rattle.std.specs.Prelude.{◌≡◌, ◌<◌, false, length, map, is_some, IfOk, OnOk};
 ghost use Rattle.std.specs.List.{list_any, flat_map};
-ghost use Rattle.oz_semantics.specs.Store.{View, same};
+ghost use Rattle.oz_semantics.specs.Store.{View, same, domain_of};
 ghost use Rattle.oz_semantics.specs.Configurations.{is_open, view};
 ghost use Rattle.oz_semantics.specs.Sights as sights;
 ghost use Rattle.oz_semantics.specs.Sights.{waits_of};
@@ -29,14 +29,22 @@ fn is_waited(store: &Store, variable: &Ident, waited: &[Ident]) -> bool
     waited.iter().any(|other| store.same(variable, other))
 }
 
+fn has_domain(store: &Store, variable: &Ident) -> bool
+    ensures { result ≡ is_some (domain_of store.now variable.now) }
+{
+    store.domain(variable).is_some()
+}
+
 fn is_needed(store: &Store, trigger: &Trigger, waited: &[Ident]) -> bool
     ensures { result ≡ is_needed store.now waited.now trigger.now }
 {
-    store.is_determined(&trigger.variable) || is_waited(store, &trigger.variable, waited)
+    store.is_determined(&trigger.variable)
+        || has_domain(store, &trigger.variable)
+        || is_waited(store, &trigger.variable, waited)
 }
 
-/// Which of these triggers are needed, for the variables that threads of their space wait for: those whose variable is determined, or equal
-/// to one of these. A mark for each, in their order.
+/// Which of these triggers are needed, for the variables that threads of their space wait for: those whose variable is determined, has a
+/// domain, or is equal to one of these. A mark for each, in their order.
 pub fn needed(
     alloc: Global,
     store: &Store,
@@ -67,10 +75,11 @@ fn unneeded(alloc: Global, triggers: &[Trigger]) -> Result<Sequence<bool>, Alloc
 fn add_waits(waited: &mut Sequence<Ident>, ready: Readiness) -> Result<(), AllocError>
     ensures { OnOk result ((view : View) (defined : sights.Readiness) → IsReady view defined ready → AddsClasses view (waits_of defined) waited.old waited.new) }
 {
-    let Readiness::Waits(waits) = ready else {
-        return Ok(());
-    };
-    waited.append(waits.into_vec())
+    match ready {
+        Readiness::Waits(waits) => waited.append(waits.into_vec()),
+        Readiness::Offers { waits, .. } => waited.append(waits.into_vec()),
+        Readiness::Steps | Readiness::WaitsForState(_) => Ok(()),
+    }
 }
 
 /// The variables that these threads of the space at a place wait for, by the states that are known; each class by any variable of it, and

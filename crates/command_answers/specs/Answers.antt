@@ -8,7 +8,7 @@ use Rattle.oz_search.specs.declared.leaf.Outcome.{Outcome}
 use Rattle.oz_replies.specs.Replies.{Answer, spent, leaves_reply, all_answer, run_answer, kernel_answer}
 use Rattle.oz_replies.specs.declared.cause.Cause.TheVariants as causes
 
--- what a command answers for a program that may have all its tokens
+-- what a command answers for a program
 abbrev pub answered : Command → Program → Answer
 answered (command.All workers budget) p = all_answer (kernel_of p) budget
 answered (command.Run budget) p = run_answer (kernel_of p) budget

@@ -214,7 +214,7 @@ fn kernel_answer(alloc: Global, kernel: &Kernel) -> Result<Plan, AllocError>
     })
 }
 
-/// What a command answers for the kernel of a program that may have all its tokens.
+/// What a command answers for the kernel of a program.
 pub fn answered<G: Gate>(
     alloc: Global,
     command: Command,

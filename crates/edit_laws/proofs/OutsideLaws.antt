@@ -15,7 +15,7 @@ use Rattle.oz_semantics.specs.Edits.{moved, moving, raised_child, space_into, id
 use Rattle.oz_semantics.specs.declared.value.Value.{Value}
 use Rattle.oz_semantics.specs.declared.value.Value.TheVariants as value
 use Rattle.oz_semantics.specs.declared.value.Tell.{Tell}
-use Rattle.oz_semantics.specs.declared.value.Tell.TheVariants.{Equal, Is}
+use Rattle.oz_semantics.specs.declared.value.Tell.TheVariants.{Equal, Is, Within}
 use Rattle.oz_semantics.specs.declared.configuration.Layer.{Layer}
 use Rattle.oz_laws.proofs.SameLaws.{and-left, and-right}
 use Rattle.view_laws.proofs.Members.{decide, not_both}
@@ -72,6 +72,7 @@ module _ (space : List ℕ) (r : Renaming) (leaves : Leaves space r) where
 
   tell_stays : (t : Tell) → tell_outside space t ≡ true → renamed_tell r t ≡ t
   tell_stays (Equal x y) e = ap₂ (λ a b. Equal a b) (leaves.variable x (and-left _ _ e)) (leaves.variable y (and-right (is_outside space x) _ e))
+  tell_stays (Within x is) e = ap (λ a. Within a is) (leaves.variable x e)
   tell_stays (Is x v) e = ap₂ (λ a w. Is a w) (leaves.variable x (and-left _ _ e)) (value_stays v (and-right (is_outside space x) _ e))
 
   tells_stay : (ts : List Tell) → list_all (tell_outside space) ts ≡ true → map (renamed_tell r) ts ≡ ts
@@ -117,6 +118,7 @@ tells_alike from to (t ∷ ts) e = ap₂ (λ (u : Tell) (us : List Tell). u ∷ 
   where
     by : (u : Tell) → tell_of_other from u ≡ true → renamed_tell (moving_inside from to) u ≡ renamed_tell (moving from to) u
     by (Equal x y) k = refl
+    by (Within x is) k = refl
     by (Is x v) k = ap (λ (w : Value). Is (record x { space = moved from to x.space }) w) (value_alike from to v k)
 
 pub copy_named : CopyNamed

@@ -12,7 +12,7 @@ use Rattle.oz_semantics.specs.Edits.{moved, moving, copied}
 use Rattle.oz_semantics.specs.declared.value.Value.{Value}
 use Rattle.oz_semantics.specs.declared.value.Value.TheVariants as value
 use Rattle.oz_semantics.specs.declared.value.Tell.{Tell}
-use Rattle.oz_semantics.specs.declared.value.Tell.TheVariants.{Equal, Is}
+use Rattle.oz_semantics.specs.declared.value.Tell.TheVariants.{Equal, Is, Within}
 use Rattle.oz_semantics.specs.declared.configuration.Layer.{Layer}
 use Rattle.view_laws.specs.Sights.{SeesBesides}
 use Rattle.view_laws.specs.Trees.{IsTree}
@@ -38,11 +38,13 @@ value_outside space (value.Space s) = not (is_properly_below space s)
 abbrev pub tell_outside : List ℕ → Tell → Bool
 tell_outside space (Equal x y) = is_outside space x && is_outside space y
 tell_outside space (Is x v) = is_outside space x && value_outside space v
+tell_outside space (Within x is) = is_outside space x
 
 -- a tell that says of no variable that it is the space itself
 abbrev pub tell_of_other : List ℕ → Tell → Bool
 tell_of_other space (Equal x y) = true
 tell_of_other space (Is x v) = not (holds_of (list_eq space) (space_in v))
+tell_of_other space (Within x is) = true
 
 -- as a copy does, but that the space itself keeps its name as a value
 abbrev pub moving_inside : List ℕ → List ℕ → Renaming

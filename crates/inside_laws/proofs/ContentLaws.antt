@@ -1,28 +1,31 @@
 -- Nothing of what is below a space comes into its tells, cells and ports by a step of its threads, but by a merge: two steps side by side.
-use Rattle.std.proofs.Common.{◌≡◌, ℕ, ◌+◌, Bool, true, false, not, ◌&&◌, cond, if◌then◌else◌, List, [], ◌∷◌, ◌++◌, drop, length, refl, sym, ap, ap₂, subst, ◌∙◌, append_assoc, Option, Some, None, is_some}
+use Rattle.std.proofs.Common.{◌≡◌, inl, ℕ, ◌+◌, Bool, true, false, not, ◌&&◌, cond, if◌then◌else◌, List, [], ◌∷◌, ◌++◌, drop, length, refl, sym, ap, ap₂, subst, ◌∙◌, append_assoc, Option, Some, None, is_some}
 use Rattle.std.specs.Prelude.{option_map}
 use Rattle.std.specs.List.{list_all, find}
 use Rattle.std.proofs.lemmas.Bool.{false≢true}
 use Rattle.std.proofs.lemmas.List.{append-nil}
 use Rattle.oz_base.specs.Lists.{edit_first}
 use Rattle.oz_base.specs.declared.names.Ident.{Ident}
+use Rattle.oz_base.specs.declared.interval.Interval.{Interval}
 use Rattle.oz_language.specs.declared.kernel.Kernel.{Kernel}
 use Rattle.oz_language.specs.declared.kernel.Statement.{Statement}
 use Rattle.oz_semantics.specs.Names.{is_top, is_below, is_properly_below}
 use Rattle.oz_semantics.specs.Store.{View, is_consistent}
 use Rattle.oz_semantics.specs.Terms.{Term}
 use Rattle.oz_semantics.specs.Configurations.{is_of, layer_at, layer_of, thread_at, frames_in, stack_of, view, in_layer, with_frames, without_terminated, telling, giving_out, ending, failed, raised_by}
-use Rattle.oz_semantics.specs.Answers.{Edit, Creates, Commits, Copies, Injects, TakesIn, Answer, Acts, Edits, RaisesKind, RaisesTerm, Operates, Rests}
+use Rattle.oz_semantics.specs.Answers.{Edit, Creates, Commits, Copies, Injects, TakesIn, Answer, Acts, Edits, RaisesKind, RaisesTerm, Operates, Widens, Rests}
 use Rattle.oz_semantics.specs.Changes.{Change, changed, changed_all}
 use Rattle.oz_semantics.specs.Effects.{Effect, Makes, Tells, ShowsText, act_effect}
 use Rattle.oz_semantics.specs.Exceptions.{is_failure, new_term_tells, raise_term, with_term, unwound}
 use Rattle.oz_semantics.specs.Texts.{Printed, term_text}
 use Rattle.oz_semantics.specs.Triggers.{triggered}
-use Rattle.oz_semantics.specs.Settling.{Turned, may_fail, settled, top_is_inconsistent, top_failed, requeued, term_variable, with_raised, top_ended, without_inconsistent}
+use Rattle.oz_semantics.specs.Settling.{Turned, may_fail, settled, failing, top_is_inconsistent, top_failed, requeued, term_variable, with_raised, top_ended, without_inconsistent}
 use Rattle.oz_semantics.specs.Steps.{went_on, ended_by, uncaught, raised_to, raised, raised_kind, told, after_effect, edit_tells, edited, after_edit, after_answer, without_top, stepped}
-use Rattle.oz_semantics.specs.Schedule.{turn_of}
+use Rattle.oz_semantics.specs.Propagation.{Run, Fails, Narrows, run_of, noted, noting, after_run}
+use Rattle.oz_semantics.specs.Schedule.{run_failed, after_run_of, propagated, turn_of}
 use Rattle.oz_semantics.specs.declared.value.Tell.{Tell}
 use Rattle.oz_semantics.specs.declared.configuration.Frame.{Frame}
+use Rattle.oz_semantics.specs.declared.configuration.Propagator.{Propagator}
 use Rattle.oz_semantics.specs.declared.configuration.Layer.{Layer}
 use Rattle.oz_semantics.specs.declared.configuration.Configuration.{Configuration}
 use Rattle.oz_semantics.specs.declared.outcome.RaiseKind.{RaiseKind}
@@ -39,15 +42,15 @@ use Rattle.need_laws.specs.Needs.{Fires}
 use Rattle.edit_laws.proofs.ViewLaws.{not_above, injection_unseen}
 use Rattle.edit_laws.proofs.CopySights.{copy_unseen}
 use Rattle.settle_laws.specs.Settles.{IsQuiet}
-use Rattle.settle_laws.proofs.EditLaws.{are_quiet, edit_quiet, quiet_view, term_settles}
+use Rattle.settle_laws.proofs.EditLaws.{edits_join, are_quiet, edit_quiet, quiet_view, term_settles}
 use Rattle.settle_laws.proofs.FitLaws.{FitsIn, AnswerFits, answer_fits, fits_kept}
 use Rattle.inside_laws.specs.Settled.{IsSettled}
-use Rattle.inside_laws.specs.Contents.{Contents, contents_of, contents_at, answer_of, is_taking, is_merge, OnlyMergeAdds}
+use Rattle.inside_laws.specs.Contents.{Contents, contents_of, contents_at, answer_of, is_taking, is_merge, OnlyMergeAdds, RunAddsItsOwn}
 use Rattle.inside_laws.proofs.OwnLaws.{Keeps, own_at, own_layer, own_change, own_end}
-use Rattle.inside_laws.proofs.EditedLaws.{next_inner, own_edited, edited_status, edited_keeps}
+use Rattle.inside_laws.proofs.EditedLaws.{child_inner, next_inner, own_edited, edited_status, edited_keeps}
 use Rattle.inside_laws.proofs.LeftLaws.{was_left}
 use Rattle.inside_laws.proofs.RestLaws.{fate, fated, IsResting, parts_keep}
-use Rattle.inside_laws.proofs.StepLaws.{head_in, head_rests}
+use Rattle.inside_laws.proofs.StepLaws.{head_in, head_rests, turn_steps, due_head, due_rests}
 
 -- What a space is told it sees behind all else, where no later layer is above an earlier one
 
@@ -86,17 +89,18 @@ none_told a b (Copies child x) l e = refl
 none_told a b (Injects child procedure) l e = refl
 none_told a b (TakesIn child x) l e = absurd (false≢true (sym e))
 
-edit_unseen : (k : Kernel) (t : List ℕ) (before layers : List Layer) (l : Layer) → Keeps t before layers l → (edit : Edit) → is_taking edit ≡ false → view (edited k.statements t edit layers) t ≡ view layers t
-edit_unseen k t before layers l keeps (Creates procedure x) e = creation_unseen layers t t procedure
-edit_unseen k t before layers l keeps (Commits child i) e = commitment_unseen k.statements layers child t i
-edit_unseen k t before layers l keeps (Copies child x) e = copy_unseen t child t layers (not_above t _ (next_inner t before layers l keeps))
-edit_unseen k t before layers l keeps (Injects child procedure) e = injection_unseen child t procedure layers
-edit_unseen k t before layers l keeps (TakesIn child x) e = absurd (false≢true (sym e))
+edit_unseen : (k : Kernel) (t : List ℕ) (before layers : List Layer) (l : Layer) → Keeps t before layers l → (edit : Edit) → FitsIn layers t edit → is_taking edit ≡ false
+    → view (edited k.statements t edit layers) t ≡ view layers t
+edit_unseen k t before layers l keeps (Creates procedure x) fits e = creation_unseen layers t t procedure
+edit_unseen k t before layers l keeps (Commits child i) fits e = commitment_unseen k.statements layers child t i (inl (not_above t child (child_inner t child fits.below)))
+edit_unseen k t before layers l keeps (Copies child x) fits e = copy_unseen t child t layers (not_above t _ (next_inner t before layers l keeps))
+edit_unseen k t before layers l keeps (Injects child procedure) fits e = injection_unseen child t procedure layers
+edit_unseen k t before layers l keeps (TakesIn child x) fits e = absurd (false≢true (sym e))
 
 -- Triggers leave the contents
 
 fires_contents : (l m : Layer) → Fires l m → contents_of m ≡ contents_of l
-fires_contents l m f = λ i. record { tells = f.tells i; cells = f.cells i; ports = f.ports i }
+fires_contents l m f = λ i. record { tells = f.tells i; propagators = f.propagators i; cells = f.cells i; ports = f.ports i }
 
 not_properly_itself : (t : List ℕ) → is_properly_below t t ≡ false
 not_properly_itself t = ap (λ (b : Bool). is_below t t && not b) (names_equal t) ∙ none (is_below t t)
@@ -316,7 +320,7 @@ module _ (k : Kernel) (id : Ident) (one other : List Layer) (first_rests : IsRes
     first = edited_keeps t one a both.layer both.first k.statements edit fits_one;
     second = subst (Keeps t other (edited k.statements t edit b)) (none_edited t b a edit both.layer plain) (edited_keeps t other b both.layer both.second k.statements edit fits_other);
     left = ap was_left (edited_status t a edit both.layer) ∙ both.left;
-    seen = edit_unseen k t one a both.layer both.first edit plain ∙ both.seen ∙ sym (edit_unseen k t other b both.layer both.second edit plain);
+    seen = edit_unseen k t one a both.layer both.first edit fits_one plain ∙ both.seen ∙ sym (edit_unseen k t other b both.layer both.second edit fits_other plain);
   }
 
   edit_alike : (edit : Edit) → is_taking edit ≡ false → (a b : List Layer) (c d : Configuration) → FitsIn a t edit → FitsIn b t edit → Lead a b → Both a b
@@ -338,9 +342,9 @@ module _ (k : Kernel) (id : Ident) (one other : List Layer) (first_rests : IsRes
   pop = with_frames id.number (λ frames. drop 1 frames)
 
   answer_alike : (answer : Answer) → is_merge answer ≡ false → (c d : Configuration) → AnswerFits c.layers t answer → AnswerFits d.layers t answer
-      → Lead (without_top id c.layers) (without_top id d.layers) → Both c.layers d.layers
+      → Lead c.layers d.layers → Lead (without_top id c.layers) (without_top id d.layers) → Both c.layers d.layers
       → Alike t (after_answer k id (without_top id c.layers) c answer) (after_answer k id (without_top id d.layers) d answer)
-  answer_alike answer plain c d fits_one fits_other lead both = by answer plain fits_one fits_other
+  answer_alike answer plain c d fits_one fits_other whole lead both = by answer plain fits_one fits_other
     where
       a : List Layer
       a = without_top id c.layers
@@ -360,16 +364,65 @@ module _ (k : Kernel) (id : Ident) (one other : List Layer) (first_rests : IsRes
       by (RaisesKind kind) p f g = kind_alike kind a b c d lead popped
       by (RaisesTerm x) p f g = raised_alike x a b c d popped
       by (Operates op space x) p f g = settled_alike (Some id) 1 1 c d (both_fated c.layers d.layers both)
+      by (Widens ts) p f g = told_alike ts (λ ls. ls) (λ ls. ls) c.layers d.layers c d whole both (λ told. told)
       by (Rests ready) p f g = settled_alike (Some id) 1 1 c d (both_fated c.layers d.layers both)
 
-  pub step_alike : (c d : Configuration) (l : Layer) → is_led (without_top id c.layers) ≡ true → is_led (without_top id d.layers) ≡ true
+  pub step_alike : (c d : Configuration) (l : Layer) → is_led c.layers ≡ true → is_led d.layers ≡ true → is_led (without_top id c.layers) ≡ true → is_led (without_top id d.layers) ≡ true
       → Keeps t one c.layers l → Keeps t other d.layers l → was_left l.status ≡ true → view c.layers t ≡ view d.layers t
       → answer_of k.statements c.layers id ≡ answer_of k.statements d.layers id → is_merge (answer_of k.statements c.layers id) ≡ false
       → Alike t (stepped k id c) (stepped k id d)
-  step_alike c d l led_one led_other first second left seen same plain =
+  step_alike c d l whole_one whole_other led_one led_other first second left seen same plain =
       subst (λ (answer : Answer). Alike t (stepped k id c) (after_answer k id (without_top id d.layers) d answer)) same
       (answer_alike (answer_of k.statements c.layers id) plain c d (answer_fits k.statements c.layers id) (subst (AnswerFits d.layers t) (sym same) (answer_fits k.statements d.layers id))
-      (record { first = led_one; second = led_other }) (record { layer = l; first = first; second = second; left = left; seen = seen }))
+      (record { first = whole_one; second = whole_other }) (record { first = led_one; second = led_other }) (record { layer = l; first = first; second = second; left = left; seen = seen }))
+
+  -- A run of a propagator
+
+  abbrev note_in : Configuration → Propagator → Layer → Layer
+  note_in c p = noting (view c.layers t) (noted (view c.layers t) p.variables)
+
+  told_run : (c : Configuration) (p : Propagator) (ts : List Tell) (layers : List Layer) → in_layer t (telling ts) (in_layer t (note_in c p) layers) ≡ in_layer t (after_run (view c.layers t) p ts) layers
+  told_run c p ts layers = edits_join t (telling ts) (note_in c p) layers (λ m. refl)
+
+  narrows_alike : (p : Propagator) (ts : List Tell) (c d : Configuration) → Both c.layers d.layers → Lead (in_layer t (note_in c p) c.layers) (in_layer t (note_in c p) d.layers)
+      → Alike t (settled k.statements None 1 (record c { layers = in_layer t (after_run (view c.layers t) p ts) c.layers }))
+      (settled k.statements None 1 (record d { layers = in_layer t (after_run (view c.layers t) p ts) d.layers }))
+  narrows_alike p ts c d both lead =
+      let more = quiet_both (note_in c p) (are_quiet.noted (view c.layers t) (noted (view c.layers t) p.variables)) c.layers d.layers both in
+      let run = tells_both ts (in_layer t (note_in c p) c.layers) (in_layer t (note_in c p) d.layers) lead more in
+      settled_alike None 1 1 (record c { layers = in_layer t (after_run (view c.layers t) p ts) c.layers }) (record d { layers = in_layer t (after_run (view c.layers t) p ts) d.layers })
+      (both_fated (in_layer t (after_run (view c.layers t) p ts) c.layers) (in_layer t (after_run (view c.layers t) p ts) d.layers)
+      (subst (λ ls. Both ls (in_layer t (after_run (view c.layers t) p ts) d.layers)) (told_run c p ts c.layers)
+      (subst (λ ls. Both (in_layer t (telling ts) (in_layer t (note_in c p) c.layers)) ls) (told_run c p ts d.layers) run)))
+
+  fails_alike : (c d : Configuration) → Both c.layers d.layers → Alike t (run_failed k.statements t c) (run_failed k.statements t d)
+  fails_alike c d both = by (is_top t)
+    where
+      by : (b : Bool)
+          → Alike t (if b then top_failed 1 c else settled k.statements None 1 (record c { layers = failing c.layers t })) (if b then top_failed 1 d else settled k.statements None 1 (record d { layers = failing d.layers t }))
+      by true = tt
+      by false = settled_alike None 1 1 (record c { layers = failing c.layers t }) (record d { layers = failing d.layers t }) (end_both id true c.layers d.layers both)
+
+  -- a run in a space, by what it sees
+  abbrev by_run : Propagator → List ℕ → Configuration → View → Run → Turned
+  by_run p s g v Fails = run_failed k.statements s g
+  by_run p s g v (Narrows ts) = settled k.statements None 1 (record g { layers = in_layer s (after_run v p ts) g.layers })
+
+  same_run : (l : Layer) (p : Propagator) (g : Configuration) (run : Run) → after_run_of k.statements l p g run ≡ by_run p l.space g (view g.layers l.space) run
+  same_run l p g Fails = refl
+  same_run l p g (Narrows ts) = refl
+
+  run_alike : (due : Layer × Propagator) (c d : Configuration) → Both c.layers d.layers → Lead (in_layer t (note_in c due.1) c.layers) (in_layer t (note_in c due.1) d.layers) → due.0.space ≡ t
+      → Alike t (propagated k.statements due c) (propagated k.statements due d)
+  run_alike due c d both lead name =
+      subst (λ x. Alike t x (propagated k.statements due d)) (sym (same_run due.0 due.1 c (run_of (view c.layers due.0.space) due.1)))
+      (subst (λ x. Alike t (by_run due.1 due.0.space c (view c.layers due.0.space) (run_of (view c.layers due.0.space) due.1)) x) (sym (same_run due.0 due.1 d (run_of (view d.layers due.0.space) due.1)))
+      (subst (λ s. Alike t (by_run due.1 s c (view c.layers s) (run_of (view c.layers s) due.1)) (by_run due.1 s d (view d.layers s) (run_of (view d.layers s) due.1))) (sym name)
+      (subst (λ (v : View). Alike t (by_run due.1 t c (view c.layers t) (run_of (view c.layers t) due.1)) (by_run due.1 t d v (run_of v due.1))) both.seen (by (run_of (view c.layers t) due.1)))))
+    where
+      by : (run : Run) → Alike t (by_run due.1 t c (view c.layers t) run) (by_run due.1 t d (view c.layers t) run)
+      by Fails = fails_alike c d both
+      by (Narrows ts) = narrows_alike due.1 ts c d both lead
 
 -- A turn
 
@@ -381,14 +434,35 @@ same_layer : (l m : Layer) → ◌≡◌ {A = Option Layer} (Some l) (Some m) �
 same_layer l m e = cc
 
 pub only_merge_adds : OnlyMergeAdds
-only_merge_adds k c d e f id rest others m n hc hd qc qd own seen same plain one other =
+only_merge_adds k c d e f id rest others m n hc hd none_one none_other qc qd own seen same plain one other =
     let first = head_in k.statements c id rest hc qc in
     let second = head_in k.statements d id others hd qd in
     let layer : second.layer ≡ first.layer =
     same_layer second.layer first.layer (sym (own_at id.space d.layers d.layers second.layer second.keeps) ∙ sym own ∙ own_at id.space c.layers c.layers first.layer first.keeps) in
     let whole : Alike id.space (stepped k id (record c { queue = rest })) (stepped k id (record d { queue = others })) =
     step_alike k id c.layers d.layers (head_rests k.statements c id rest hc qc) (head_rests k.statements d id others hd qd) (record c { queue = rest }) (record d { queue = others }) first.layer
-    (popped_leads k.statements c id hc) (popped_leads k.statements d id hd) first.keeps (subst (Keeps id.space d.layers d.layers) layer second.keeps) first.left seen same plain in
-    let first_turn : stepped k id (record c { queue = rest }) ≡ (Moved m, e) = sym (ap (turn_of k c) qc) ∙ one in
-    let second_turn : stepped k id (record d { queue = others }) ≡ (Moved n, f) = sym (ap (turn_of k d) qd) ∙ other in
+    (ascending_leads c.layers hc.ordered) (ascending_leads d.layers hd.ordered) (popped_leads k.statements c id hc) (popped_leads k.statements d id hd) first.keeps (subst (Keeps id.space d.layers d.layers) layer second.keeps) first.left seen same plain in
+    let first_turn : stepped k id (record c { queue = rest }) ≡ (Moved m, e) = sym (turn_steps k c id rest none_one qc) ∙ one in
+    let second_turn : stepped k id (record d { queue = others }) ≡ (Moved n, f) = sym (turn_steps k d id others none_other qd) ∙ other in
     subst (λ (x : Turned). Alike id.space (Moved m, e) x) second_turn (subst (λ (x : Turned). Alike id.space x (stepped k id (record d { queue = others }))) first_turn whole)
+
+-- A run
+
+noted_leads : (statements : List Statement) (c : Configuration) (space : List ℕ) (v : View) (ds : List (List Interval)) → IsSettled statements c → is_led (in_layer space (noting v ds) c.layers) ≡ true
+noted_leads statements c space v ds h =
+    ascending_leads (in_layer space (noting v ds) c.layers) (ap is_ascending (names_edited (is_of space) (noting v ds) c.layers (λ l e. refl)) ∙ h.ordered)
+
+pub run_adds_its_own : RunAddsItsOwn
+run_adds_its_own k c d e f due m n hc hd first second seen one other =
+    let id : Ident = record { space = due.0.space; number = 0 } in
+    let head = due_head k.statements c due hc first in
+    let late = due_head k.statements d due hd second in
+    let v : View = view c.layers due.0.space in
+    let ds : List (List Interval) = noted v due.1.variables in
+    let whole : Alike due.0.space (propagated k.statements due c) (propagated k.statements due d) =
+    run_alike k id c.layers d.layers (due_rests k.statements c due hc first) (due_rests k.statements d due hd second) due c d
+    (record { layer = due.0; first = head.keeps; second = late.keeps; left = head.left; seen = seen })
+    (record { first = noted_leads k.statements c due.0.space v ds hc; second = noted_leads k.statements d due.0.space v ds hd }) refl in
+    let first_turn : propagated k.statements due c ≡ (Moved m, e) = sym (ap (turn_of k c) first) ∙ one in
+    let second_turn : propagated k.statements due d ≡ (Moved n, f) = sym (ap (turn_of k d) second) ∙ other in
+    subst (λ (x : Turned). Alike due.0.space (Moved m, e) x) second_turn (subst (λ (x : Turned). Alike due.0.space x (propagated k.statements due d)) first_turn whole)

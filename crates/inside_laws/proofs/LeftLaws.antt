@@ -2,12 +2,12 @@
 use Rattle.std.proofs.Common.{◌≡◌, inl, inr, ℕ, Bool, true, false, not, cond, if◌then◌else◌, List, [], ◌∷◌, refl, sym, ap, subst, ◌∙◌, Option, Some, None, filter, map, flat_map}
 use Rattle.std.specs.Prelude.{option_map}
 use Rattle.std.specs.List.{find}
-use Rattle.oz_base.specs.Lists.{list_eq, is_empty, holds_of}
+use Rattle.oz_base.specs.Lists.{list_eq, holds_of}
 use Rattle.oz_language.specs.declared.kernel.Statement.{Statement}
 use Rattle.oz_semantics.specs.Names.{is_below, is_top, parent_of, is_child_of}
-use Rattle.oz_semantics.specs.Configurations.{is_open, layer_at}
+use Rattle.oz_semantics.specs.Configurations.{is_open, layer_at, view}
 use Rattle.oz_semantics.specs.Sights.{States, state_in, Offer, Readiness, waits_of}
-use Rattle.oz_semantics.specs.Spaces.{ready_in, subtree_goes_on, is_stable, offer_in, stable_state, state_by, states_behind, states_of, waited_in}
+use Rattle.oz_semantics.specs.Spaces.{ready_in, subtree_goes_on, is_stable, offer_in, is_left, stable_state, state_by, states_behind, states_of, waited_in}
 use Rattle.oz_semantics.specs.Triggers.{has_needed}
 use Rattle.oz_semantics.specs.declared.configuration.Thread.{Thread}
 use Rattle.oz_semantics.specs.declared.configuration.Status.{Status}
@@ -36,22 +36,19 @@ was_left status.Merged = false
 abbrev pub left_at : List Layer → List ℕ → Bool
 left_at layers space = holds_of (λ (l : Layer). was_left l.status) (layer_at layers space)
 
-stable_live : (o : Option Offer) (ts : List Thread) → is_live (stable_state o ts) ≡ true
-stable_live (Some offer) ts = refl
-stable_live None ts = by (is_empty ts)
-  where
-    by : (b : Bool) → is_live (if b then states.Solved else states.Stuck) ≡ true
-    by true = refl
-    by false = refl
+stable_live : (o : Option Offer) (left : Bool) → is_live (stable_state o left) ≡ true
+stable_live (Some offer) left = refl
+stable_live None true = refl
+stable_live None false = refl
 
-open_live : (goes stable : Bool) (o : Option Offer) (ts : List Thread) → is_live (if goes then states.Running else (if stable then stable_state o ts else states.Suspended)) ≡ true
-open_live true stable o ts = refl
-open_live false true o ts = stable_live o ts
-open_live false false o ts = refl
+open_live : (goes stable : Bool) (o : Option Offer) (left : Bool) → is_live (if goes then states.Running else (if stable then stable_state o left else states.Suspended)) ≡ true
+open_live true stable o left = refl
+open_live false true o left = stable_live o left
+open_live false false o left = refl
 
 status_live : (statements : List Statement) (layers : List Layer) (known : States) (l : Layer) (st : Status) → is_live (state_by statements layers known l st) ≡ was_left st
 status_live statements layers known l status.Open =
-    open_live (subtree_goes_on statements layers known l.space) (is_stable statements layers known l.space) (offer_in statements layers known l) l.threads
+    open_live (subtree_goes_on statements layers known l.space) (is_stable statements layers known l.space) (offer_in statements layers known l) (is_left (view layers l.space) l)
 status_live statements layers known l status.Failed = refl
 status_live statements layers known l (status.Raised x) = refl
 status_live statements layers known l status.Merged = refl

@@ -8,20 +8,22 @@ use Rattle.oz_language.specs.declared.kernel.Kernel.{Kernel}
 use Rattle.oz_semantics.specs.Names.{is_top}
 use Rattle.oz_semantics.specs.Store.{is_consistent}
 use Rattle.oz_semantics.specs.Configurations.{is_of, is_open, layer_of, stack_of, view, in_layer, with_frames, without_terminated, telling, ending, failed, raised_by}
-use Rattle.oz_semantics.specs.Answers.{Edit, Answer, Acts, Edits, RaisesKind, RaisesTerm, Operates, Rests}
+use Rattle.oz_semantics.specs.Answers.{Edit, Answer, Acts, Edits, RaisesKind, RaisesTerm, Operates, Widens, Rests}
 use Rattle.oz_semantics.specs.Spaces.{states_of, answer_in}
 use Rattle.oz_semantics.specs.Changes.{Change, changed_all}
 use Rattle.oz_semantics.specs.Effects.{Effect, Makes, Tells, ShowsText, act_effect}
 use Rattle.oz_semantics.specs.Exceptions.{is_failure, raise_term, with_term, unwound}
 use Rattle.oz_semantics.specs.Texts.{Printed, term_text}
 use Rattle.oz_semantics.specs.Triggers.{triggered}
-use Rattle.oz_semantics.specs.Settling.{Turned, settled, top_failed, requeued, term_variable, with_raised, top_ended, without_inconsistent, runnable_in, runnable}
+use Rattle.oz_semantics.specs.Settling.{Turned, settled, failing, top_failed, requeued, term_variable, with_raised, top_ended, without_inconsistent, runnable_in, runnable}
 use Rattle.oz_semantics.specs.Steps.{went_on, ended_by, uncaught, raised_to, raised, raised_kind, told, after_effect, edit_tells, edited, after_edit, after_answer, without_top, stepped}
-use Rattle.oz_semantics.specs.Schedule.{turn_of}
+use Rattle.oz_semantics.specs.Propagation.{Run, Fails, Narrows, run_of, after_run}
+use Rattle.oz_semantics.specs.Schedule.{least_due, after_run_of, propagated, turn_of_queue, turn_of, turn}
 use Rattle.oz_semantics.specs.declared.value.Tell.{Tell}
 use Rattle.oz_semantics.specs.declared.configuration.Frame.{Frame}
 use Rattle.oz_semantics.specs.declared.configuration.Status.{Status}
 use Rattle.oz_semantics.specs.declared.configuration.Status.TheVariants as status
+use Rattle.oz_semantics.specs.declared.configuration.Propagator.{Propagator}
 use Rattle.oz_semantics.specs.declared.configuration.Layer.{Layer}
 use Rattle.oz_semantics.specs.declared.configuration.Configuration.{Configuration}
 use Rattle.oz_semantics.specs.declared.outcome.RaiseKind.{RaiseKind}
@@ -37,8 +39,9 @@ use Rattle.view_laws.proofs.TreeLaws.{one_of_name}
 use Rattle.view_laws.proofs.QueueLaws.{can_from}
 use Rattle.edit_laws.proofs.NameLaws.{top_is}
 use Rattle.settle_laws.proofs.FitLaws.{FitsIn, AnswerFits, answer_fits, fits_kept}
+use Rattle.turn_laws.proofs.DueLaws.{least_found}
 use Rattle.inside_laws.specs.Settled.{IsSettled}
-use Rattle.inside_laws.specs.Outside.{outside, StepsStayInside, LayersStay}
+use Rattle.inside_laws.specs.Outside.{outside, StepsStayInside, LayersStay, RunsStayInside, RunLayersStay}
 use Rattle.inside_laws.proofs.OwnLaws.{Keeps, own_at, own_change, own_end, layer_outside}
 use Rattle.inside_laws.proofs.EditedLaws.{edited_status, edited_keeps, changed_keeps, changed_status, own_edited, own_changed}
 use Rattle.inside_laws.proofs.LeftLaws.{was_left}
@@ -46,14 +49,14 @@ use Rattle.inside_laws.proofs.RestLaws.{IsResting, top_sound, parts_keep}
 
 -- The space of a thread that can step
 
-open_left : (st : Status) → is_open st ≡ true → was_left st ≡ true
+pub open_left : (st : Status) → is_open st ≡ true → was_left st ≡ true
 open_left status.Open e = refl
 open_left status.Failed e = refl
 open_left (status.Raised x) e = refl
 open_left status.Merged e = absurd (false≢true e)
 
 -- a layer is the only one of its name
-only_named : (t : List ℕ) (ls : List Layer) (l : Layer) → is_ascending (names_of ls) ≡ true → In l ls → l.space ≡ t → filter (is_of t) ls ≡ l ∷ []
+pub only_named : (t : List ℕ) (ls : List Layer) (l : Layer) → is_ascending (names_of ls) ≡ true → In l ls → l.space ≡ t → filter (is_of t) ls ≡ l ∷ []
 only_named t [] l e h q = elim h [ ]
 only_named t (m ∷ ls) l e (inl k) q =
     let named : m.space ≡ t = ap (λ (n : Layer). n.space) k ∙ q in
@@ -203,6 +206,7 @@ module _ (k : Kernel) (id : Ident) (before : List Layer) (rests : IsResting k.st
   answer_inside c (RaisesKind kind) fits good first = kind_inside kind (without_top id c.layers) c good
   answer_inside c (RaisesTerm x) fits good first = raised_inside x (without_top id c.layers) c good
   answer_inside c (Operates op space x) fits good first = follows (Some id) 1 c first
+  answer_inside c (Widens ts) fits good first = told_inside ts (λ ls. ls) c.layers c first (λ told. told)
   answer_inside c (Rests ready) fits good first = follows (Some id) 1 c first
 
   pub step_inside : (c : Configuration) (l : Layer) → Keeps t before c.layers l → was_left l.status ≡ true → Inside (stepped k id c)
@@ -217,8 +221,14 @@ none_outside_top : (layers : List Layer) → outside [] layers ≡ []
 none_outside_top [] = refl
 none_outside_top (l ∷ ls) = none_outside_top ls
 
+-- The turn is a step where no propagator is due
+
+pub turn_steps : (k : Kernel) (c : Configuration) (id : Ident) (rest : List Ident) → least_due c.layers ≡ None → c.queue ≡ id ∷ rest → turn k c ≡ stepped k id (record c { queue = rest })
+turn_steps k c id rest none q = ap (turn_of k c) none ∙ ap (turn_of_queue k c) q
+
 pub steps_stay_inside : StepsStayInside
-steps_stay_inside k c id rest h q = subst (λ ids. outside id.space (turn_of k c ids).1.layers ≡ outside id.space c.layers) (sym q) (by (is_top id.space) refl)
+steps_stay_inside k c id rest h none q =
+    subst (λ (t : Turned). outside id.space t.1.layers ≡ outside id.space c.layers) (sym (turn_steps k c id rest none q)) (by (is_top id.space) refl)
   where
     head : HeadIn id.space c.layers
     head = head_in k.statements c id rest h q
@@ -230,4 +240,55 @@ steps_stay_inside k c id rest h q = subst (λ ids. outside id.space (turn_of k c
     by false e = step_inside k id c.layers (head_rests k.statements c id rest h q) e (record c { queue = rest }) head.layer head.keeps head.left
 
 pub layers_stay : LayersStay
-layers_stay k c id rest other h q apart = layer_outside id.space other apart (turn_of k c c.queue).1.layers c.layers (steps_stay_inside k c id rest h q)
+layers_stay k c id rest other h none q apart = layer_outside id.space other apart (turn k c).1.layers c.layers (steps_stay_inside k c id rest h none q)
+
+-- Runs
+
+abbrev pub due_head : (statements : List Statement) (c : Configuration) (due : Layer × Propagator) → IsSettled statements c → least_due c.layers ≡ Some due → HeadIn due.0.space c.layers
+due_head statements c due h e =
+    let d = least_found c.layers due e in
+    record { layer = due.0; keeps = record { stays = refl; own = only_named due.0.space c.layers due.0 h.ordered d.0 refl }; left = open_left due.0.status d.1.opened }
+
+pub due_rests : (statements : List Statement) (c : Configuration) (due : Layer × Propagator) → IsSettled statements c → least_due c.layers ≡ Some due → IsResting statements due.0.space c.layers
+due_rests statements c due h e =
+    let head = due_head statements c due h e in
+    record {
+      sound = h.sound;
+      content = h.content;
+      left = ap (holds_of (λ (l : Layer). was_left l.status)) (own_at due.0.space c.layers c.layers head.layer head.keeps) ∙ head.left;
+    }
+
+-- what follows a run in layers whose space is not the top
+module _ (statements : List Statement) (t : List ℕ) (before : List Layer) (rests : IsResting statements t before) (inner : is_top t ≡ false) where
+  run_follows : (c : Configuration) (l : Layer) → Keeps t before c.layers l → was_left l.status ≡ true → outside t (settled statements None 1 c).1.layers ≡ outside t before
+  run_follows c l keeps left =
+      subst (λ (b : Bool). outside t (if b then top_failed 1 c else (Moved 1, requeued statements None c (triggered statements (without_inconsistent c.layers)))).1.layers ≡ outside t before)
+      (sym (top_sound statements t before rests inner c.layers keeps.stays)) (parts_keep statements t before rests c.layers l keeps left).1.stays
+
+  run_inside : (c : Configuration) (l : Layer) (p : Propagator) (run : Run) → l.space ≡ t → Keeps t before c.layers l → was_left l.status ≡ true
+      → outside t (after_run_of statements l p c run).1.layers ≡ outside t before
+  run_inside c l p Fails name keeps left =
+      subst (λ (b : Bool). outside t (if b then top_failed 1 c else settled statements None 1 (record c { layers = failing c.layers l.space })).1.layers ≡ outside t before) (sym (ap is_top name ∙ inner))
+      (run_follows (record c { layers = failing c.layers l.space }) (failed l)
+      (subst (λ s. Keeps t before (failing c.layers s) (failed l)) (sym name) (own_end t failed before c.layers l (λ m. refl) keeps)) refl)
+  run_inside c l p (Narrows ts) name keeps left =
+      let f : Layer → Layer = after_run (view c.layers l.space) p ts in
+      run_follows (record c { layers = in_layer l.space f c.layers }) (f l)
+      (subst (λ s. Keeps t before (in_layer s f c.layers) (f l)) (sym name) (own_change t before c.layers l keeps f (λ m. refl))) left
+
+pub runs_stay_inside : RunsStayInside
+runs_stay_inside k c due h e =
+    subst (λ (t : Turned). outside due.0.space t.1.layers ≡ outside due.0.space c.layers) (sym (ap (turn_of k c) e)) (by (is_top due.0.space) refl)
+  where
+    head : HeadIn due.0.space c.layers
+    head = due_head k.statements c due h e
+
+    by : (b : Bool) → is_top due.0.space ≡ b → outside due.0.space (propagated k.statements due c).1.layers ≡ outside due.0.space c.layers
+    by true q =
+        subst (λ s. outside s (propagated k.statements due c).1.layers ≡ outside s c.layers) (sym (top_is due.0.space q))
+        (none_outside_top (propagated k.statements due c).1.layers ∙ sym (none_outside_top c.layers))
+    by false q =
+        run_inside k.statements due.0.space c.layers (due_rests k.statements c due h e) q c due.0 due.1 (run_of (view c.layers due.0.space) due.1) refl head.keeps head.left
+
+pub run_layers_stay : RunLayersStay
+run_layers_stay k c due other h e apart = layer_outside due.0.space other apart (turn k c).1.layers c.layers (runs_stay_inside k c due h e)

@@ -1,5 +1,5 @@
--- The queue after a step has each thread that can step, and while it is empty nothing goes on.
-use Rattle.std.proofs.Common.{◌≡◌, ℕ, Bool, true, false, not, ◌||◌, cond, if◌then◌else◌, List, [], ◌∷◌, ◌++◌, map, filter, Option, refl, sym, ap, ◌∙◌, true≢false}
+-- The queue after a step has each thread that can step, and while it is empty and no propagator is due nothing goes on.
+use Rattle.std.proofs.Common.{◌≡◌, ℕ, Bool, true, false, not, ◌||◌, cond, if◌then◌else◌, List, [], ◌∷◌, ◌++◌, map, filter, Option, None, inl, inr, refl, sym, ap, ap₂, ◌∙◌, true≢false}
 use Rattle.std.specs.List.{list_any, flat_map}
 use Rattle.std.proofs.lemmas.List.Folds.{list_any-append}
 use Rattle.oz_base.specs.declared.names.Ident.{Ident}
@@ -7,13 +7,16 @@ use Rattle.oz_base.specs.Names.{ident_eq}
 use Rattle.oz_base.specs.IdentLaws.{ident_eq-itself, ident_eq-equal}
 use Rattle.oz_language.specs.declared.kernel.Statement.{Statement}
 use Rattle.oz_semantics.specs.Names.{is_below, named}
-use Rattle.oz_semantics.specs.Configurations.{is_open}
+use Rattle.oz_semantics.specs.Configurations.{is_open, view}
 use Rattle.oz_semantics.specs.Sights.{Readiness, can_step}
-use Rattle.oz_semantics.specs.Spaces.{states_of, thread_ready, layer_goes_on, layers_below, goes_on}
+use Rattle.oz_semantics.specs.Spaces.{states_of, thread_ready, has_due, layer_goes_on, layers_below, goes_on}
 use Rattle.oz_semantics.specs.Settling.{runnable_in, runnable, is_among, mover_in, queue_after}
 use Rattle.oz_semantics.specs.declared.configuration.Thread.{Thread}
 use Rattle.oz_semantics.specs.declared.configuration.Layer.{Layer}
 use Rattle.oz_semantics.specs.declared.configuration.Configuration.{Configuration}
+use Rattle.oz_semantics.specs.Schedule.{least_due}
+use Rattle.oz_laws.proofs.SameLaws.{In}
+use Rattle.turn_laws.proofs.DueLaws.{none_due}
 use Rattle.machine_search.specs.Rests.{IsQueued}
 
 or_right : (a b : Bool) → b ≡ true → (a || b) ≡ true
@@ -75,8 +78,8 @@ no_thread ready space (t ∷ threads) e = by (can_step (ready t)) (no_thread rea
 abbrev going : List Statement → List Layer → Layer → Bool
 going statements layers = layer_goes_on statements layers (states_of statements layers)
 
-no_layer : (statements : List Statement) (layers : List Layer) (l : Layer) → runnable_in statements layers l ≡ [] → going statements layers l ≡ false
-no_layer statements layers l e = by (is_open l.status) e
+no_layer : (statements : List Statement) (layers : List Layer) (l : Layer) → runnable_in statements layers l ≡ [] → has_due (view layers l.space) l ≡ false → going statements layers l ≡ false
+no_layer statements layers l e none = ap₂ (λ a b. a || b) (by (is_open l.status) e) none
   where
     by : (b : Bool) → (if b then map (λ (t : Thread). named l.space t.number) (filter (λ t. can_step (thread_ready statements layers l.space t)) l.threads) else []) ≡ []
         → list_any can_step (if b then map (thread_ready statements layers l.space) l.threads else []) ≡ false
@@ -84,18 +87,19 @@ no_layer statements layers l e = by (is_open l.status) e
     by false e = refl
 
 no_layers : (statements : List Statement) (layers : List Layer) (space : List ℕ) (ls : List Layer) → flat_map (runnable_in statements layers) ls ≡ []
-    → list_any (going statements layers) (layers_below ls space) ≡ false
-no_layers statements layers space [] e = refl
-no_layers statements layers space (l ∷ ls) e =
+    → ((l : Layer) → In l ls → has_due (view layers l.space) l ≡ false) → list_any (going statements layers) (layers_below ls space) ≡ false
+no_layers statements layers space [] e none = refl
+no_layers statements layers space (l ∷ ls) e none =
     let parts = append_parts (runnable_in statements layers l) (flat_map (runnable_in statements layers) ls) e in
-    by (is_below space l.space) (no_layer statements layers l parts.0) (no_layers statements layers space ls parts.1)
+    by (is_below space l.space) (no_layer statements layers l parts.0 (none l (inl refl))) (no_layers statements layers space ls parts.1 (λ m i. none m (inr i)))
   where
     by : (b : Bool) → going statements layers l ≡ false → list_any (going statements layers) (layers_below ls space) ≡ false
         → list_any (going statements layers) (cond b (l ∷ layers_below ls space) (layers_below ls space)) ≡ false
     by true here rest = ap (λ t. t || list_any (going statements layers) (layers_below ls space)) here ∙ rest
     by false here rest = rest
 
-pub nothing_goes_on : (statements : List Statement) (c : Configuration) (space : List ℕ) → IsQueued statements c → c.queue ≡ [] → goes_on statements c.layers space ≡ false
-nothing_goes_on statements c space queued empty =
+pub nothing_goes_on : (statements : List Statement) (c : Configuration) (space : List ℕ) → IsQueued statements c → least_due c.layers ≡ None → c.queue ≡ [] → goes_on statements c.layers space ≡ false
+nothing_goes_on statements c space queued none empty =
     no_layers statements c.layers space c.layers
     (none_among (runnable statements c.layers) (λ id e. ap (λ q. is_among q id) (sym empty) ∙ queued id e))
+    (none_due c.layers none)

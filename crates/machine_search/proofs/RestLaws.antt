@@ -2,7 +2,7 @@
 use Rattle.std.proofs.Common.{◌≡◌, ℕ, zero, suc, ◌+◌, ◌-◌, nat_le, Bool, true, false, cond, if◌then◌else◌, List, [], ◌∷◌, ◌++◌, append_assoc, Option, Some, None, option_map, refl, sym, ap, ◌∙◌, subst, true≢false}
 use Rattle.std.specs.List.{find}
 use Rattle.std.proofs.lemmas.Option.{same_Some}
-use Rattle.oz_base.specs.Lists.{is_empty, list_eq}
+use Rattle.oz_base.specs.Lists.{list_eq}
 use Rattle.oz_base.specs.ListLaws.{list_eq-decides}
 use Rattle.oz_base.specs.declared.names.Ident.{Ident}
 use Rattle.oz_language.specs.declared.kernel.Statement.{Statement}
@@ -14,28 +14,30 @@ use Rattle.oz_search.specs.Paths.{is_among}
 use Rattle.oz_search.specs.Nodes.{Reached, Met, Node, OutOfFuel, NotANode, met_last, met_by_kind, met_next, met_from}
 use Rattle.oz_search.specs.Plain.{outcomes}
 use Rattle.oz_semantics.specs.Sights.{States, state_in, Offer}
-use Rattle.oz_semantics.specs.Spaces.{state, goes_on, subtree_goes_on, is_stable, offer_in, stable_state, open_state, state_by, states_behind}
+use Rattle.oz_semantics.specs.Configurations.{view}
+use Rattle.oz_semantics.specs.Spaces.{state, goes_on, subtree_goes_on, is_stable, offer_in, is_left, stable_state, open_state, state_by, states_behind}
 use Rattle.oz_semantics.specs.Triggers.{triggered}
 use Rattle.oz_semantics.specs.Settling.{Turned, top_failed, without_inconsistent, runnable, requeued}
 use Rattle.oz_semantics.specs.Edits.{created, committed}
 use Rattle.oz_semantics.specs.Texts.{Printed}
-use Rattle.oz_semantics.specs.Schedule.{turn_of, turn}
+use Rattle.oz_semantics.specs.Schedule.{least_due, turn_of_queue, turn_of, turn}
+use Rattle.oz_semantics.specs.declared.configuration.Propagator.{Propagator}
 use Rattle.oz_semantics.specs.Runs.{Ran, Ended, TopRaised, Over, after_turn, left_by, run_for, run}
 use Rattle.oz_semantics.specs.Search.{chosen_in, state_text, kind_of, node_of_kind, node_in_state, node_of_run, node_at, maker}
-use Rattle.oz_semantics.specs.declared.configuration.Thread.{Thread}
 use Rattle.oz_semantics.specs.declared.configuration.Status.{Status}
 use Rattle.oz_semantics.specs.declared.configuration.Status.TheVariants as status
 use Rattle.oz_semantics.specs.declared.configuration.Layer.{Layer}
 use Rattle.oz_semantics.specs.declared.configuration.Configuration.{Configuration}
 use Rattle.oz_semantics.specs.declared.outcome.State.{State}
-use Rattle.oz_semantics.specs.declared.outcome.State.TheVariants.{Running, Suspended, Solved, Stuck}
+use Rattle.oz_semantics.specs.declared.outcome.State.TheVariants.{Running, Suspended}
 use Rattle.oz_semantics.specs.declared.outcome.Stepped.TheVariants.{Moved, Quiescent, TopEnded}
 use Rattle.view_laws.specs.Trees.{is_ascending, names_of}
 use Rattle.view_laws.proofs.BehindLaws.{behind_goes_on}
+use Rattle.turn_laws.proofs.KeptLaws.{committed_top}
 use Rattle.machine_search.specs.Rests.{IsSettled, SettledLaw, RootLaw, ChosenLaw, RestLaw, StateLaw, NodesLaw}
 use Rattle.machine_search.proofs.QueueLaws.{all_queued, nothing_goes_on}
-use Rattle.machine_search.proofs.TopLaws.{still_consistent, begun_consistent, committed_top, created_top}
-use Rattle.machine_search.proofs.TurnLaws.{IsStep, turn_step}
+use Rattle.machine_search.proofs.TopLaws.{still_consistent, begun_consistent, created_top}
+use Rattle.machine_search.proofs.TurnLaws.{IsStep, queue_step, run_step}
 use Rattle.machine_search.proofs.RunLaws.{same_config, no_raise}
 
 pub settled_law : SettledLaw
@@ -47,7 +49,7 @@ pub root_law : RootLaw
 root_law statements procedure c h = settled_law statements None 1 (record c { layers = created [] procedure c.layers }) (created_top [] procedure c.layers ∙ h.0)
 
 pub chosen_law : ChosenLaw
-chosen_law statements space i c h = settled_law statements None 1 (record c { layers = committed statements space i c.layers }) (committed_top statements space i c.layers ∙ h.0)
+chosen_law statements space i c h = settled_law statements None 1 (record c { layers = committed statements space i c.layers }) (committed_top statements space i c.layers h.0)
 
 module _ (k : Kernel) (space : List ℕ) where
   abbrev Rests : Configuration → Type 0
@@ -68,14 +70,19 @@ module _ (k : Kernel) (space : List ℕ) where
   by_step n rest c f d left (TopEnded exception cost, x) step e = absurd (no_raise k space cost f (λ g. TopRaised x g exception) c d left (λ g i. cc) e)
   by_step n rest c f d left (Quiescent, x) step e = absurd step
 
-  by_queue : (n : ℕ) → Ends n → (c : Configuration) (f : ℕ) (d : Configuration) (left : ℕ) → IsSettled k.statements c → goes_on k.statements c.layers space ≡ true
-      → (queue : List Ident) → c.queue ≡ queue → after_turn (run_for k space n) f c (turn_of k c queue) ≡ Ended d left → Rests d
-  by_queue n rest c f d left queued going [] empty e = absurd (true≢false (sym going ∙ nothing_goes_on k.statements c space queued.1 empty))
-  by_queue n rest c f d left queued going (id ∷ queue) is e = by_step n rest c f d left (turn_of k c (id ∷ queue)) (turn_step k c id queue) e
+  by_queue : (n : ℕ) → Ends n → (c : Configuration) (f : ℕ) (d : Configuration) (left : ℕ) → IsSettled k.statements c → goes_on k.statements c.layers space ≡ true → least_due c.layers ≡ None
+      → (queue : List Ident) → c.queue ≡ queue → after_turn (run_for k space n) f c (turn_of_queue k c queue) ≡ Ended d left → Rests d
+  by_queue n rest c f d left queued going none [] empty e = absurd (true≢false (sym going ∙ nothing_goes_on k.statements c space queued.1 none empty))
+  by_queue n rest c f d left queued going none (id ∷ queue) is e = by_step n rest c f d left (turn_of_queue k c (id ∷ queue)) (queue_step k c id queue) e
+
+  by_due : (n : ℕ) → Ends n → (c : Configuration) (f : ℕ) (d : Configuration) (left : ℕ) → IsSettled k.statements c → goes_on k.statements c.layers space ≡ true
+      → (due : Option (Layer × Propagator)) → least_due c.layers ≡ due → after_turn (run_for k space n) f c (turn_of k c due) ≡ Ended d left → Rests d
+  by_due n rest c f d left queued going None none e = by_queue n rest c f d left queued going none c.queue refl e
+  by_due n rest c f d left queued going (Some due) is e = by_step n rest c f d left (turn_of k c (Some due)) (run_step k c due) e
 
   by_going : (n : ℕ) → Ends n → (c : Configuration) (f : ℕ) (d : Configuration) (left : ℕ) → IsSettled k.statements c → (b : Bool) → goes_on k.statements c.layers space ≡ b
       → (if b then after_turn (run_for k space n) f c (turn k c) else Ended c f) ≡ Ended d left → Rests d
-  by_going n rest c f d left queued true going e = by_queue n rest c f d left queued going c.queue refl e
+  by_going n rest c f d left queued true going e = by_due n rest c f d left queued going (least_due c.layers) refl e
   by_going n rest c f d left queued false not_going e = ended c d f left (not_going, queued) e
 
   ends : (n : ℕ) → Ends n
@@ -87,23 +94,20 @@ pub rest_law : RestLaw
 rest_law k space c fuel d left queued e = ends k space (suc fuel) c fuel d left queued e
 
 -- ---- so no space runs there
-stable_not : (o : Option Offer) (threads : List Thread) → stable_state o threads ≡ Running → ⊥
-stable_not (Some offer) threads e = cc
-stable_not None threads e = by (is_empty threads) e
-  where
-    by : (b : Bool) → (if b then Solved else Stuck) ≡ Running → ⊥
-    by true e = cc
-    by false e = cc
+stable_not : (o : Option Offer) (left : Bool) → stable_state o left ≡ Running → ⊥
+stable_not (Some offer) left e = cc
+stable_not None true e = cc
+stable_not None false e = cc
 
 open_not : (statements : List Statement) (layers : List Layer) (known : States) (l : Layer) → subtree_goes_on statements layers known l.space ≡ false
     → open_state statements layers known l ≡ Running → ⊥
 open_not statements layers known l not_going e = go (is_stable statements layers known l.space) (sym (ap (λ b. if b then Running else rest) not_going) ∙ e)
   where
     rest : State
-    rest = if is_stable statements layers known l.space then stable_state (offer_in statements layers known l) l.threads else Suspended
+    rest = if is_stable statements layers known l.space then stable_state (offer_in statements layers known l) (is_left (view layers l.space) l) else Suspended
 
-    go : (b : Bool) → (if b then stable_state (offer_in statements layers known l) l.threads else Suspended) ≡ Running → ⊥
-    go true e = stable_not (offer_in statements layers known l) l.threads e
+    go : (b : Bool) → (if b then stable_state (offer_in statements layers known l) (is_left (view layers l.space) l) else Suspended) ≡ Running → ⊥
+    go true e = stable_not (offer_in statements layers known l) (is_left (view layers l.space) l) e
     go false e = cc
 
 not_running : (statements : List Statement) (layers : List Layer) (known : States) (l : Layer) (s : Status) → subtree_goes_on statements layers known l.space ≡ false

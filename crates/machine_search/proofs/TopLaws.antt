@@ -8,8 +8,7 @@ use Rattle.oz_language.specs.declared.kernel.Statement.{Statement}
 use Rattle.oz_semantics.specs.Names.{is_below, is_properly_below, is_top, space_lt, child_name}
 use Rattle.oz_semantics.specs.Store.{is_consistent}
 use Rattle.oz_semantics.specs.Configurations.{is_of, layer_of, view, in_layer, new_layer, next_child, counting_child, failed}
-use Rattle.oz_semantics.specs.Edits.{starting, created, committing, committed}
-use Rattle.oz_semantics.specs.Spaces.{sight}
+use Rattle.oz_semantics.specs.Edits.{starting, created}
 use Rattle.oz_semantics.specs.Triggers.{triggered}
 use Rattle.need_laws.specs.Needs.{AllFire}
 use Rattle.need_laws.proofs.FireLaws.{all_fired}
@@ -74,6 +73,13 @@ edit_tops s f keeps (l ∷ ls) = by (is_of s l) refl (edit_tops s f keeps ls)
     by true i h = keeps l (tops ls) i
     by false i h = ap (put_of l) h
 
+-- a change of a layer that is not the top's
+changed_aside : (s : List ℕ) (f : Layer → Layer) → is_top s ≡ false → ((l : Layer) → (f l).space ≡ l.space) → (l : Layer) (os : List (Bool × List Tell)) → is_of s l ≡ true
+    → put_of (f l) os ≡ put_of l os
+changed_aside s f e named l os i =
+    let away : is_top l.space ≡ false = ap is_top ((list_eq-decides l.space s).0 i) ∙ e in
+    aside (f l) os (ap is_top (named l) ∙ away) ∙ sym (aside l os away)
+
 filter_tops : (g : Layer → Bool) → ((l : Layer) → is_top l.space ≡ true → g l ≡ true) → (ls : List Layer) → tops (filter g ls) ≡ tops ls
 filter_tops g stays [] = refl
 filter_tops g stays (l ∷ ls) = by (g l) refl (filter_tops g stays ls)
@@ -102,11 +108,7 @@ stays_by s (n ∷ ns) e i = absurd (true≢false (sym i))
 failing_tops : (s : List ℕ) → is_top s ≡ false → (ls : List Layer) → tops (failing ls s) ≡ tops ls
 failing_tops s e ls =
     let others = filter (λ (l : Layer). not (is_properly_below s l.space)) ls in
-    let keeps : (l : Layer) (os : List (Bool × List Tell)) → is_of s l ≡ true → put_of (failed l) os ≡ put_of l os = λ l os i.
-    let same : l.space ≡ s = (list_eq-decides l.space s).0 i in
-    let away : is_top l.space ≡ false = ap is_top same ∙ e in
-    aside (failed l) os away ∙ sym (aside l os away) in
-    edit_tops s failed keeps others ∙ filter_tops (λ (l : Layer). not (is_properly_below s l.space)) (λ l i. stays_by s l.space e i) ls
+    edit_tops s failed (changed_aside s failed e (λ l. refl)) others ∙ filter_tops (λ (l : Layer). not (is_properly_below s l.space)) (λ l i. stays_by s l.space e i) ls
 
 abbrev NonTop : List (List ℕ) → Type 0
 NonTop [] = Unit {0}
@@ -138,10 +140,6 @@ pub still_consistent : (layers : List Layer) → top_is_inconsistent layers ≡ 
 still_consistent layers e = same_top (without_inconsistent layers) layers (all_failing (inconsistent_spaces layers) (non_top layers layers e) layers) ∙ e
 
 -- ---- edits by the search
-pub committed_top : (statements : List Statement) (space : List ℕ) (i : ℕ) (layers : List Layer) → top_is_inconsistent (committed statements space i layers) ≡ top_is_inconsistent layers
-committed_top statements space i layers =
-    same_top (committed statements space i layers) layers (edit_tops space (committing (sight statements layers space) i) (λ l os e. refl) layers)
-
 child_not_top : (s : List ℕ) (n : ℕ) → is_top (child_name s n) ≡ false
 child_not_top [] n = refl
 child_not_top (m ∷ s) n = refl

@@ -6,16 +6,18 @@ use Rattle.oz_language.specs.declared.kernel.Kernel.{Kernel}
 use Rattle.oz_semantics.specs.Names.{is_top}
 use Rattle.oz_semantics.specs.Store.{is_consistent}
 use Rattle.oz_semantics.specs.Configurations.{layer_of, stack_of, view, in_layer, with_frames, without_terminated, telling, ending}
-use Rattle.oz_semantics.specs.Answers.{Edit, Answer, Acts, Edits, RaisesKind, RaisesTerm, Operates, Rests}
+use Rattle.oz_semantics.specs.Answers.{Edit, Answer, Acts, Edits, RaisesKind, RaisesTerm, Operates, Widens, Rests}
 use Rattle.oz_semantics.specs.Spaces.{states_of, answer_in}
 use Rattle.oz_semantics.specs.Changes.{changed_all}
 use Rattle.oz_semantics.specs.Effects.{Effect, Makes, Tells, ShowsText, act_effect}
 use Rattle.oz_semantics.specs.Exceptions.{unwound}
 use Rattle.oz_semantics.specs.Texts.{Printed, term_text}
 use Rattle.oz_semantics.specs.Triggers.{triggered}
-use Rattle.oz_semantics.specs.Settling.{Turned, term_variable, with_raised, top_is_inconsistent, without_inconsistent, runnable, requeued, settled, top_failed}
+use Rattle.oz_semantics.specs.Settling.{Turned, term_variable, with_raised, top_is_inconsistent, without_inconsistent, runnable, requeued, settled, failing, top_failed}
 use Rattle.oz_semantics.specs.Steps.{went_on, ended_by, uncaught, raised_to, raised, told, shown_by, after_effect, edit_tells, edited, after_edit, after_answer, without_top, stepped}
-use Rattle.oz_semantics.specs.Schedule.{turn_of, turn}
+use Rattle.oz_semantics.specs.Propagation.{Run, Fails, Narrows, run_of, after_run}
+use Rattle.oz_semantics.specs.Schedule.{least_due, after_run_of, turn_of_queue, turn_of, turn}
+use Rattle.oz_semantics.specs.declared.configuration.Propagator.{Propagator}
 use Rattle.oz_semantics.specs.declared.value.Tell.{Tell}
 use Rattle.oz_semantics.specs.declared.configuration.Frame.{Frame}
 use Rattle.oz_semantics.specs.declared.configuration.Layer.{Layer}
@@ -82,14 +84,24 @@ module _ (k : Kernel) (id : Ident) where
   answer_step layers c (RaisesKind kind) = raised_step (term_variable layers id.space) (with_raised kind id.space layers) c
   answer_step layers c (RaisesTerm x) = raised_step x layers c
   answer_step layers c (Operates op space x) = settled_step k.statements (Some id) 1 c (omega arith)
+  answer_step layers c (Widens ts) = told_step ts (λ ls. ls) c.layers c
   answer_step layers c (Rests ready) = settled_step k.statements (Some id) 1 c (omega arith)
 
   pub stepped_step : (c : Configuration) → IsStep k.statements (stepped k id c)
   stepped_step c = answer_step (without_top id c.layers) c (answer_in k.statements c.layers (states_of k.statements c.layers) id.space (stack_of c.layers id))
 
--- a turn makes a step, or else the queue is empty
-pub turn_step : (k : Kernel) (c : Configuration) (id : Ident) (queue : List Ident) → IsStep k.statements (turn_of k c (id ∷ queue))
-turn_step k c id queue = stepped_step k id (record c { queue = queue })
+-- a run of a propagator
+after_run_step : (statements : List Statement) (l : Layer) (p : Propagator) (c : Configuration) (run : Run) → IsStep statements (after_run_of statements l p c run)
+after_run_step statements l p c Fails =
+    either statements (is_top l.space) _ _ (omega arith, refl) (settled_step statements None 1 (record c { layers = failing c.layers l.space }) (omega arith))
+after_run_step statements l p c (Narrows ts) = settled_step statements None 1 (record c { layers = in_layer l.space (after_run (view c.layers l.space) p ts) c.layers }) (omega arith)
+
+-- a turn makes a step, or else no propagator is due and the queue is empty
+pub queue_step : (k : Kernel) (c : Configuration) (id : Ident) (queue : List Ident) → IsStep k.statements (turn_of_queue k c (id ∷ queue))
+queue_step k c id queue = stepped_step k id (record c { queue = queue })
+
+pub run_step : (k : Kernel) (c : Configuration) (due : Layer × Propagator) → IsStep k.statements (turn_of k c (Some due))
+run_step k c due = after_run_step k.statements due.0 due.1 c (run_of (view c.layers due.0.space) due.1)
 
 -- Costs
 
@@ -103,9 +115,13 @@ step_paid statements (Moved cost, c) h = h.0
 step_paid statements (TopEnded exception cost, c) h = h.0
 step_paid statements (Quiescent, c) h = refl
 
-queue_paid : (k : Kernel) (c : Configuration) (queue : List Ident) → IsPaid (turn_of k c queue)
+queue_paid : (k : Kernel) (c : Configuration) (queue : List Ident) → IsPaid (turn_of_queue k c queue)
 queue_paid k c [] = refl
-queue_paid k c (id ∷ queue) = step_paid k.statements (turn_of k c (id ∷ queue)) (turn_step k c id queue)
+queue_paid k c (id ∷ queue) = step_paid k.statements (turn_of_queue k c (id ∷ queue)) (queue_step k c id queue)
+
+due_paid : (k : Kernel) (c : Configuration) (due : Option (Layer × Propagator)) → IsPaid (turn_of k c due)
+due_paid k c None = queue_paid k c c.queue
+due_paid k c (Some due) = step_paid k.statements (turn_of k c (Some due)) (run_step k c due)
 
 pub turn_paid : (k : Kernel) (c : Configuration) → IsPaid (turn k c)
-turn_paid k c = queue_paid k c c.queue
+turn_paid k c = due_paid k c (least_due c.layers)

@@ -38,7 +38,7 @@ RootLaw = (statements : List Statement) (procedure : Ident) (c : Configuration) 
 abbrev pub ChosenLaw : Type 0
 ChosenLaw = (statements : List Statement) (space : List ℕ) (i : ℕ) (c : Configuration) → IsSettled statements c → IsSettled statements (chosen_in statements space i c)
 
--- a run from there ends where nothing of the space or below it can step
+-- a run from there ends where nothing of the space or below it can step or is due
 abbrev pub RestLaw : Type 0
 RestLaw =
     (k : Kernel) (space : List ℕ) (c : Configuration) (fuel : ℕ) (d : Configuration) (left : ℕ) → IsSettled k.statements c → run k space c fuel ≡ Ended d left

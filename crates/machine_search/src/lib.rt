@@ -55,8 +55,8 @@ pub fn script_law()
 
 /// What makes runs end. After each step that leaves a consistent top all threads that can step are queued (`settled`),
 /// so in the opening configuration (`opening`), after the search root is made (`root`), and after a space is committed
-/// (`chosen`). A run from there ends where nothing of its space can step (`rests`), so the space does not run (`state`);
-/// nor does it in any node of the search (`nodes`).
+/// (`chosen`). A run from there ends where nothing of its space can step or is due (`rests`), so the space does not run
+/// (`state`); nor does it in any node of the search (`nodes`).
 pub fn rest_law()
     ensures settled { SettledLaw }
     ensures opening { OpeningLaw }

@@ -28,6 +28,7 @@ fires_none l = record {
   space = refl;
   status = refl;
   tells = refl;
+  propagators = refl;
   cells = refl;
   ports = refl;
   begun = [];
@@ -40,6 +41,7 @@ fires_both l m k f g = record {
   space = g.space ∙ f.space;
   status = g.status ∙ f.status;
   tells = g.tells ∙ f.tells;
+  propagators = g.propagators ∙ f.propagators;
   cells = g.cells ∙ f.cells;
   ports = g.ports ∙ f.ports;
   begun = f.begun ++ g.begun;
@@ -59,6 +61,7 @@ fires_one l t = record {
   space = refl;
   status = refl;
   tells = refl;
+  propagators = refl;
   cells = refl;
   ports = refl;
   begun = applying t.procedure t.variable ∷ [];
@@ -72,7 +75,7 @@ fires_fold (t ∷ ts) l = fires_both l (beginning l t) (fold beginning (beginnin
 
 -- whatever triggers are left
 fires_from : (l m : Layer) (ts : List Trigger) → Fires (record l { triggers = ts }) m → Fires l m
-fires_from l m ts f = record { space = f.space; status = f.status; tells = f.tells; cells = f.cells; ports = f.ports; begun = f.begun; threads = f.threads; next = f.next }
+fires_from l m ts f = record { space = f.space; status = f.status; tells = f.tells; propagators = f.propagators; cells = f.cells; ports = f.ports; begun = f.begun; threads = f.threads; next = f.next }
 
 pub fires_fired : (statements : List Statement) (layers : List Layer) (l : Layer) → Fires l (fired statements layers l)
 fires_fired statements layers l =

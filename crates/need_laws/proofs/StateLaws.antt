@@ -2,18 +2,18 @@
 use Rattle.std.proofs.Common.{◌≡◌, ℕ, Bool, true, false, cond, if◌then◌else◌, List, [], ◌∷◌, ◌++◌, refl, sym, ap, ap₂, ◌∙◌, Option, Some, None, map, flat_map}
 use Rattle.std.specs.Prelude.{option_map, ℤ, pos, negsuc, nat_le, ◌&&◌}
 use Rattle.std.specs.List.{find}
-use Rattle.oz_base.specs.Lists.{list_eq, is_empty}
+use Rattle.oz_base.specs.Lists.{list_eq}
 use Rattle.oz_base.specs.declared.names.Ident.{Ident}
 use Rattle.oz_language.specs.declared.kernel.Statement.{Statement}
 use Rattle.oz_semantics.specs.Store.{View, value_of}
 use Rattle.oz_semantics.specs.Values.{integer_in, is_procedure}
 use Rattle.oz_semantics.specs.Configurations.{is_open, view}
 use Rattle.oz_semantics.specs.Sights.{Sight, States, state_in, Offer, Readiness, waits_of}
-use Rattle.oz_semantics.specs.Answers.{Commits, Answer, Acts, Edits, RaisesKind, RaisesTerm, Operates, Rests, given, of_kind}
+use Rattle.oz_semantics.specs.Answers.{Commits, Answer, Acts, Edits, RaisesKind, RaisesTerm, Operates, Widens, Rests, given, of_kind}
 use Rattle.oz_semantics.specs.Operations.{once_decided, alternative_of, committed_in, injected_in, injects, operated, with_state, by_state}
 use Rattle.oz_semantics.specs.Statements.{stack_answer}
 use Rattle.oz_semantics.specs.Readiness.{answer_ready}
-use Rattle.oz_semantics.specs.Spaces.{sight, ready_in, subtree_goes_on, is_stable, offer_in, stable_state, state_by, states_behind, states_of, waited_in}
+use Rattle.oz_semantics.specs.Spaces.{sight, ready_in, subtree_goes_on, is_stable, offer_in, is_left, stable_state, state_by, states_behind, states_of, waited_in}
 use Rattle.oz_semantics.specs.declared.value.SpaceOperation.{SpaceOperation}
 use Rattle.oz_semantics.specs.declared.value.SpaceOperation.TheVariants as operation
 use Rattle.oz_semantics.specs.declared.value.Value.{Value}
@@ -194,6 +194,7 @@ module _ (one other : List Layer) (s : Sight) (known later : States) (live : Are
   answer_waits (Edits edit) = refl
   answer_waits (RaisesKind kind) = refl
   answer_waits (RaisesTerm x) = refl
+  answer_waits (Widens ts) = refl
   answer_waits (Rests ready) = refl
 
 thread_waits : (statements : List Statement) (one other : List Layer) (known later : States) (space : List ℕ) (t : Thread) → view other space ≡ view one space → AreLive known later
@@ -224,22 +225,19 @@ was_left status.Failed = true
 was_left (status.Raised x) = true
 was_left status.Merged = false
 
-stable_live : (o : Option Offer) (ts : List Thread) → is_live (stable_state o ts) ≡ true
-stable_live (Some offer) ts = refl
-stable_live None ts = by (is_empty ts)
-  where
-    by : (b : Bool) → is_live (if b then states.Solved else states.Stuck) ≡ true
-    by true = refl
-    by false = refl
+stable_live : (o : Option Offer) (left : Bool) → is_live (stable_state o left) ≡ true
+stable_live (Some offer) left = refl
+stable_live None true = refl
+stable_live None false = refl
 
-open_live : (goes stable : Bool) (o : Option Offer) (ts : List Thread) → is_live (if goes then states.Running else (if stable then stable_state o ts else states.Suspended)) ≡ true
-open_live true stable o ts = refl
-open_live false true o ts = stable_live o ts
-open_live false false o ts = refl
+open_live : (goes stable : Bool) (o : Option Offer) (left : Bool) → is_live (if goes then states.Running else (if stable then stable_state o left else states.Suspended)) ≡ true
+open_live true stable o left = refl
+open_live false true o left = stable_live o left
+open_live false false o left = refl
 
 status_live : (statements : List Statement) (layers : List Layer) (known : States) (l : Layer) (st : Status) → is_live (state_by statements layers known l st) ≡ was_left st
 status_live statements layers known l status.Open =
-    open_live (subtree_goes_on statements layers known l.space) (is_stable statements layers known l.space) (offer_in statements layers known l) l.threads
+    open_live (subtree_goes_on statements layers known l.space) (is_stable statements layers known l.space) (offer_in statements layers known l) (is_left (view layers l.space) l)
 status_live statements layers known l status.Failed = refl
 status_live statements layers known l (status.Raised x) = refl
 status_live statements layers known l status.Merged = refl

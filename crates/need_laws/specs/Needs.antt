@@ -35,6 +35,7 @@ pub record Fires (before after : Layer) : Type 0 where
   pub space : after.space ≡ before.space
   pub status : after.status ≡ before.status
   pub tells : after.tells ≡ before.tells
+  pub propagators : after.propagators ≡ before.propagators
   pub cells : after.cells ≡ before.cells
   pub ports : after.ports ≡ before.ports
   pub begun : List Frame

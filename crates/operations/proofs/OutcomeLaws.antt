@@ -30,6 +30,7 @@ is_outcome (answers.Edits edit) (GivesTerm x nodes) e = cc
 is_outcome (answers.RaisesKind kind) (GivesTerm x nodes) e = cc
 is_outcome (answers.RaisesTerm y) (GivesTerm x nodes) e = cc
 is_outcome (answers.Operates op space y) (GivesTerm x nodes) e = cc
+is_outcome (answers.Widens ts) (GivesTerm x nodes) e = cc
 is_outcome (answers.Rests ready) (GivesTerm x nodes) e = cc
 
 -- States

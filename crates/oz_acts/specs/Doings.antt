@@ -3,7 +3,7 @@ use Rattle.std.specs.Prelude.{ℕ, ◌≡◌, Bool, true, false, List, [], ◌�
 use Rattle.oz_base.specs.declared.names.Ident.{Ident}
 use Rattle.oz_semantics.specs.Names.{named}
 use Rattle.oz_semantics.specs.Store.{is_consistent}
-use Rattle.oz_semantics.specs.Answers.{Act, Passes, GoesOn, Declares, Starts, GivesValue, GivesTerm, GivesVariable, MakesProcedure, MakesName, MakesCell, Reads, Writes, Exchanges, MakesPort, Sends, Delays, Shows}
+use Rattle.oz_semantics.specs.Answers.{Act, Passes, GoesOn, Declares, Starts, GivesValue, GivesTerm, GivesVariable, MakesProcedure, MakesName, MakesCell, Reads, Writes, Exchanges, MakesPort, Sends, Delays, Confines, Posts, Shows}
 use Rattle.oz_semantics.specs.Configurations.{view}
 use Rattle.oz_semantics.specs.Changes.{changed_all, done}
 use Rattle.oz_semantics.specs.Steps.{without_top}
@@ -39,6 +39,8 @@ is_quiet (Exchanges n x content) = false
 is_quiet (MakesPort x stream) = false
 is_quiet (Sends n item) = false
 is_quiet (Delays procedure x) = true
+is_quiet (Confines ts) = false
+is_quiet (Posts ts r xs) = false
 is_quiet (Shows x) = false
 
 -- an act that shows a text
@@ -60,6 +62,8 @@ is_shown (Exchanges n x content) = false
 is_shown (MakesPort x stream) = false
 is_shown (Sends n item) = false
 is_shown (Delays procedure x) = false
+is_shown (Confines ts) = false
+is_shown (Posts ts r xs) = false
 
 -- the thread that an act starts, in a space with this layer
 abbrev pub started_by : List ℕ → Layer → Act → List Ident
@@ -79,4 +83,6 @@ started_by space l (Exchanges n x content) = []
 started_by space l (MakesPort x stream) = []
 started_by space l (Sends n item) = []
 started_by space l (Delays procedure x) = []
+started_by space l (Confines ts) = []
+started_by space l (Posts ts r xs) = []
 started_by space l (Shows x) = []

@@ -12,7 +12,7 @@ ghost use Rattle.oz_acts.specs.Doings.{IsDone, is_quiet, is_shown, started_by};
 
 use crate::numbers::next_of;
 use crate::objects::{exchange, make_cell, make_name, make_port, read_cell, send};
-use builtins::{Act, Closure, Declaration};
+use builtins::{Act, Closure, Declaration, Posting};
 use environments::Environment;
 use oz_base::{Copies, Ident, Sequence, Shared};
 use oz_language::Constant;
@@ -110,6 +110,24 @@ fn make_procedure(
     levels.tell_by(alloc, id, &[Tell::Is { variable, value }], Given::Procedure)
 }
 
+/// The variables are told these domains, and the relation is posted.
+fn post(
+    alloc: Global,
+    levels: &mut Levels,
+    id: &Ident,
+    posting: &Posting,
+) -> Result<bool, AllocError>
+    requires { is_some (layer_at levels.old id.now.space) ≡ true }
+    ensures ok { IfOk result (IsDone id.now (act_effect (layer_of levels.old id.now.space) (answers.Posts posting.now.tells posting.now.relation posting.now.variables)) levels.old levels.new) }
+    ensures err { OnErr result (levels.new ≡ levels.old) }
+{
+    let propagator = Given::Propagator {
+        relation: posting.relation.copied(alloc)?,
+        variables: posting.variables.copied(alloc)?,
+    };
+    levels.tell_by(alloc, id, posting.tells.as_slice(), propagator)
+}
+
 /// Takes the statement off the top of a thread's stack, and lets go of it.
 pub fn take_off(levels: &mut Levels, id: &Ident)
     ensures { levels.new ≡ without_top id.now levels.old }
@@ -138,6 +156,8 @@ pub fn is_quiet(act: &Act) -> bool
         | Act::Exchanges { .. }
         | Act::MakesPort { .. }
         | Act::Sends { .. }
+        | Act::Confines(_)
+        | Act::Posts(_)
         | Act::Shows(_) => false,
     }
 }
@@ -171,6 +191,8 @@ pub fn started(
         | Act::MakesPort { .. }
         | Act::Sends { .. }
         | Act::Delays { .. }
+        | Act::Confines(_)
+        | Act::Posts(_)
         | Act::Shows(_) => Ok(None),
     }
 }
@@ -270,6 +292,8 @@ pub fn act(
             levels.delay(id, procedure.copied(alloc)?, variable.copied(alloc)?)?;
             Ok(true)
         }
+        Act::Confines(tells) => levels.tell_by(alloc, id, tells.as_slice(), Given::Nothing),
+        Act::Posts(posting) => post(alloc, levels, id, posting.get()),
         Act::Shows(_) => unreachable!(),
     }
 }

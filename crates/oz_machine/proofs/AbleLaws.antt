@@ -40,6 +40,7 @@ use Rattle.need_laws.proofs.RoundLaws.{none_there}
 use Rattle.unneeded_laws.specs.Unneeded.{adds_trigger, is_waiting}
 use Rattle.unneeded_laws.proofs.UnneededLaws.{tell_needs_none}
 use Rattle.quiet_laws.specs.Unknown.{given_by, given_in, AreUnknown}
+use Rattle.quiet_laws.specs.Awake.{rest_and}
 use Rattle.quiet_laws.proofs.UnknownLaws.{none_given, none_below}
 use Rattle.quiet_laws.proofs.AwakeLaws.{able_runs}
 use Rattle.quiet_laws.proofs.QuietLaws.{changes_awake, stack_awake}
@@ -48,6 +49,7 @@ use Rattle.space_core.specs.Telling.{has_below}
 use Rattle.oz_acts.proofs.PlaceLaws.{layer_of_name}
 use Rattle.oz_machine.specs.Quiet.{top_steps, able_in, able_of, AreAwake, IsAwakeAlone, IsHead, IsPlain, LeavesOthers, LetsNoneStep, names_in, news_of}
 use Rattle.oz_machine.proofs.QuietLaws.{alone_among, alone_in, among_append, edited_at, none_named, none_open, one_named, or_false, quiet_turn, unwound_turn}
+use Rattle.oz_machine.proofs.StayLaws.{queue_stays}
 use Rattle.oz_machine.proofs.AwakeLaws.{able_awake, all_awake, quiet_content, spaceless_content, unwound_content}
 use Rattle.oz_machine.proofs.ToldLaws.{IsOpenAt, alone_there, changes_below, itself, open_done, pop_below, same_below, told_turn}
 
@@ -214,8 +216,11 @@ awake_told statements id layers old new queue after shown ts changes cost head a
     let others : others_of (queue ++ id ∷ []) (runnable_in statements new (layer_of new id.space)) ≡ [] =
     filter_none (λ (o : Ident). not (is_among (queue ++ id ∷ []) o)) (runnable_in statements new (layer_of new id.space))
     (λ o h. ap not (in_among (queue ++ id ∷ []) o (In-right o queue (id ∷ []) (inl (sym (itself statements new id queue there single o h)))))) in
-    let same : (queue ++ id ∷ []) ++ others_of (queue ++ id ∷ []) (runnable_in statements new (layer_of new id.space)) ≡ after =
-    ap (λ (xs : List Ident). (queue ++ id ∷ []) ++ xs) others ∙ append-nil (queue ++ id ∷ []) ∙ ap (λ (xs : List Ident). queue ++ xs) (sym (joins statements new id awake.able)) ∙ sym joined in
+    let whole : rest_and statements new id queue ≡ queue ++ id ∷ [] =
+    ap (λ (xs : List Ident). xs ++ id ∷ []) (queue_stays statements id layers new queue shown ts changes head result single) in
+    let same : rest_and statements new id queue ++ others_of (rest_and statements new id queue) (runnable_in statements new (layer_of new id.space)) ≡ after =
+    ap (λ (xs : List Ident). xs ++ others_of xs (runnable_in statements new (layer_of new id.space))) whole
+    ∙ ap (λ (xs : List Ident). (queue ++ id ∷ []) ++ xs) others ∙ append-nil (queue ++ id ∷ []) ∙ ap (λ (xs : List Ident). queue ++ xs) (sym (joins statements new id awake.able)) ∙ sym joined in
     ap (λ ls. went_on statements id cost ls (record c { layers = ls })) is
     ∙ tell_awake statements c id queue ts changes cost head alone fits new result none awake.able
     ∙ ap (λ q. (Moved cost, record c { layers = new; queue = q })) same

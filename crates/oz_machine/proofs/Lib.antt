@@ -13,3 +13,6 @@ pub mod ToldLaws
 pub mod AbleLaws
 pub mod OpeningLaws
 pub mod EditingLaws
+pub mod PropagatingLaws
+pub mod FallibleLaws
+pub mod StayLaws

@@ -15,7 +15,7 @@ use Rattle.oz_semantics.specs.Statements.{stack_answer}
 use Rattle.oz_semantics.specs.Readiness.{answer_ready}
 use Rattle.oz_semantics.specs.Spaces.{sight, states_of, thread_ready}
 use Rattle.oz_semantics.specs.Changes.{Change, Pushes, Spawns, Holds, AddsTrigger, changed_all}
-use Rattle.oz_semantics.specs.Answers.{Act, Passes, GoesOn, Declares, Starts, GivesValue, GivesTerm, GivesVariable, MakesProcedure, MakesName, MakesCell, Reads, Writes, Exchanges, MakesPort, Sends, Delays, Shows}
+use Rattle.oz_semantics.specs.Answers.{Act, Passes, GoesOn, Declares, Starts, GivesValue, GivesTerm, GivesVariable, MakesProcedure, MakesName, MakesCell, Reads, Writes, Exchanges, MakesPort, Sends, Delays, Confines, Posts, Shows}
 use Rattle.oz_semantics.specs.Effects.{Makes, declared_changes, act_effect}
 use Rattle.oz_acts.specs.Doings.{IsDone, is_quiet, started_by}
 use Rattle.oz_semantics.specs.Settling.{Turned, is_among, mover_in, queue_after, runnable_in, runnable}
@@ -27,8 +27,8 @@ use Rattle.oz_semantics.specs.declared.configuration.Configuration.{Configuratio
 use Rattle.oz_semantics.specs.declared.outcome.Stepped.{Stepped}
 use Rattle.oz_semantics.specs.declared.outcome.Stepped.TheVariants.{Moved, TopEnded, Quiescent}
 use Rattle.oz_language.specs.declared.kernel.Kernel.{Kernel}
-use Rattle.oz_semantics.specs.Schedule.{turn_of, turn}
-use Rattle.settle_laws.proofs.TurnLaws.{cost_law}
+use Rattle.oz_semantics.specs.Schedule.{turn}
+use Rattle.oz_machine.proofs.TurnLaws as turns
 use Rattle.turn_laws.proofs.KeptLaws.{kept_turn}
 use Rattle.oz_machine.specs.Turns.{cost_of, HasNotEnded, IsTurn}
 use Rattle.oz_base.specs.ListLaws.{list_eq-equivalence}
@@ -311,22 +311,15 @@ quiet_done id l (Writes n content) old new e still h = record { changes = Holds 
 quiet_done id l (Exchanges n x content) old new e still h = absurd (false≢true e)
 quiet_done id l (MakesPort x stream) old new e still h = absurd (false≢true e)
 quiet_done id l (Sends n item) old new e still h = absurd (false≢true e)
+quiet_done id l (Confines ts) old new e still h = absurd (false≢true e)
+quiet_done id l (Posts ts relation xs) old new e still h = absurd (false≢true e)
 quiet_done id l (Delays procedure x) old new e still h = absurd (false≢true (sym still))
 quiet_done id l (Shows x) old new e still h = absurd (false≢true e)
 
 -- What is kept from turn to turn
 
-quiet_stays : (k : Kernel) (c : Configuration) (queue : List Ident) (d : Configuration) → ◌≡◌ {A = Turned} (turn_of k c queue) (Quiescent, d) → d ≡ c
-quiet_stays k c [] d e = sym (ap (λ (t : Turned). t.1) e)
-quiet_stays k c (id ∷ queue) d e =
-    let dear : 1 ≤ cost_of (stepped k id (record c { queue = queue })).0 = cost_law k id (record c { queue = queue }) in
-    absurd (no_cost (subst (λ (t : Turned). 1 ≤ cost_of t.0) e dear))
-  where
-    no_cost : 1 ≤ 0 → ⊥
-    no_cost h = omega (arith, h)
-
 pub kept_turned : (k : Kernel) (c d : Configuration) (fuel : ℕ) (o : Option Stepped) → IsKept k.statements c → IsTurn (turn k c) fuel c d o → IfSome o HasNotEnded → IsKept k.statements d
 kept_turned k c d fuel None kept t h = subst (IsKept k.statements) (sym t.1) kept
 kept_turned k c d fuel (Some (Moved cost)) kept t h = kept_turn k c cost d kept t
 kept_turned k c d fuel (Some (TopEnded x cost)) kept t h = absurd h
-kept_turned k c d fuel (Some Quiescent) kept t h = subst (IsKept k.statements) (sym (quiet_stays k c c.queue d t)) kept
+kept_turned k c d fuel (Some Quiescent) kept t h = subst (IsKept k.statements) (sym (turns.quiet_turn k c d t)) kept

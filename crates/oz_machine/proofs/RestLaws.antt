@@ -19,9 +19,15 @@ use Rattle.oz_semantics.specs.Values.{integer_in, constant_in, fields_of, cell_i
 use Rattle.oz_semantics.specs.Entailment.{Equality, Entailed, Contradicted, Undecided, equality}
 use Rattle.oz_semantics.specs.Matching.{Match, Matches, Differs, MatchWaits, matched}
 use Rattle.oz_semantics.specs.Sights.{Sight, Number, Readiness, Offers, can_step}
-use Rattle.oz_semantics.specs.Answers.{Act, Creates, Answer, Acts, Edits, RaisesKind, RaisesTerm, Operates, Rests, Reads, Writes, Exchanges, Sends, Delays, Shows, argument, given, of_kind}
+use Rattle.oz_semantics.specs.Answers.{Act, Creates, Answer, Acts, Edits, RaisesKind, RaisesTerm, Operates, Widens, Rests, Reads, Writes, Exchanges, Sends, Delays, Confines, Shows, argument, given, of_kind}
 use Rattle.oz_semantics.specs.Readiness.{answer_ready}
-use Rattle.oz_semantics.specs.Builtins.{arguments_of, gives_number, with_integers, of_equality, label_in, arity_in, gives_field, field_at, own_act, on_cell, on_port, choice_limit, offered, of_operation, answer, call_answer}
+use Rattle.oz_semantics.specs.Builtins.{arguments_of, gives_number, with_integers, of_equality, label_in, arity_in, gives_field, field_at, own_act, on_cell, on_port, choice_limit, offered, of_input, unless_refused, interval_news, confines, posts, distributes, of_operation, answer, call_answer}
+use Rattle.oz_base.specs.declared.relation.Relation.TheVariants.{Distinct}
+use Rattle.oz_semantics.specs.Inputs.{Input, Known, Unknown, OtherKind, both}
+use Rattle.oz_semantics.specs.Vectors.{vector}
+use Rattle.oz_semantics.specs.Constraints.{bounds, refusal_of}
+use Rattle.oz_semantics.specs.Distributors as distributors
+use Rattle.oz_semantics.specs.Distributors.{Distribution, distribution}
 use Rattle.oz_semantics.specs.Statements.{procedure_called, value_called, called, literal_branch, constant_branch, branch, clause, statement_answer, numbered_answer, code_answer, stack_answer}
 use Rattle.oz_semantics.specs.declared.configuration.Code.{Code}
 use Rattle.oz_semantics.specs.declared.configuration.Code.TheVariants as code
@@ -41,6 +47,7 @@ Stays (RaisesKind kind) = Unit {0}
 Stays (RaisesTerm x) = Unit {0}
 Stays (Edits edit) = Unit {0}
 Stays (Operates op space x) = Unit {0}
+Stays (Widens ts) = Unit {0}
 Stays (Rests ready) = can_step ready ≡ false
 
 -- Built-ins
@@ -75,6 +82,23 @@ field_stays : (z : Ident) (o : Option Ident) → Stays (gives_field z o)
 field_stays z (Some x) = tt
 field_stays z None = tt
 
+input_stays : {A : Type 0} (i : Input A) (go : A → Answer) → ((a : A) → Stays (go a)) → Stays (of_input i go)
+input_stays (Known a) go h = h a
+input_stays (Unknown x) go h = refl
+input_stays OtherKind go h = tt
+
+refused_stays : (o : Option RaiseKind) (a : Answer) → Stays a → Stays (unless_refused o a)
+refused_stays None a h = h
+refused_stays (Some kind) a h = tt
+
+confines_stay : (view : View) (xs : List Ident) (b : ℤ × ℤ) → Stays (confines view xs b)
+confines_stay view xs b = refused_stays (refusal_of b.0 b.1) (Acts (Confines (interval_news view xs (record { low = b.0; high = b.1 })))) tt
+
+distributes_stay : (view : View) (d : Distribution) → Stays (distributes view d)
+distributes_stay view (distributors.Widens xs) = tt
+distributes_stay view distributors.Finished = tt
+distributes_stay view (distributors.Splits one other xs) = refl
+
 operation_stays : (view : View) (op : Operation) (x y z : Ident) → Stays (of_operation view op x y z)
 operation_stays view operation.Same x y z = equality_stays z true (equality view x y)
 operation_stays view operation.Differs x y z = equality_stays z false (equality view x y)
@@ -90,8 +114,8 @@ operation_stays view operation.Mod x y z = integers_stay view x y _ (λ i j. num
 operation_stays view operation.Select x y z =
     given_stays x (value_of view x) _ (λ v. given_stays y (value_of view y) _ (λ w.
     kind_stays (arity_in v) _ (λ features. kind_stays (constant_in w) _ (λ f. field_stays z (field_at features (fields_of v) f)))))
-operation_stays view operation.Bound x y z = refl
-operation_stays view operation.BoundEach x y z = refl
+operation_stays view operation.Bound x y z = input_stays (bounds view y) (confines view (x ∷ [])) (confines_stay view (x ∷ []))
+operation_stays view operation.BoundEach x y z = input_stays (both (vector view x) (bounds view y)) (λ (i : List Ident × (ℤ × ℤ)). confines view i.0 i.1) (λ i. confines_stay view i.0 i.1)
 
 own_stays : (s : Sight) (global : RaiseKind) (act : ℕ → Act) (owner : Ident) → Stays (own_act s global act owner)
 own_stays s global act owner = if_stays (list_eq owner.space s.space) (Acts (act owner.number)) (RaisesKind global) tt tt
@@ -123,6 +147,8 @@ answer_stays s builtin.ByNeed x = given_stays (x 0) (value_of s.view (x 0)) _ (�
 answer_stays s builtin.Show x = if_stays (is_top s.space) (Acts (Shows (x 0))) (RaisesKind raise.GlobalIo) tt tt
 answer_stays s builtin.NewSpace x = given_stays (x 0) (value_of s.view (x 0)) _ (λ v. if_stays (is_procedure v) (Edits (Creates (x 0) (x 1))) (RaisesKind raise.BadKind) tt tt)
 answer_stays s builtin.Choose x = given_stays (x 0) (value_of s.view (x 0)) _ (λ v. kind_stays (integer_in v) _ (offered_stays (x 1)))
+answer_stays s builtin.Distinct x = input_stays (vector s.view (x 0)) (posts s.view Distinct) (λ xs. tt)
+answer_stays s builtin.Distribute x = input_stays (distribution s.view (x 0) (x 1)) (distributes s.view) (distributes_stay s.view)
 answer_stays s (builtin.OnSpace op) x =
     given_stays (x 0) (value_of s.view (x 0)) _ (λ v. kind_stays (space_in v) _ (λ child. if_stays (is_child_of s.space child) (Operates op child (x 1)) (RaisesKind raise.SpaceParent) tt tt))
 
@@ -191,8 +217,8 @@ statement_stays s environment statement.NoMatch = tt
 statement_stays s environment (statement.Thread body) = tt
 statement_stays s environment (statement.Try body exception handler) = tt
 statement_stays s environment (statement.Raise name) = tt
-statement_stays s environment (statement.Post sign constant terms) = refl
-statement_stays s environment (statement.PostTimes left right product) = refl
+statement_stays s environment (statement.Post sign constant terms) = tt
+statement_stays s environment (statement.PostTimes left right product) = tt
 
 -- Stacks
 
@@ -221,3 +247,4 @@ rest_stays s frames ready e = by (stack_answer s frames) e (stack_stays s frames
     by (RaisesTerm x) e h = absurd (cc)
     by (Edits edit) e h = absurd (cc)
     by (Operates op space x) e h = absurd (cc)
+    by (Widens ts) e h = absurd (cc)

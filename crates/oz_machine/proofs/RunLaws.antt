@@ -1,5 +1,5 @@
 -- Runs: each turn that makes a step costs 1 at least, and by it a run goes on, ends or is over.
-use Rattle.std.proofs.Common.{◌≡◌, ◌∙◌, ℕ, zero, suc, ◌-◌, ◌<◌, ◌≤◌, nat_le, Bool, true, false, if◌then◌else◌, List, [], ◌∷◌, Option, Some, None, refl, sym, subst, ap, arith}
+use Rattle.std.proofs.Common.{◌≡◌, ◌∙◌, inl, inr, ℕ, zero, suc, ◌-◌, ◌<◌, ◌≤◌, nat_le, Bool, true, false, if◌then◌else◌, List, [], ◌∷◌, Option, Some, None, refl, sym, subst, ap, arith}
 use Rattle.std.specs.Prelude.{Result, Ok, Err, IfOk, OnErr, IfSome}
 use Rattle.std.specs.declared.alloc.AllocError.{AllocError}
 use Rattle.std.proofs.lemmas.Bool.{leb-true, le-leb, lt-leb}
@@ -7,14 +7,14 @@ use Rattle.oz_base.specs.declared.names.Ident.{Ident}
 use Rattle.oz_language.specs.declared.kernel.Kernel.{Kernel}
 use Rattle.oz_semantics.specs.Spaces.{goes_on}
 use Rattle.oz_semantics.specs.Settling.{Turned}
-use Rattle.oz_semantics.specs.Steps.{stepped}
-use Rattle.oz_semantics.specs.Schedule.{turn_of, turn}
+use Rattle.oz_semantics.specs.Schedule.{turn}
 use Rattle.oz_semantics.specs.Runs as runs
 use Rattle.oz_semantics.specs.Runs.{Ended, TopRaised, Over, left_by, paying, after_turn, run_for, run}
 use Rattle.oz_semantics.specs.declared.configuration.Configuration.{Configuration}
 use Rattle.oz_semantics.specs.declared.outcome.Stepped.{Stepped}
 use Rattle.oz_semantics.specs.declared.outcome.Stepped.TheVariants.{Moved, Quiescent, TopEnded}
-use Rattle.settle_laws.proofs.TurnLaws.{cost_law}
+use Rattle.settle_laws.proofs.TurnLaws.{turn_cost}
+use Rattle.oz_machine.proofs.TurnLaws.{quiet_turn}
 use Rattle.oz_machine.specs.Turns.{cost_of, CostsWithin, IsTurn}
 use Rattle.oz_machine.specs.Answers.{IsRun, IsAfterTurns, IsLeftOff, after_turns}
 use Rattle.oz_machine.specs.declared.runs.Ran.{Ran}
@@ -55,9 +55,13 @@ dear_of (Moved cost, c) h = h
 dear_of (TopEnded x cost, c) h = h
 dear_of (Quiescent, c) h = tt
 
-turn_dear : (k : Kernel) (c : Configuration) (queue : List Ident) → IsDear (turn_of k c queue)
-turn_dear k c [] = tt
-turn_dear k c (id ∷ queue) = dear_of (stepped k id (record c { queue = queue })) (cost_law k id (record c { queue = queue }))
+quiet_dear : (t : Turned) → t.0 ≡ Quiescent → IsDear t
+quiet_dear (Moved cost, c) e = cc
+quiet_dear (TopEnded x cost, c) e = cc
+quiet_dear (Quiescent, c) e = tt
+
+turn_dear : (k : Kernel) (c : Configuration) → IsDear (turn k c)
+turn_dear k c = elim (turn_cost k c) [ inl e ↦ quiet_dear (turn k c) e | inr h ↦ dear_of (turn k c) h ]
 
 paying_same : (cost fuel : ℕ) (more less : ℕ → runs.Ran) (c : Configuration) → 1 ≤ cost → ((left : ℕ) → left < fuel → more left ≡ less left) → paying cost fuel more c ≡ paying cost fuel less c
 paying_same cost fuel more less c dear same = by (nat_le cost fuel) refl
@@ -85,11 +89,8 @@ over_by more fuel c (Moved cost, d) h = pays_not cost fuel (more d) c h
 over_by more fuel c (TopEnded x cost, d) h = pays_not cost fuel (λ left. TopRaised d left x) c h
 over_by more fuel c (Quiescent, d) h = absurd (omega (arith, h))
 
-pub same_quiet : (k : Kernel) (c d : Configuration) (queue : List Ident) → turn_of k c queue ≡ (Quiescent, d) → c ≡ d
-same_quiet k c d [] e = ap (λ (t : Turned). t.1) e
-same_quiet k c d (id ∷ queue) e =
-    let h : 1 ≤ 0 = subst (λ (t : Turned). 1 ≤ cost_of t.0) e (cost_law k id (record c { queue = queue })) in
-    absurd (omega (arith, h))
+pub same_quiet : (k : Kernel) (c d : Configuration) → ◌≡◌ {A = Turned} (turn k c) (Quiescent, d) → c ≡ d
+same_quiet k c d e = sym (quiet_turn k c d e)
 
 module _ (k : Kernel) (space : List ℕ) where
   going : (n fuel : ℕ) (c : Configuration) → goes_on k.statements c.layers space ≡ true → run_for k space (suc n) c fuel ≡ after_turn (run_for k space n) fuel c (turn k c)
@@ -102,7 +103,7 @@ module _ (k : Kernel) (space : List ℕ) where
   enough (suc n) zero c fuel h i = absurd (omega (arith, i))
   enough (suc n) (suc m) c fuel h i =
       ap (λ (r : runs.Ran). if goes_on k.statements c.layers space then r else Ended c fuel)
-      (turn_same (run_for k space n) (run_for k space m) fuel c (turn k c) (turn_dear k c c.queue)
+      (turn_same (run_for k space n) (run_for k space m) fuel c (turn k c) (turn_dear k c)
       (λ d left less. enough n m d left (omega (arith, less, h)) (omega (arith, less, i))))
 
   -- nothing can step
@@ -117,7 +118,7 @@ module _ (k : Kernel) (space : List ℕ) where
   -- no thread was queued
   pub run_quiet : (left : ℕ) (c d : Configuration) → goes_on k.statements c.layers space ≡ true → turn k c ≡ (Quiescent, d) → run k space c left ≡ Ended d left
   run_quiet left c d e t =
-      going left left c e ∙ ap (after_turn (run_for k space left) left c) t ∙ ap (λ (b : Configuration). Ended b left) (same_quiet k c d c.queue t)
+      going left left c e ∙ ap (after_turn (run_for k space left) left c) t ∙ ap (λ (b : Configuration). Ended b left) (same_quiet k c d t)
 
   -- the turn ended the top
   pub run_stopped : (left : ℕ) (c d : Configuration) (x : Ident) (cost : ℕ) → goes_on k.statements c.layers space ≡ true → turn k c ≡ (TopEnded x cost, d) → cost ≤ left

@@ -7,7 +7,7 @@ use Rattle.oz_base.specs.ListLaws.{list_eq-equivalence}
 use Rattle.oz_base.specs.declared.names.Ident.{Ident}
 use Rattle.oz_semantics.specs.Names.{is_top, named}
 use Rattle.oz_semantics.specs.Configurations.{is_of, is_numbered, layer_at, layer_of, new_layer, thread_at, frames_in, stack_of, in_layer, in_thread, with_frames, telling, giving_out}
-use Rattle.oz_semantics.specs.Answers.{Act, Passes, GoesOn, Declares, Starts, GivesValue, GivesTerm, GivesVariable, MakesProcedure, MakesName, MakesCell, Reads, Writes, Exchanges, MakesPort, Sends, Delays, Shows}
+use Rattle.oz_semantics.specs.Answers.{Act, Passes, GoesOn, Declares, Starts, GivesValue, GivesTerm, GivesVariable, MakesProcedure, MakesName, MakesCell, Reads, Writes, Exchanges, MakesPort, Sends, Delays, Confines, Posts, Shows}
 use Rattle.oz_semantics.specs.Changes.{GivesOut, done}
 use Rattle.oz_semantics.specs.Effects.{act_effect}
 use Rattle.oz_semantics.specs.Exceptions.{raise_term, new_term_tells, with_term, unwound}
@@ -173,6 +173,8 @@ effect_same number change l (Writes n content) = refl
 effect_same number change l (Exchanges n x content) = refl
 effect_same number change l (MakesPort x stream) = refl
 effect_same number change l (Sends n item) = refl
+effect_same number change l (Confines ts) = refl
+effect_same number change l (Posts ts relation xs) = refl
 effect_same number change l (Delays procedure x) = refl
 effect_same number change l (Shows x) = refl
 

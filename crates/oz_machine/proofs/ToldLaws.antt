@@ -9,7 +9,7 @@ use Rattle.oz_base.specs.declared.names.Ident.{Ident}
 use Rattle.oz_language.specs.declared.kernel.Statement.{Statement}
 use Rattle.oz_semantics.specs.Names.{is_properly_below, named}
 use Rattle.oz_semantics.specs.Store.{is_consistent}
-use Rattle.oz_semantics.specs.Answers.{Act, Passes, GoesOn, Declares, Starts, GivesValue, GivesTerm, GivesVariable, MakesProcedure, MakesName, MakesCell, Reads, Writes, Exchanges, MakesPort, Sends, Delays, Shows}
+use Rattle.oz_semantics.specs.Answers.{Act, Passes, GoesOn, Declares, Starts, GivesValue, GivesTerm, GivesVariable, MakesProcedure, MakesName, MakesCell, Reads, Writes, Exchanges, MakesPort, Sends, Delays, Confines, Posts, Shows}
 use Rattle.oz_semantics.specs.Configurations.{is_of, is_numbered, is_open, layer_at, layer_of, new_layer, view, in_layer, with_frames, without_terminated, telling}
 use Rattle.oz_semantics.specs.Changes.{Change, changed, changed_all, done}
 use Rattle.oz_semantics.specs.Effects.{Tells, act_effect}
@@ -28,7 +28,7 @@ use Rattle.space_core.specs.Telling.{has_below}
 use Rattle.view_laws.specs.Needs.{NoneNeeded}
 use Rattle.view_laws.specs.Spaceless.{gives_space, has_spaces}
 use Rattle.view_laws.proofs.SpacelessLaws.{quiet_spaceless, untold_spaceless}
-use Rattle.turn_laws.specs.Telling.{IsAlone, others_of, staying}
+use Rattle.turn_laws.specs.Telling.{IsAlone, others_of, is_able_still, staying}
 use Rattle.view_laws.proofs.QueueLaws.{can_from}
 use Rattle.view_laws.proofs.ChangeLaws.{edit_of, changed_by, edit_keeps}
 use Rattle.turn_laws.specs.Orderly.{AreOrderly}
@@ -39,6 +39,7 @@ use Rattle.oz_acts.specs.Doings.{IsDone, is_quiet}
 use Rattle.oz_machine.specs.Quiet.{IsHead, able_in}
 use Rattle.oz_acts.proofs.PlaceLaws.{layer_of_name}
 use Rattle.oz_machine.proofs.QuietLaws.{edited_at, mover_joins}
+use Rattle.oz_machine.proofs.StayLaws.{queue_stays}
 
 pub not_true : (b : Bool) → not b ≡ true → b ≡ false
 not_true true e = absurd (false≢true e)
@@ -159,7 +160,8 @@ module _ (statements : List Statement) (layers : List Layer) (id : Ident) (queue
           in_among (runnable statements layers) id (subst (λ (i : Ident). In i (runnable statements layers)) is (In-flat (runnable_in statements layers) own o layers (found_in (is_of id.space) (λ l. l) layers own there).0 h)) in
           let moves : mover_in (Some id) (runnable statements layers) ≡ id ∷ [] = ap (λ (b : Bool). if b then id ∷ [] else []) among in
           let stays : In o (staying statements layers id queue) =
-          subst (λ (ids : List Ident). In o (queue ++ ids)) (sym moves) (In-right o queue (id ∷ []) (inl (sym is))) in
+          subst (λ (ids : List Ident). In o (filter (is_able_still statements layers id.space) queue ++ ids)) (sym moves)
+          (In-right o (filter (is_able_still statements layers id.space) queue) (id ∷ []) (inl (sym is))) in
           ap not (in_among (staying statements layers id queue) o stays)
 
 pub single_in : (id : Ident) (layers same : List Layer) → layers ≡ same → list_all (is_numbered id.number) (layer_of same id.space).threads ≡ true → list_all (is_numbered id.number) (layer_of layers id.space).threads ≡ true
@@ -202,7 +204,7 @@ told_turn statements id layers old new queue after shown ts changes cost head al
     let same : staying statements new id queue ++ others_of (staying statements new id queue) (runnable_in statements new (layer_of new id.space)) ≡ after =
     ap (λ (ids : List Ident). staying statements new id queue ++ ids) (none_joins statements new id queue there single)
     ∙ append-nil (staying statements new id queue)
-    ∙ ap (λ xs. queue ++ xs) (mover_joins statements new id spaceless good opened)
+    ∙ ap₂ (λ (xs ys : List Ident). xs ++ ys) (queue_stays statements id layers new queue shown ts changes head result single) (mover_joins statements new id spaceless good opened)
     ∙ sym joined in
     ap (λ ls. went_on statements id cost ls (record c { layers = ls })) is
     ∙ proved.tell_queue statements c id queue ts changes cost head untold.0 untold.1 alone fits new result none
@@ -234,5 +236,7 @@ told_done id l (Writes n content) old new e h = absurd (false≢true (sym e))
 told_done id l (Exchanges n x content) old new e h = record { tells = _; changes = _; effect = refl; fits = h.0; settles = h.1 }
 told_done id l (MakesPort x stream) old new e h = record { tells = _; changes = _; effect = refl; fits = h.0; settles = h.1 }
 told_done id l (Sends n item) old new e h = record { tells = _; changes = _; effect = refl; fits = h.0; settles = h.1 }
+told_done id l (Confines ts) old new e h = record { tells = _; changes = []; effect = refl; fits = h.0; settles = h.1 }
+told_done id l (Posts ts relation xs) old new e h = record { tells = _; changes = _; effect = refl; fits = h.0; settles = h.1 }
 told_done id l (Delays procedure x) old new e h = absurd (false≢true (sym e))
 told_done id l (Shows x) old new e h = absurd h

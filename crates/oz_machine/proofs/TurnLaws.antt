@@ -8,7 +8,10 @@ use Rattle.oz_semantics.specs.Operations.{by_state}
 use Rattle.oz_semantics.specs.Readiness.{answer_ready}
 use Rattle.oz_semantics.specs.Answers as answers
 use Rattle.oz_semantics.specs.Statements.{code_answer, stack_answer}
-use Rattle.oz_semantics.specs.Settling.{Turned}
+use Rattle.oz_semantics.specs.Names.{is_top}
+use Rattle.oz_semantics.specs.Propagation.{Run, Fails, Narrows, run_of, after_run}
+use Rattle.oz_semantics.specs.Settling.{Turned, top_is_inconsistent, top_failed, failing, settled, requeued, without_inconsistent}
+use Rattle.oz_semantics.specs.Triggers.{triggered}
 use Rattle.oz_semantics.specs.declared.configuration.Frame.{Frame}
 use Rattle.oz_semantics.specs.declared.configuration.Configuration.{Configuration}
 use Rattle.oz_semantics.specs.declared.outcome.Stepped.{Stepped}
@@ -16,18 +19,19 @@ use Rattle.builtins.specs.Answers.{IsAnswer}
 use Rattle.operations.specs.Outcomes.{IsOutcome}
 use Rattle.operations.specs.declared.outcome.Outcome.{Outcome}
 use Rattle.builtins.specs.declared.answer.Answer.{Answer}
-use Rattle.builtins.specs.declared.answer.Answer.TheVariants.{Acts, Edits, RaisesKind, RaisesTerm, Operates, Rests}
+use Rattle.builtins.specs.declared.answer.Answer.TheVariants.{Acts, Edits, RaisesKind, RaisesTerm, Operates, Widens, Rests}
 use Rattle.oz_base.specs.declared.names.Ident.{Ident}
 use Rattle.oz_language.specs.declared.kernel.Kernel.{Kernel}
 use Rattle.oz_language.specs.declared.kernel.Statement.{Statement}
-use Rattle.oz_semantics.specs.Schedule.{turn}
+use Rattle.oz_semantics.specs.Schedule.{least_due, run_failed, after_run_of, propagated, turn_of_queue, turn_of, turn}
 use Rattle.oz_semantics.specs.Steps.{stepped}
-use Rattle.oz_semantics.specs.declared.outcome.Stepped.TheVariants.{Quiescent}
+use Rattle.oz_semantics.specs.declared.outcome.Stepped.TheVariants.{Moved, Quiescent}
+use Rattle.oz_semantics.specs.declared.configuration.Propagator.{Propagator}
 use Rattle.settle_laws.proofs.TurnLaws.{cost_law}
 use Rattle.oz_machine.specs.declared.course.Due.TheVariants.{Nobody}
 use Rattle.oz_machine.specs.declared.course.Course.{Course}
 use Rattle.oz_machine.specs.Courses.{config_of, stepping}
-use Rattle.oz_semantics.specs.Configurations.{frames_in, layer_at, new_layer, stack_of, thread_at}
+use Rattle.oz_semantics.specs.Configurations.{frames_in, in_layer, layer_at, new_layer, stack_of, thread_at, view}
 use Rattle.oz_semantics.specs.Spaces.{sight, states_of, answer_in}
 use Rattle.oz_semantics.specs.declared.configuration.Layer.{Layer}
 use Rattle.oz_machine.specs.Quiet.{able_in, operates, waits, IsHeadAnswer}
@@ -64,11 +68,15 @@ pub head_is : (statements : List Statement) (now : Course) (id : Ident) → now.
     → config_of statements now ≡ record { layers = now.levels; queue = id ∷ drop 1 now.queue; shown = now.shown }
 head_is statements now id nobody head = course_view statements now now.levels Nobody (id ∷ drop 1 now.queue) now.shown refl nobody (headed now.queue id head) refl
 
-pub turn_is : (k : Kernel) (now : Course) (id : Ident) → now.due ≡ Nobody → first now.queue ≡ Some id → turn k (config_of k.statements now) ≡ stepped k id (stepping now)
-turn_is k now id nobody head = ap (turn k) (head_is k.statements now id nobody head)
+pub turn_is : (k : Kernel) (now : Course) (id : Ident) → now.due ≡ Nobody → least_due now.levels ≡ None → first now.queue ≡ Some id → turn k (config_of k.statements now) ≡ stepped k id (stepping now)
+turn_is k now id nobody none head =
+    let c : Configuration = record { layers = now.levels; queue = id ∷ drop 1 now.queue; shown = now.shown } in
+    ap (turn k) (head_is k.statements now id nobody head) ∙ ap (turn_of k c) none
 
-pub turn_none : (k : Kernel) (now : Course) → now.due ≡ Nobody → first now.queue ≡ None → ◌≡◌ {A = Turned} (turn k (config_of k.statements now)) (Quiescent, config_of k.statements now)
-turn_none k now nobody none = ap (turn k) still ∙ ap (λ (d : Configuration). (Quiescent, d)) (sym still)
+pub turn_none : (k : Kernel) (now : Course) → now.due ≡ Nobody → least_due now.levels ≡ None → first now.queue ≡ None
+    → ◌≡◌ {A = Turned} (turn k (config_of k.statements now)) (Quiescent, config_of k.statements now)
+turn_none k now nobody least none =
+    ap (turn k) still ∙ ap (turn_of k (record { layers = now.levels; queue = []; shown = now.shown })) least ∙ ap (λ (d : Configuration). (Quiescent, d)) (sym still)
   where
     empty : (queue : List Ident) → first queue ≡ None → queue ≡ []
     empty [] e = refl
@@ -77,11 +85,44 @@ turn_none k now nobody none = ap (turn k) still ∙ ap (λ (d : Configuration). 
     still : config_of k.statements now ≡ record { layers = now.levels; queue = []; shown = now.shown }
     still = course_view k.statements now now.levels Nobody [] now.shown refl nobody (empty now.queue none) refl
 
-pub dear_turn : (k : Kernel) (now : Course) (id : Ident) (fuel : ℕ) → now.due ≡ Nobody → first now.queue ≡ Some id → fuel ≡ 0 → fuel < cost_of (turn k (config_of k.statements now)).0
-dear_turn k now id fuel nobody head zero =
+pub dear_turn : (k : Kernel) (now : Course) (id : Ident) (fuel : ℕ) → now.due ≡ Nobody → least_due now.levels ≡ None → first now.queue ≡ Some id → fuel ≡ 0
+    → fuel < cost_of (turn k (config_of k.statements now)).0
+dear_turn k now id fuel nobody none head zero =
     let costs : 1 ≤ cost_of (stepped k id (stepping now)).0 = cost_law k id (stepping now) in
-    let dear : 1 ≤ cost_of (turn k (config_of k.statements now)).0 = subst (λ (t : Turned). 1 ≤ cost_of t.0) (sym (turn_is k now id nobody head)) costs in
+    let dear : 1 ≤ cost_of (turn k (config_of k.statements now)).0 = subst (λ (t : Turned). 1 ≤ cost_of t.0) (sym (turn_is k now id nobody none head)) costs in
     omega (arith, dear, zero)
+
+-- A turn that does nothing leaves the machine as it was
+
+settled_dear : (statements : List Statement) (mover : Option Ident) (c : Configuration) → 1 ≤ cost_of (settled statements mover 1 c).0
+settled_dear statements mover c = by (top_is_inconsistent c.layers)
+  where
+    by : (b : Bool) → 1 ≤ cost_of (if b then top_failed 1 c else (Moved 1, requeued statements mover c (triggered statements (without_inconsistent c.layers)))).0
+    by true = omega arith
+    by false = omega arith
+
+-- the run of a propagator costs 1
+pub run_dear : (statements : List Statement) (l : Layer) (p : Propagator) (c : Configuration) (run : Run) → 1 ≤ cost_of (after_run_of statements l p c run).0
+run_dear statements l p c Fails = by (is_top l.space)
+  where
+    by : (b : Bool) → 1 ≤ cost_of (if b then top_failed 1 c else settled statements None 1 (record c { layers = failing c.layers l.space })).0
+    by true = omega arith
+    by false = settled_dear statements None (record c { layers = failing c.layers l.space })
+run_dear statements l p c (Narrows ts) = settled_dear statements None (record c { layers = in_layer l.space (after_run (view c.layers l.space) p ts) c.layers })
+
+pub quiet_turn : (k : Kernel) (c d : Configuration) → ◌≡◌ {A = Turned} (turn k c) (Quiescent, d) → d ≡ c
+quiet_turn k c d e = by (least_due c.layers) e
+  where
+    no_cost : 1 ≤ 0 → ⊥
+    no_cost h = omega (arith, h)
+
+    by_queue : (queue : List Ident) → ◌≡◌ {A = Turned} (turn_of_queue k c queue) (Quiescent, d) → d ≡ c
+    by_queue [] q = sym (ap (λ (t : Turned). t.1) q)
+    by_queue (id ∷ queue) q = absurd (no_cost (subst (λ (t : Turned). 1 ≤ cost_of t.0) q (cost_law k id (record c { queue = queue }))))
+
+    by : (o : Option (Layer × Propagator)) → ◌≡◌ {A = Turned} (turn_of k c o) (Quiescent, d) → d ≡ c
+    by None q = by_queue c.queue q
+    by (Some due) q = absurd (no_cost (subst (λ (t : Turned). 1 ≤ cost_of t.0) q (run_dear k.statements due.0 due.1 c (run_of (view c.layers due.0.space) due.1))))
 
 -- by a course that is the same
 pub ok_turned : (r : Result (Option Stepped) AllocError) (t u : Turned) (fuel : ℕ) (old new : Configuration) → t ≡ u → IfOk r (IsTurn u fuel old new) → IfOk r (IsTurn t fuel old new)
@@ -94,6 +135,7 @@ pub answer_steps : (a : answers.Answer) (answer : Answer) → IsAnswer a answer 
 answer_steps a (Acts what) h other = ap (λ (b : answers.Answer). can_step (answer_ready b)) h
 answer_steps a (RaisesKind kind) h other = ap (λ (b : answers.Answer). can_step (answer_ready b)) h
 answer_steps a (RaisesTerm x) h other = ap (λ (b : answers.Answer). can_step (answer_ready b)) h
+answer_steps a (Widens ts) h other = ap (λ (b : answers.Answer). can_step (answer_ready b)) h
 answer_steps a (Edits edit) h other = ap (λ (b : answers.Answer). can_step (answer_ready b)) h
 answer_steps a (Operates op space x) h other = absurd (cc)
 answer_steps a Rests h other = absurd (cc)
@@ -119,6 +161,7 @@ waiting_stays s frames (Acts act) h e = absurd (cc)
 waiting_stays s frames (Edits edit) h e = absurd (cc)
 waiting_stays s frames (RaisesKind kind) h e = absurd (cc)
 waiting_stays s frames (RaisesTerm x) h e = absurd (cc)
+waiting_stays s frames (Widens ts) h e = absurd (cc)
 
 -- by any but an operation, the states of spaces are of no use
 pub unresolved : (layers : List Layer) (s : Sight) (states : States) (a : answers.Answer) (answer : Answer) → IsAnswer a answer → operates answer ≡ false → by_state layers s states a ≡ a
@@ -126,6 +169,7 @@ unresolved layers s states a (Acts act) h e = ap (by_state layers s states) h �
 unresolved layers s states a (Edits edit) h e = ap (by_state layers s states) h ∙ sym h
 unresolved layers s states a (RaisesKind kind) h e = ap (by_state layers s states) h ∙ sym h
 unresolved layers s states a (RaisesTerm x) h e = ap (by_state layers s states) h ∙ sym h
+unresolved layers s states a (Widens ts) h e = ap (by_state layers s states) h ∙ sym h
 unresolved layers s states a (Operates op space x) h e = absurd (cc)
 unresolved layers s states a Rests h e = ap (by_state layers s states) h.1 ∙ sym h.1
 

@@ -18,7 +18,7 @@ use Rattle.oz_semantics.specs.declared.configuration.Thread.{Thread}
 use Rattle.oz_semantics.specs.declared.configuration.Layer.{Layer}
 use Rattle.builtins.specs.Answers.{act_of, IsAnswer}
 use Rattle.builtins.specs.declared.answer.Answer.{Answer}
-use Rattle.builtins.specs.declared.answer.Answer.TheVariants.{Acts, Edits, RaisesKind, RaisesTerm, Operates, Rests}
+use Rattle.builtins.specs.declared.answer.Answer.TheVariants.{Acts, Edits, RaisesKind, RaisesTerm, Operates, Widens, Rests}
 use Rattle.view_laws.specs.Spaceless.{has_spaces}
 use Rattle.view_laws.specs.Steps.{spawned_from}
 use Rattle.need_laws.specs.Needs.{has_triggers}
@@ -113,6 +113,8 @@ gives_out (answers.Writes n content) = false
 gives_out (answers.Exchanges n x content) = false
 gives_out (answers.MakesPort x stream) = false
 gives_out (answers.Sends n item) = false
+gives_out (answers.Confines ts) = false
+gives_out (answers.Posts ts relation xs) = false
 gives_out (answers.Shows x) = false
 
 -- an act that adds a by-need computation
@@ -133,6 +135,8 @@ delays (answers.Writes n content) = false
 delays (answers.Exchanges n x content) = false
 delays (answers.MakesPort x stream) = false
 delays (answers.Sends n item) = false
+delays (answers.Confines ts) = false
+delays (answers.Posts ts relation xs) = false
 delays (answers.Shows x) = false
 
 -- an answer that shows a text
@@ -142,6 +146,7 @@ shows (RaisesKind kind) = false
 shows (RaisesTerm x) = false
 shows (Edits edit) = false
 shows (Operates op space x) = false
+shows (Widens ts) = false
 shows Rests = false
 
 -- an answer that goes by the state of a space
@@ -151,6 +156,7 @@ operates (Acts act) = false
 operates (Edits edit) = false
 operates (RaisesKind kind) = false
 operates (RaisesTerm x) = false
+operates (Widens ts) = false
 operates Rests = false
 
 -- an answer by which alone a thread can't step: it rests, or goes by the state of a space
@@ -161,6 +167,7 @@ waits (Acts act) = false
 waits (Edits edit) = false
 waits (RaisesKind kind) = false
 waits (RaisesTerm x) = false
+waits (Widens ts) = false
 
 -- the threads that changes start in a space with this layer
 abbrev pub news_of : Layer → List Change → List Thread

@@ -85,7 +85,6 @@ fn commit(
     levels.store_at(place).consistent();
     commit_in(alloc, statements, child, index, levels)?;
     let _statement = levels.pop(id);
-    levels.consistent();
     Ok(true)
 }
 

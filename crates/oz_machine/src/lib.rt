@@ -8,6 +8,7 @@ mod editing;
 mod following;
 mod machine;
 mod opening;
+mod propagating;
 mod quiet;
 mod raising;
 mod runs;

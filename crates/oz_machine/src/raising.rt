@@ -182,6 +182,31 @@ fn raise_new(
     Ok(end_space(id, made.variable, course))
 }
 
+/// The term of an exception of the machine, by new variables of a space, and how many these are.
+#[derive(Drop)]
+pub struct RaisedTerm {
+    pub term: NewTerm,
+    pub count: u64,
+}
+
+/// The term of an exception of the machine, by new variables of a space.
+pub fn raised_term(
+    alloc: Global,
+    levels: &Levels,
+    space: &SpaceName,
+    kind: RaiseKind,
+) -> Result<RaisedTerm, AllocError>
+    ensures { IfOk result (λ raised. IsTermOf kind levels.now space.now raised.term raised.count) }
+{
+    let next = next_of(levels, space);
+    let nodes = term(alloc, kind)?;
+    let made = new_term(alloc, space, next.variable, &nodes)?;
+    Ok(RaisedTerm {
+        term: made,
+        count: nodes.len() as u64,
+    })
+}
+
 /// An exception of the machine.
 pub fn raise_kind(
     alloc: Global,
@@ -196,10 +221,8 @@ pub fn raise_kind(
     ensures cost { IfOk result (λ stepped. cost_of stepped ≡ 1) }
     ensures err { OnErr result (course.new ≡ course.old) }
 {
-    let next = next_of(&course.levels, &id.space);
-    let nodes = term(alloc, kind)?;
-    let made = new_term(alloc, &id.space, next.variable, &nodes)?;
-    raise_new(alloc, id, made, nodes.len() as u64, course)
+    let made = raised_term(alloc, &course.levels, &id.space, kind)?;
+    raise_new(alloc, id, made.term, made.count, course)
 }
 
 /// What the thread's space was to be told clashes with what it sees: that is a failure.

@@ -1,5 +1,8 @@
-//! Runs: turns while something of a space or below it can step.
-ghost use Rattle.std.specs.Prelude.{◌≡◌, ◌≤◌, IfOk, OnErr};
+//! Runs: turns while something of a space or below it can step or is due.
+ghost use Rattle.std.specs.Prelude.{◌≡◌, ◌≤◌, ◌||◌, IfOk, OnErr};
+ghost use Rattle.std.specs.List.{list_any};
+ghost use Rattle.oz_semantics.specs.Names.{is_below};
+ghost use Rattle.view_laws.specs.Queues.{is_due_below};
 ghost use Rattle.oz_semantics.specs.Spaces.{goes_on};
 ghost use Rattle.oz_semantics.specs.Runs.{run, Ended};
 ghost use Rattle.oz_machine.specs.Courses.{config_of, Keeps};
@@ -13,7 +16,7 @@ use builtins::Answer;
 use oz_base::{Ident, SpaceName};
 use oz_language::{Kernel, Statement};
 use oz_semantics::{State, Stepped};
-use stability::space_state;
+use stability::{is_due_below, space_state};
 use std::alloc::{AllocError, Global};
 
 /// How a run ends. The steps are those that it took.
@@ -46,7 +49,17 @@ fn ended(
     Ok(Ran::Ended { state, steps })
 }
 
-/// Whether something of the space or below it can step.
+/// Whether a thread of the space or below it is in the queue, or a propagator there is due.
+fn is_moving(course: &Course, space: &SpaceName) -> bool
+    ensures { result ≡ (list_any (λ id. is_below space.now id.space) course.now.queue || is_due_below course.now.levels space.now) }
+{
+    if course.queue.any_below(space) {
+        return true;
+    }
+    is_due_below(&course.levels, space)
+}
+
+/// Whether something of the space or below it can step or is due.
 fn goes_on(
     alloc: Global,
     statements: &[Statement],
@@ -57,7 +70,7 @@ fn goes_on(
     ensures { course.now.due ≡ Nobody → Keeps statements.now kept course.now → IfOk result (λ goes. goes ≡ goes_on statements.now (config_of statements.now course.now).layers space.now) }
 {
     if kept {
-        return Ok(course.queue.any_below(space));
+        return Ok(is_moving(course, space));
     }
     stability::goes_on(alloc, statements, &course.levels, space)
 }

@@ -1,26 +1,27 @@
 //! Edits of the tree of spaces by a search.
-ghost use Rattle.std.specs.Prelude.{◌≡◌, List, IfOk, OnOk, OnErr};
+ghost use Rattle.std.specs.Prelude.{ℕ, ◌≡◌, ◌∷◌, [], List, true, is_some, IfOk, OnOk, OnErr};
 ghost use Rattle.oz_language.specs.declared.kernel.Statement.{Statement};
+ghost use Rattle.oz_semantics.specs.Configurations.{in_layer, layer_at, telling};
 ghost use Rattle.oz_semantics.specs.Edits.{committed};
+ghost use Rattle.settle_laws.specs.Settles.{Settles};
 ghost use Rattle.oz_semantics.specs.Search.{followed, with_root, search_space, chosen_in};
 ghost use Rattle.oz_semantics.specs.declared.configuration.Layer.{Layer};
-ghost use Rattle.oz_machine.specs.declared.course.Due.TheVariants.{Nobody};
 ghost use Rattle.oz_machine.specs.Courses.{config_of};
 
 use crate::course::{Course, Due};
 use crate::settling::settle_only;
 use oz_base::{Ident, SpaceName};
 use oz_language::Statement;
+use oz_semantics::Tell;
 use space_core::Levels;
 use stability::{Choice, chosen};
 use std::alloc::{AllocError, Global};
 
 /// What follows an edit: everybody is due.
 fn follow_edit(course: &mut Course)
-    ensures { (statements : List Statement) (before : List Layer) → course.old.due ≡ Nobody →
-        config_of statements course.new ≡ followed statements (record { layers = before; queue = course.old.queue; shown = course.old.shown }) course.old.levels }
+    ensures { (statements : List Statement) (space : List ℕ) (before made : List Layer) → Settles space made course.old.levels
+        → config_of statements course.new ≡ followed statements (record { layers = before; queue = course.old.queue; shown = course.old.shown }) made }
 {
-    course.levels.consistent();
     course.due = Due::Everybody { mover: None };
 }
 
@@ -41,8 +42,29 @@ pub fn root(
         return Err(AllocError);
     }
     let space = course.levels.create(alloc, &top, procedure)?;
+    course.levels.consistent();
     follow_edit(course);
     Ok(space)
+}
+
+/// A space that offers the parts of a domain is told one of them. It refuses where that clashes with what the space sees, which no part
+/// does.
+fn tell_part(
+    alloc: Global,
+    space: &SpaceName,
+    tell: Tell,
+    levels: &mut Levels,
+) -> Result<(), AllocError>
+    requires { is_some (layer_at levels.old space.now) ≡ true }
+    ensures ok { OnOk result (Settles space.now (in_layer space.now (telling (tell ∷ [])) levels.old) levels.new) }
+    ensures err { OnErr result (levels.new ≡ levels.old) }
+{
+    let tells = Vec::from_array(alloc, [tell])?;
+    if levels.tell(alloc, space, &tells)? {
+        Ok(())
+    } else {
+        Err(AllocError)
+    }
 }
 
 /// The layers, where a space that offers alternatives is committed to one of them, from 1.
@@ -53,12 +75,21 @@ pub fn commit_in(
     index: u64,
     levels: &mut Levels,
 ) -> Result<(), AllocError>
-    ensures ok { OnOk result (levels.new ≡ committed statements.now space.now index levels.old) }
+    ensures ok { OnOk result (Settles space.now (committed statements.now space.now index levels.old) levels.new) }
     ensures err { OnErr result (levels.new ≡ levels.old) }
 {
-    match chosen(alloc, statements, levels, space, index)? {
-        None => Ok(()),
-        Some(Choice { thread, frames }) => levels.replace_top(&thread, frames),
+    let choice = chosen(alloc, statements, levels, space, index)?;
+    match choice {
+        Choice::Nothing => {
+            levels.consistent();
+            Ok(())
+        }
+        Choice::GoesOn { thread, frames } => {
+            levels.replace_top(&thread, frames)?;
+            levels.consistent();
+            Ok(())
+        }
+        Choice::Tells { tell } => tell_part(alloc, space, tell, levels),
     }
 }
 

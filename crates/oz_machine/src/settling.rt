@@ -143,7 +143,11 @@ fn waits(answer: &Answer) -> bool
 {
     match answer {
         Answer::Rests | Answer::Operates { .. } => true,
-        Answer::Acts(_) | Answer::Edits(_) | Answer::RaisesKind(_) | Answer::RaisesTerm(_) => false,
+        Answer::Acts(_)
+        | Answer::Edits(_)
+        | Answer::RaisesKind(_)
+        | Answer::RaisesTerm(_)
+        | Answer::Widens(_) => false,
     }
 }
 

@@ -1,11 +1,12 @@
-//! One turn of the machine: the head of the queue makes one step.
-ghost use Rattle.std.specs.Prelude.{◌≡◌, ◌≤◌, ◌<◌, ◌+◌, ◌&&◌, not, true, false, is_some, length, position, List, IfOk, IfSome, OnErr, Some, MatchOption, option_copied};
+//! One turn of the machine: the least propagator that is due runs, or else the head of the queue makes one step.
+ghost use Rattle.std.specs.Prelude.{◌≡◌, ◌≤◌, ◌<◌, ◌+◌, ◌&&◌, not, true, false, None, is_some, length, position, List, IfOk, IfSome, OnErr, Some, MatchOption, option_copied};
 ghost use Rattle.oz_base.specs.Lists.{first};
 ghost use Rattle.oz_language.specs.declared.kernel.Statement.{Statement};
 ghost use Rattle.oz_semantics.specs.Configurations.{is_of, layer_at, stack_of};
 ghost use Rattle.oz_semantics.specs.Answers as answers;
-ghost use Rattle.oz_semantics.specs.Steps.{without_top, after_answer, shown_by, stepped};
-ghost use Rattle.oz_semantics.specs.Schedule.{turn};
+ghost use Rattle.oz_semantics.specs.Steps.{without_top, after_answer, told, shown_by, stepped};
+ghost use Rattle.oz_semantics.specs.Schedule.{least_due, turn};
+ghost use Rattle.stability.specs.Due.{IsLeastDue};
 ghost use Rattle.oz_semantics.specs.Settling.{settled};
 ghost use Rattle.oz_semantics.specs.Spaces.{sight, states_of, answer_in};
 ghost use Rattle.oz_semantics.specs.Statements.{stack_answer};
@@ -25,6 +26,7 @@ use crate::course::Course;
 use crate::declarations::declaration;
 use crate::editing::edit;
 use crate::following::{follow, go_on};
+use crate::propagating::propagate;
 use crate::quiet::go_on_quietly;
 use crate::raising::{clash, raise, raise_kind};
 use crate::settling::{settle_only, top_answer};
@@ -35,9 +37,9 @@ use oz_acts::{act, give_term, is_quiet, started, take_off};
 use oz_base::{Copies, Ident, Sequence};
 use oz_language::{Identifier, Kernel, Statement};
 use oz_raise::Node;
-use oz_semantics::Stepped;
+use oz_semantics::{Stepped, Tell};
 use space_core::Levels;
-use stability::{answer_in, states_of};
+use stability::{DuePropagator, answer_in, least_due, states_of};
 use std::alloc::{AllocError, Global};
 use term_text::{Text, term_text};
 
@@ -160,6 +162,26 @@ fn make_term(
     Ok(go_on(id, 1, course))
 }
 
+/// The thread's space is told these domains, and the statement stays.
+fn widen(
+    alloc: Global,
+    id: &Ident,
+    tells: &[Tell],
+    course: &mut Course,
+) -> Result<Stepped, AllocError>
+    requires head { first course.old.queue ≡ Some id.now }
+    requires there { is_some (layer_at course.old.levels id.now.space) ≡ true }
+    ensures turn { (statements : List Statement) → IfOk result (λ stepped. told statements id.now tells.now (λ layers. layers) course.old.levels (stepping course.old) ≡ (stepped, config_of statements course.new)) }
+    ensures cost { IfOk result (λ stepped. cost_of stepped ≡ 1) }
+    ensures err { OnErr result (course.new ≡ course.old) }
+{
+    // The variables have neither a value nor a domain, so that no domain clashes with what is known of them.
+    if !course.levels.tell(alloc, &id.space, tells)? {
+        return Err(AllocError);
+    }
+    Ok(go_on(id, 1, course))
+}
+
 /// The thread at the head of the queue can't step yet.
 fn rest(course: &mut Course) -> Stepped
     ensures turn { (statements : List Statement) (mover : Ident) → first course.old.queue ≡ Some mover
@@ -192,6 +214,7 @@ fn make_step(
         Answer::Operates { .. } => Ok(rest(course)),
         Answer::Edits(edit) => make_edit(alloc, kernel, id, edit, course),
         Answer::Acts(what) => make_act(alloc, kernel, id, what, kept, course),
+        Answer::Widens(tells) => widen(alloc, id, tells.as_slice(), course),
         Answer::RaisesKind(kind) => raise_kind(alloc, id, *kind, course),
         Answer::RaisesTerm(exception) => raise(
             alloc,
@@ -288,6 +311,7 @@ fn shown(answer: &Answer) -> Option<&Ident>
         | Answer::RaisesKind(_)
         | Answer::RaisesTerm(_)
         | Answer::Operates { .. }
+        | Answer::Widens(_)
         | Answer::Rests => None,
     }
 }
@@ -355,6 +379,7 @@ fn operates(answer: &Answer) -> bool
         | Answer::Edits(_)
         | Answer::RaisesKind(_)
         | Answer::RaisesTerm(_)
+        | Answer::Widens(_)
         | Answer::Rests => false,
     }
 }
@@ -547,7 +572,54 @@ fn step_of(
     }
 }
 
-/// The head of the queue makes a step, where nobody is due.
+/// The head of the queue makes a step, where nobody and no propagator is due.
+fn take_step(
+    alloc: Global,
+    kernel: &Kernel,
+    answered: &mut Option<Answer>,
+    kept: bool,
+    course: &mut Course,
+    fuel: u64,
+) -> Result<Option<Stepped>, AllocError>
+    requires due { course.old.due ≡ Nobody }
+    requires least { least_due course.old.levels ≡ None }
+    requires answered { IsHeadAnswer kernel.now.statements course.old.levels course.old.queue answered.old }
+    requires kept { Keeps kernel.now.statements kept course.old }
+    ensures turn { IfOk result (IsTurn (turn kernel.now (config_of kernel.now.statements course.old)) fuel (config_of kernel.now.statements course.old) (config_of kernel.now.statements course.new)) }
+    ensures cost { IfOk result (λ turned. IfSome turned (CostsWithin fuel)) }
+    ensures err { OnErr result (course.new ≡ course.old) }
+{
+    let Some(id) = course.queue.first() else {
+        return Ok(Some(Stepped::Quiescent));
+    };
+    if fuel == 0 {
+        return Ok(None);
+    }
+    let id = id.copied(alloc)?;
+    step_of(alloc, kernel, &id, answered, kept, course, fuel)
+}
+
+/// The least propagator that is due runs, unless there is no fuel.
+fn take_run(
+    alloc: Global,
+    kernel: &Kernel,
+    due: DuePropagator,
+    course: &mut Course,
+    fuel: u64,
+) -> Result<Option<Stepped>, AllocError>
+    requires due { course.old.due ≡ Nobody }
+    requires least { IsLeastDue course.old.levels due }
+    ensures turn { IfOk result (IsTurn (turn kernel.now (config_of kernel.now.statements course.old)) fuel (config_of kernel.now.statements course.old) (config_of kernel.now.statements course.new)) }
+    ensures cost { IfOk result (λ turned. IfSome turned (CostsWithin fuel)) }
+    ensures err { OnErr result (course.new ≡ course.old) }
+{
+    if fuel == 0 {
+        return Ok(None);
+    }
+    Ok(Some(propagate(alloc, kernel, due, course)?))
+}
+
+/// The least propagator that is due runs, or else the head of the queue makes a step, where nobody is due.
 fn take_turn(
     alloc: Global,
     kernel: &Kernel,
@@ -563,14 +635,10 @@ fn take_turn(
     ensures cost { IfOk result (λ turned. IfSome turned (CostsWithin fuel)) }
     ensures err { OnErr result (course.new ≡ course.old) }
 {
-    let Some(id) = course.queue.first() else {
-        return Ok(Some(Stepped::Quiescent));
-    };
-    if fuel == 0 {
-        return Ok(None);
+    if let Some(due) = least_due(&course.levels) {
+        return take_run(alloc, kernel, due, course, fuel);
     }
-    let id = id.copied(alloc)?;
-    step_of(alloc, kernel, &id, answered, kept, course, fuel)
+    take_step(alloc, kernel, answered, kept, course, fuel)
 }
 
 /// Whether all that was known to hold before a turn is known after it: the top has not ended.

@@ -10,7 +10,6 @@ use Rattle.oz_semantics.specs.Texts.{Printed, term_text}
 use Rattle.oz_semantics.specs.Runs.{Ran, Ended, TopRaised, Over, run, opening}
 use Rattle.oz_semantics.specs.Search.{has_script, script_found}
 use Rattle.oz_language.specs.Refusals.{Program, Accepts, IsRefused}
-use Rattle.oz_replies.specs.Served.{unserved_in}
 use Rattle.oz_language.specs.KernelTexts.{kernel_text}
 use Rattle.oz_language.specs.Commands.{IsUsage, AsksAll, AsksRun, AsksKernel}
 use Rattle.oz_language.specs.Translation.{statements_of, kernel_of}
@@ -161,24 +160,19 @@ refused_reply fault = line (codes "refused " ++ kind_text fault.kind ++ codes " 
 abbrev pub refused_answer : Fault → Answer
 refused_answer fault = (causes.Refused fault, refused_reply fault)
 
--- a program that has a token which is not served yet, at this place, is refused there
-abbrev pub unless_unserved : Option ℕ → Answer → Answer
-unless_unserved None answer = answer
-unless_unserved (Some at) answer = refused_answer (record { kind = Syntax; at = at })
-
--- What a command answers to a text, by what it answers for a program and the place of a token that is not served yet
-pub record IsTextReply (bytes : List ℕ) (answer_to : Option ℕ → Program → Answer) (answer : Answer) : Type 0 where
+-- What a command answers to a text, by what it answers for a program
+pub record IsTextReply (bytes : List ℕ) (answer_to : Program → Answer) (answer : Answer) : Type 0 where
   pub too_large : text_limit < length bytes → answer ≡ (causes.TooLarge (text_limit + 1), too_large_reply)
   pub refused : length bytes ≤ text_limit → (fault : Fault) → IsRefused bytes fault → answer ≡ refused_answer fault
-  pub accepted : length bytes ≤ text_limit → (p : Program) → (a : Accepts bytes p) → answer ≡ answer_to (unserved_in bytes a.lexemes) p
+  pub accepted : length bytes ≤ text_limit → (p : Program) → Accepts bytes p → answer ≡ answer_to p
 
 -- What the program answers to its words, where the source has these bytes: a cause, and what is written.
 pub record IsReply (words : List (List ℕ)) (bytes : List ℕ) (answer : Answer) : Type 0 where
   pub usage : IsUsage words → answer ≡ (causes.Usage, usage_reply)
-  pub all : (budget : ℕ) → AsksAll words budget → IsTextReply bytes (λ at p. unless_unserved at (all_answer (kernel_of p) budget)) answer
-  pub run : (budget : ℕ) → AsksRun words budget → IsTextReply bytes (λ at p. unless_unserved at (run_answer (kernel_of p) budget)) answer
+  pub all : (budget : ℕ) → AsksAll words budget → IsTextReply bytes (λ p. all_answer (kernel_of p) budget) answer
+  pub run : (budget : ℕ) → AsksRun words budget → IsTextReply bytes (λ p. run_answer (kernel_of p) budget) answer
   -- a kernel is written for each text that is accepted
-  pub kernel : AsksKernel words → IsTextReply bytes (λ at p. kernel_answer p) answer
+  pub kernel : AsksKernel words → IsTextReply bytes kernel_answer answer
 
 -- The status of a cause
 abbrev pub status_of : Cause → ℕ

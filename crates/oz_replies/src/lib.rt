@@ -1,4 +1,4 @@
-//! What the program answers to words and a text: the definitions `Served` and `Replies`, and why a call ended.
+//! What the program answers to words and a text: the definitions `Replies`, and why a call ended.
 #![tactic(auto)]
 
 mod cause;

@@ -5,11 +5,13 @@ use Rattle.environments.specs.Environments.{Environment, nowhere}
 use Rattle.oz_language.specs.declared.kernel.Constant.{Constant}
 use Rattle.oz_language.specs.declared.kernel.Identifier.{Identifier}
 use Rattle.oz_semantics.specs.Store.{View, value_of}
+use Rattle.oz_base.specs.declared.relation.Relation.{Relation}
 use Rattle.oz_semantics.specs.Terms.{Term}
 use Rattle.oz_semantics.specs.Sights.{Readiness, Waits}
 use Rattle.oz_semantics.specs.declared.value.SpaceOperation.{SpaceOperation}
 use Rattle.oz_semantics.specs.declared.value.Value.{Value}
 use Rattle.oz_semantics.specs.declared.value.Value.TheVariants as value
+use Rattle.oz_semantics.specs.declared.value.Tell.{Tell}
 use Rattle.oz_semantics.specs.declared.configuration.Frame.{Frame}
 use Rattle.oz_semantics.specs.declared.outcome.RaiseKind.{RaiseKind}
 use Rattle.oz_semantics.specs.declared.outcome.RaiseKind.TheVariants as raise
@@ -48,6 +50,10 @@ pub data Act : Type 0 where
   Sends : ℕ → Ident → Act
   -- the procedure is applied to x once x is needed
   Delays : Ident → Ident → Act
+  -- these domains are told
+  Confines : List Tell → Act
+  -- so are these, and the relation is posted
+  Posts : List Tell → Relation → List Ident → Act
   -- the text of x is shown
   Shows : Ident → Act
 
@@ -74,6 +80,8 @@ pub data Answer : Type 0 where
   RaisesTerm : Ident → Answer
   -- an operation on a space in the thread's own, with its other argument: what it answers goes by the state of that space
   Operates : SpaceOperation → List ℕ → Ident → Answer
+  -- these domains are told, and the statement stays
+  Widens : List Tell → Answer
   -- it can't step yet
   Rests : Readiness → Answer
 

@@ -3,6 +3,8 @@ use Rattle.std.specs.Prelude.{ℕ, List, ◌++◌}
 use Rattle.std.specs.List.{fold}
 use Rattle.oz_base.specs.declared.names.Ident.{Ident}
 use Rattle.oz_semantics.specs.Configurations.{in_layer, with_frames, telling, giving_out, counting_procedure, counting_name, spawning, adding_cell, with_content, adding_port, with_end, adding_trigger}
+use Rattle.oz_base.specs.declared.relation.Relation.{Relation}
+use Rattle.oz_semantics.specs.Propagation.{posting}
 use Rattle.oz_semantics.specs.declared.value.Tell.{Tell}
 use Rattle.oz_semantics.specs.declared.configuration.Frame.{Frame}
 use Rattle.oz_semantics.specs.declared.configuration.Layer.{Layer}
@@ -25,6 +27,8 @@ pub data Change : Type 0 where
   EndsAt : ℕ → Ident → Change
   -- a trigger, by its procedure and its variable
   AddsTrigger : Ident → Ident → Change
+  -- a propagator
+  AddsPropagator : Relation → List Ident → Change
 
 -- by this thread
 abbrev pub changed : Ident → List Layer → Change → List Layer
@@ -38,6 +42,7 @@ changed id layers (Holds n content) = in_layer id.space (with_content n content)
 changed id layers (AddsPort end) = in_layer id.space (adding_port end) layers
 changed id layers (EndsAt n end) = in_layer id.space (with_end n end) layers
 changed id layers (AddsTrigger procedure variable) = in_layer id.space (adding_trigger procedure variable) layers
+changed id layers (AddsPropagator r xs) = in_layer id.space (posting r xs) layers
 
 abbrev pub changed_all : Ident → List Change → List Layer → List Layer
 changed_all id changes layers = fold (changed id) layers changes

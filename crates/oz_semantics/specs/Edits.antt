@@ -1,14 +1,14 @@
 -- Edits of the tree of spaces (CTM 12.5; Schulte 4): creation, injection, commitment, copies and merging. None of them looks at the queue,
 -- which follows after the step.
-use Rattle.std.specs.Prelude.{ℕ, ◌+◌, ◌-◌, Bool, not, if◌then◌else◌, is_some, List, [], ◌∷◌, ◌++◌, Option, Some, None, map, filter, length, drop, slice_get, unwrap_or}
-use Rattle.std.specs.List.{fold}
-use Rattle.oz_base.specs.Lists.{list_eq, edit_first}
+use Rattle.std.specs.Prelude.{ℕ, ◌+◌, ◌-◌, ◌==◌, Bool, not, if◌then◌else◌, is_some, List, [], ◌∷◌, ◌++◌, Option, Some, None, map, filter, length, drop, slice_get, unwrap_or}
+use Rattle.std.specs.List.{fold, filter_map}
+use Rattle.oz_base.specs.Lists.{list_eq, edit_first, first}
 use Rattle.oz_base.specs.declared.names.Ident.{Ident}
 use Rattle.oz_language.specs.declared.kernel.Statement.{Statement}
 use Rattle.oz_semantics.specs.Names.{named, root_of, is_below, is_properly_below}
 use Rattle.environments.specs.Environments.{unbound}
-use Rattle.oz_semantics.specs.Configurations.{layer_of, in_layer, spawning, applying, new_layer, placed, next_child, counting_child}
-use Rattle.oz_semantics.specs.Sights.{Sight, Offer, Bodies, Number, offer_of}
+use Rattle.oz_semantics.specs.Configurations.{layer_of, in_layer, telling, spawning, applying, new_layer, placed, next_child, counting_child}
+use Rattle.oz_semantics.specs.Sights.{Sight, Offer, Bodies, Number, Parts, offer_of}
 use Rattle.oz_semantics.specs.Statements.{stack_answer}
 use Rattle.oz_semantics.specs.Readiness.{answer_ready}
 use Rattle.oz_semantics.specs.Spaces.{sight}
@@ -42,6 +42,14 @@ created parent procedure layers =
 abbrev pub chosen : ℕ → List Frame → Offer → List Frame
 chosen i stack (Bodies bodies) = unwrap_or (slice_get bodies (i - 1)) [] ++ drop 1 stack
 chosen i stack (Number n x) = record { code = code.Bind x i; environment = unbound } ∷ drop 1 stack
+chosen i stack (Parts one other) = stack
+
+-- what is told with it
+abbrev pub chosen_tells : ℕ → Option Offer → List Tell
+chosen_tells i (Some (Parts one other)) = (if i == 1 then one else other) ∷ []
+chosen_tells i (Some (Bodies bodies)) = []
+chosen_tells i (Some (Number n x)) = []
+chosen_tells i None = []
 
 abbrev pub choosing : ℕ → Thread → Option Offer → Thread
 choosing i t None = t
@@ -52,7 +60,9 @@ thread_offer s t = offer_of (answer_ready (stack_answer s t.frames))
 
 -- of the threads that offer, that of least number goes on with its i-th alternative
 abbrev pub committing : Sight → ℕ → Layer → Layer
-committing s i l = record l { threads = edit_first (λ t. is_some (thread_offer s t)) (λ t. choosing i t (thread_offer s t)) l.threads }
+committing s i l =
+    telling (chosen_tells i (first (filter_map (thread_offer s) l.threads)))
+    (record l { threads = edit_first (λ t. is_some (thread_offer s t)) (λ t. choosing i t (thread_offer s t)) l.threads })
 
 abbrev pub committed : List Statement → List ℕ → ℕ → List Layer → List Layer
 committed statements space i layers = in_layer space (committing (sight statements layers space) i) layers
@@ -128,6 +138,7 @@ joined s p =
     record p {
       threads = p.threads ++ map (λ (t : Thread). record t { number = t.number + (p.next.thread - 1) }) s.threads;
       triggers = p.triggers ++ s.triggers;
+      propagators = p.propagators ++ s.propagators;
       cells = p.cells ++ s.cells;
       ports = p.ports ++ s.ports;
       next = next_after s.next p.next;

@@ -9,8 +9,8 @@ use Rattle.oz_language.specs.declared.kernel.Identifier.{Identifier}
 use Rattle.oz_semantics.specs.Names.{named}
 use Rattle.oz_semantics.specs.Terms.{term_tells, nodes_inside}
 use Rattle.oz_semantics.specs.Configurations.{frames_of, fresh_variables, content_of, end_of}
-use Rattle.oz_semantics.specs.Answers.{Act, Passes, GoesOn, Declares, Starts, GivesValue, GivesTerm, GivesVariable, MakesProcedure, MakesName, MakesCell, Reads, Writes, Exchanges, MakesPort, Sends, Delays, Shows}
-use Rattle.oz_semantics.specs.Changes.{Change, GivesOut, CountsProcedure, CountsName, Pushes, Spawns, AddsCell, Holds, AddsPort, EndsAt, AddsTrigger}
+use Rattle.oz_semantics.specs.Answers.{Act, Passes, GoesOn, Declares, Starts, GivesValue, GivesTerm, GivesVariable, MakesProcedure, MakesName, MakesCell, Reads, Writes, Exchanges, MakesPort, Sends, Delays, Confines, Posts, Shows}
+use Rattle.oz_semantics.specs.Changes.{Change, GivesOut, CountsProcedure, CountsName, Pushes, Spawns, AddsCell, Holds, AddsPort, EndsAt, AddsTrigger, AddsPropagator}
 use Rattle.oz_semantics.specs.declared.value.Procedure as procedures
 use Rattle.oz_semantics.specs.declared.value.Value.{Value}
 use Rattle.oz_semantics.specs.declared.value.Value.TheVariants as value
@@ -65,4 +65,6 @@ act_effect l (Exchanges n x y) = Tells (Equal x (content_of l n) ∷ []) (Holds 
 act_effect l (MakesPort x stream) = Tells (Is x (value.Port (named l.space (length l.ports))) ∷ []) (AddsPort stream ∷ [])
 act_effect l (Sends n x) = Tells (Is (end_of l n) (stream_value x (new_end l)) ∷ []) (GivesOut 1 ∷ EndsAt n (new_end l) ∷ [])
 act_effect l (Delays procedure x) = Makes (AddsTrigger procedure x ∷ [])
+act_effect l (Confines ts) = Tells ts []
+act_effect l (Posts ts r xs) = Tells ts (AddsPropagator r xs ∷ [])
 act_effect l (Shows x) = ShowsText x

@@ -8,7 +8,7 @@ use Rattle.oz_semantics.specs.Store.{View}
 use Rattle.oz_semantics.specs.Terms.{Term, just_constant, just_atom, around, read_term}
 use Rattle.oz_semantics.specs.Configurations.{view}
 use Rattle.oz_semantics.specs.Sights.{Sight, States, state_in}
-use Rattle.oz_semantics.specs.Answers.{Passes, GivesTerm, Edit, Commits, Copies, Injects, TakesIn, Answer, Acts, Edits, RaisesKind, RaisesTerm, Operates, Rests, with_value, of_kind}
+use Rattle.oz_semantics.specs.Answers.{Passes, GivesTerm, Edit, Commits, Copies, Injects, TakesIn, Answer, Acts, Edits, RaisesKind, RaisesTerm, Operates, Widens, Rests, with_value, of_kind}
 use Rattle.oz_semantics.specs.declared.value.Value.{Value}
 use Rattle.oz_semantics.specs.declared.value.SpaceOperation.{SpaceOperation}
 use Rattle.oz_semantics.specs.declared.value.SpaceOperation.TheVariants as operation
@@ -129,4 +129,5 @@ by_state layers s states (Acts act) = Acts act
 by_state layers s states (Edits edit) = Edits edit
 by_state layers s states (RaisesKind kind) = RaisesKind kind
 by_state layers s states (RaisesTerm x) = RaisesTerm x
+by_state layers s states (Widens ts) = Widens ts
 by_state layers s states (Rests ready) = Rests ready

@@ -5,12 +5,13 @@ use Rattle.environments.specs.Environments.{renamed}
 use Rattle.oz_semantics.specs.declared.value.Value.{Value}
 use Rattle.oz_semantics.specs.declared.value.Value.TheVariants as value
 use Rattle.oz_semantics.specs.declared.value.Tell.{Tell}
-use Rattle.oz_semantics.specs.declared.value.Tell.TheVariants.{Equal, Is}
+use Rattle.oz_semantics.specs.declared.value.Tell.TheVariants.{Equal, Is, Within}
 use Rattle.oz_semantics.specs.declared.configuration.Code.{Code}
 use Rattle.oz_semantics.specs.declared.configuration.Code.TheVariants as code
 use Rattle.oz_semantics.specs.declared.configuration.Frame.{Frame}
 use Rattle.oz_semantics.specs.declared.configuration.Thread.{Thread}
 use Rattle.oz_semantics.specs.declared.configuration.Trigger.{Trigger}
+use Rattle.oz_semantics.specs.declared.configuration.Propagator.{Propagator}
 use Rattle.oz_semantics.specs.declared.configuration.Status.{Status}
 use Rattle.oz_semantics.specs.declared.configuration.Status.TheVariants as status
 use Rattle.oz_semantics.specs.declared.configuration.Layer.{Layer}
@@ -37,6 +38,7 @@ renamed_value r (value.Space s) = value.Space (r.space s)
 abbrev pub renamed_tell : Renaming → Tell → Tell
 renamed_tell r (Equal x y) = Equal (r.variable x) (r.variable y)
 renamed_tell r (Is x v) = Is (r.variable x) (renamed_value r v)
+renamed_tell r (Within x is) = Within (r.variable x) is
 
 abbrev pub renamed_code : Renaming → Code → Code
 renamed_code r (code.Statement n) = code.Statement n
@@ -53,6 +55,9 @@ renamed_thread r t = record t { frames = map (renamed_frame r) t.frames }
 abbrev pub renamed_trigger : Renaming → Trigger → Trigger
 renamed_trigger r t = record { procedure = r.variable t.procedure; variable = r.variable t.variable }
 
+abbrev pub renamed_propagator : Renaming → Propagator → Propagator
+renamed_propagator r p = record p { variables = map r.variable p.variables }
+
 abbrev pub renamed_status : Renaming → Status → Status
 renamed_status r status.Open = status.Open
 renamed_status r status.Failed = status.Failed
@@ -68,6 +73,7 @@ renamed_layer r l =
       tells = map (renamed_tell r) l.tells;
       threads = map (renamed_thread r) l.threads;
       triggers = map (renamed_trigger r) l.triggers;
+      propagators = map (renamed_propagator r) l.propagators;
       cells = map r.variable l.cells;
       ports = map r.variable l.ports;
     }

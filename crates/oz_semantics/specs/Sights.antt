@@ -5,6 +5,7 @@ use Rattle.oz_base.specs.Lists.{list_eq}
 use Rattle.oz_base.specs.declared.names.Ident.{Ident}
 use Rattle.oz_language.specs.declared.kernel.Statement.{Statement}
 use Rattle.oz_semantics.specs.Store.{View}
+use Rattle.oz_semantics.specs.declared.value.Tell.{Tell}
 use Rattle.oz_semantics.specs.declared.configuration.Frame.{Frame}
 use Rattle.oz_semantics.specs.declared.outcome.State.{State}
 
@@ -26,11 +27,14 @@ pub data Offer : Type 0 where
   Bodies : List (List Frame) → Offer
   -- the variable becomes a number from 1 to n
   Number : ℕ → Ident → Offer
+  -- one of the two is told, and the statement stays
+  Parts : Tell → Tell → Offer
 
 -- how many alternatives
 abbrev pub count_of : Offer → ℕ
 count_of (Bodies bodies) = length bodies
 count_of (Number n x) = n
+count_of (Parts one other) = 2
 
 -- what a thread can do where it stands
 pub data Readiness : Type 0 where

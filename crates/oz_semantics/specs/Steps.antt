@@ -7,7 +7,7 @@ use Rattle.oz_language.specs.declared.kernel.Kernel.{Kernel}
 use Rattle.oz_semantics.specs.Names.{is_top}
 use Rattle.oz_semantics.specs.Store.{View, is_consistent}
 use Rattle.oz_semantics.specs.Configurations.{layer_of, stack_of, view, in_layer, with_frames, without_terminated, telling, next_child, ending, failed, raised_by}
-use Rattle.oz_semantics.specs.Answers.{Edit, Creates, Commits, Copies, Injects, TakesIn, Answer, Acts, Edits, RaisesKind, RaisesTerm, Operates, Rests}
+use Rattle.oz_semantics.specs.Answers.{Edit, Creates, Commits, Copies, Injects, TakesIn, Answer, Acts, Edits, RaisesKind, RaisesTerm, Operates, Widens, Rests}
 use Rattle.oz_semantics.specs.Spaces.{states_of, answer_in}
 use Rattle.oz_semantics.specs.Edits.{created, committed, copied, injected, merge_tells, taken_in}
 use Rattle.oz_semantics.specs.Changes.{changed_all}
@@ -98,6 +98,8 @@ after_answer k id layers c (Edits edit) = after_edit k.statements id edit layers
 after_answer k id layers c (RaisesKind kind) = raised_kind k.statements id kind layers c
 after_answer k id layers c (RaisesTerm x) = raised k.statements id x layers c
 after_answer k id layers c (Operates op space x) = settled k.statements (Some id) 1 c
+-- the statement is not taken off
+after_answer k id layers c (Widens ts) = told k.statements id ts (λ ls. ls) c.layers c
 after_answer k id layers c (Rests ready) = settled k.statements (Some id) 1 c
 
 -- the layers without the statement on top of the thread's stack

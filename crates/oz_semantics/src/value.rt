@@ -1,6 +1,6 @@
 //! Values, and what a space is told of variables (CTM 2.2, 2.3).
 use environments::Environment;
-use oz_base::{Copies, Ident, Sequence, Shared, SpaceName};
+use oz_base::{Copies, Ident, Interval, Sequence, Shared, SpaceName};
 use oz_language::{Constant, Identifier, Literal, Operation};
 use std::alloc::{AllocError, Global};
 
@@ -58,6 +58,10 @@ pub enum Builtin {
     Choose,
     /// What is done to a computation space.
     OnSpace(SpaceOperation),
+    /// `FD.distinct`, of one parameter: the elements of a vector are different integers.
+    Distinct,
+    /// `FD.distribute`, of two parameters: tries the values of the elements of a vector by a rule.
+    Distribute,
 }
 
 /// An operation on a computation space, each of two parameters: the space, and another.
@@ -109,9 +113,20 @@ impl Copies for Value {
 #[derive(Drop)]
 pub enum Tell {
     /// `x=y`
-    Equal { left: Ident, right: Ident },
+    Equal {
+        left: Ident,
+        right: Ident,
+    },
     /// `x=v`
-    Is { variable: Ident, value: Value },
+    Is {
+        variable: Ident,
+        value: Value,
+    },
+    /// `x` is an integer of one of these intervals, which ascend, with gaps between them.
+    Within {
+        variable: Ident,
+        intervals: Sequence<Interval>,
+    },
 }
 
 impl Copies for Tell {
@@ -124,6 +139,13 @@ impl Copies for Tell {
             Tell::Is { variable, value } => Ok(Tell::Is {
                 variable: variable.copied(alloc)?,
                 value: value.copied(alloc)?,
+            }),
+            Tell::Within {
+                variable,
+                intervals,
+            } => Ok(Tell::Within {
+                variable: variable.copied(alloc)?,
+                intervals: intervals.copied(alloc)?,
             }),
         }
     }

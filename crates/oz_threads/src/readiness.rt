@@ -53,7 +53,7 @@ pub fn is_step(ready: &Readiness) -> bool
 {
     match ready {
         Readiness::Steps => true,
-        Readiness::Waits(_) | Readiness::WaitsForState(_) | Readiness::Offers(_) => false,
+        Readiness::Waits(_) | Readiness::WaitsForState(_) | Readiness::Offers { .. } => false,
     }
 }
 

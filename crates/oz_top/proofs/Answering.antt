@@ -10,24 +10,19 @@ use Rattle.oz_semantics.specs.Configurations.{view}
 use Rattle.oz_semantics.specs.Texts.{Printed, term_text}
 use Rattle.oz_semantics.specs.Runs.{Ran, Ended, TopRaised, Over, run, opening}
 use Rattle.oz_semantics.specs.Search.{has_script, script_found}
-use Rattle.oz_language.specs.Tokens.{Whole}
 use Rattle.oz_language.specs.Refusals.{Program, Accepts, IsRefused}
-use Rattle.oz_replies.specs.Served.{IsServed, unserved_in}
-use Rattle.oz_language.specs.declared.token.Lexeme.{Lexeme}
-use Rattle.oz_lex.specs.Lexing.{OneReading}
 use Rattle.oz_language.specs.Translation.{kernel_of}
 use Rattle.oz_language.specs.Commands.{Spells, IsUsage}
-use Rattle.oz_replies.specs.Replies.{Answer, IsReply, IsTextReply, Searches, line, shown_lines, spent, text_limit, usage_reply, too_large_reply, refused_answer, unless_unserved, answer_of_tree, answer_of_raise, searched, answer_of_top, all_answer, run_answer}
+use Rattle.oz_replies.specs.Replies.{Answer, IsReply, IsTextReply, Searches, line, shown_lines, spent, text_limit, usage_reply, too_large_reply, refused_answer, answer_of_tree, answer_of_raise, searched, answer_of_top, all_answer, run_answer}
 use Rattle.oz_language.specs.declared.command.Command.{Command}
 use Rattle.oz_language.specs.declared.command.Command.TheVariants as commands
 use Rattle.oz_language.specs.declared.kernel.Kernel.{Kernel}
 use Rattle.oz_language.specs.declared.fault.Fault.{Fault}
-use Rattle.oz_language.specs.declared.fault.RefusalKind.TheVariants as kinds
 use Rattle.oz_semantics.specs.declared.configuration.Configuration.{Configuration}
 use Rattle.oz_replies.specs.declared.cause.Cause.{Cause}
 use Rattle.oz_replies.specs.declared.cause.Cause.TheVariants as causes
 use Rattle.command_answers.specs.Answers.{answered}
-use Rattle.oz_top.specs.Call.{Reading, Writing, minded, answer_of, HasRead, ProgramGives, TextGives, ReadGives, AsText, IsCommand, Plans, IsDue, IsRead, IsBounded, Ends, IsExcused}
+use Rattle.oz_top.specs.Call.{Reading, Writing, HasRead, ProgramGives, TextGives, ReadGives, AsText, IsCommand, Plans, IsDue, IsRead, IsBounded, Ends, IsExcused}
 
 -- a text gives the plan of the call
 pub plans_text : (words : List (List ℕ)) (old new : Reading) (text : List ℕ) (k : Command) (cause : Cause) (reply : List ℕ) → IsCommand words k → HasRead old new text → TextGives text k cause reply → Plans words old new cause reply
@@ -45,14 +40,14 @@ plans_text words old new text k cause reply w r g = by cause (record { asked = k
     by causes.WriteFault r g = absurd g
     by (causes.TooLarge count) r g = absurd g
 
--- The answer to a program has one of five causes
+-- The answer to a program has one of four causes
 
 abbrev IsOwn : Answer → Type 0
 IsOwn (causes.Done, reply) = Unit {0}
 IsOwn (causes.Raised shown, reply) = Unit {0}
 IsOwn (causes.Spent total, reply) = Unit {0}
 IsOwn (causes.NoScript, reply) = Unit {0}
-IsOwn (causes.Refused fault, reply) = Unit {0}
+IsOwn (causes.Refused fault, reply) = ⊥
 IsOwn (causes.NoMemory, reply) = ⊥
 IsOwn (causes.Usage, reply) = ⊥
 IsOwn (causes.ReadFault, reply) = ⊥
@@ -88,19 +83,12 @@ own_kernel_answer (commands.Run budget) p =
     let k = kernel_of p in own_top k (λ c left. (causes.Done, shown_lines c)) budget (λ c left. tt) (run k [] (opening k) budget)
 own_kernel_answer commands.Kernel p = tt
 
-own_unless : (at : Option ℕ) (x : Answer) → IsOwn x → IsOwn (unless_unserved at x)
-own_unless None x h = h
-own_unless (Some at) x h = tt
-
-own_answer : (c : Command) (at : Option ℕ) (p : Program) → IsOwn (answer_of c at p)
-own_answer c at p = own_unless (minded c at) (answered c p) (own_kernel_answer c p)
-
 gives_own : (text : List ℕ) (c : Command) (cause : Cause) (reply : List ℕ) → IsOwn (cause, reply) → ProgramGives text c (cause, reply) → TextGives text c cause reply
 gives_own text c causes.Done reply o g = g
 gives_own text c (causes.Raised shown) reply o g = g
 gives_own text c (causes.Spent total) reply o g = g
 gives_own text c causes.NoScript reply o g = g
-gives_own text c (causes.Refused fault) reply o g = inr g
+gives_own text c (causes.Refused fault) reply o g = absurd o
 gives_own text c causes.NoMemory reply o g = absurd o
 gives_own text c causes.Usage reply o g = absurd o
 gives_own text c causes.ReadFault reply o g = absurd o
@@ -108,25 +96,20 @@ gives_own text c causes.WriteFault reply o g = absurd o
 gives_own text c (causes.TooLarge count) reply o g = absurd o
 
 -- an accepted text
-pub accepted_gives : (text : List ℕ) (c : Command) (p : Program) (cause : Cause) (reply : List ℕ) (a : Accepts text p)
-    → ◌≡◌ {A = Answer} (cause, reply) (answer_of c (unserved_in text a.lexemes) p) → TextGives text c cause reply
-accepted_gives text c p cause reply a h =
-    gives_own text c cause reply (subst (λ (x : Answer). IsOwn x) (sym h) (own_answer c (unserved_in text a.lexemes) p)) (p, a, sym h)
+pub accepted_gives : (text : List ℕ) (c : Command) (p : Program) (cause : Cause) (reply : List ℕ) → Accepts text p
+    → ◌≡◌ {A = Answer} (cause, reply) (answered c p) → TextGives text c cause reply
+accepted_gives text c p cause reply a h = gives_own text c cause reply (subst (λ (x : Answer). IsOwn x) (sym h) (own_kernel_answer c p)) (p, a, sym h)
 
--- a text has one reading, whatever is made of it
-pub accepted_due : (text : List ℕ) (c : Command) (p : Program) (answer : Answer) (a : Accepts text p) → OneReading → ((q : Program) → Accepts text q → q ≡ p) → ((f : Fault) → IsRefused text f → ⊥)
-    → answer ≡ answer_of c (unserved_in text a.lexemes) p → AsText text c answer
-accepted_due text c p answer a one only unrefused h = record {
+pub accepted_due : (text : List ℕ) (c : Command) (p : Program) (answer : Answer) → ((q : Program) → Accepts text q → q ≡ p) → ((f : Fault) → IsRefused text f → ⊥)
+    → answer ≡ answered c p → AsText text c answer
+accepted_due text c p answer only unrefused h = record {
   refused = λ n f r. absurd (unrefused f r);
-  accepted = λ n q b.
-      h
-      ∙ ap (λ (x : Program). answer_of c (unserved_in text a.lexemes) x) (sym (only q b))
-      ∙ ap (λ (ls : List Lexeme). answer_of c (unserved_in text ls) q) (one text 0 a.lexemes b.lexemes Whole Whole a.lexed b.lexed).0;
+  accepted = λ n q b. h ∙ ap (λ (x : Program). answered c x) (sym (only q b));
 }
 
 -- a refused text
 pub refused_gives : (text : List ℕ) (c : Command) (fault : Fault) (cause : Cause) (reply : List ℕ) → IsRefused text fault → ◌≡◌ {A = Answer} (cause, reply) (refused_answer fault) → TextGives text c cause reply
-refused_gives text c fault cause reply r is = subst (λ (x : Answer). TextGives text c x.0 x.1) (sym is) (inl (r, refl))
+refused_gives text c fault cause reply r is = subst (λ (x : Answer). TextGives text c x.0 x.1) (sym is) (r, refl)
 
 pub refused_due : (text : List ℕ) (c : Command) (fault : Fault) (answer : Answer) → ((g : Fault) → IsRefused text g → g ≡ fault) → ((p : Program) → Accepts text p → ⊥) → answer ≡ refused_answer fault → AsText text c answer
 refused_due text c fault answer only unaccepted is = record {
@@ -159,7 +142,7 @@ usage_due words bytes cause reply u (inl h) = λ read memory. record {
 }
 
 -- what the one command that the words spell answers to the bytes
-is_reply : (words : List (List ℕ)) (bytes : List ℕ) (c : Command) (answer : Answer) → IsCommand words c → IsTextReply bytes (answer_of c) answer → IsReply words bytes answer
+is_reply : (words : List (List ℕ)) (bytes : List ℕ) (c : Command) (answer : Answer) → IsCommand words c → IsTextReply bytes (answered c) answer → IsReply words bytes answer
 is_reply words bytes c answer w h = record {
   usage = λ u. absurd (no_usage words c w.spelled u);
   all = λ budget asked. for (commands.All asked.workers budget) asked.spelled;
@@ -167,11 +150,11 @@ is_reply words bytes c answer w h = record {
   kernel = λ asked. for commands.Kernel asked;
 }
   where
-    for : (d : Command) → Spells words d → IsTextReply bytes (answer_of d) answer
-    for d spelled = subst (λ (x : Command). IsTextReply bytes (answer_of x) answer) (sym (w.only d spelled)) h
+    for : (d : Command) → Spells words d → IsTextReply bytes (answered d) answer
+    for d spelled = subst (λ (x : Command). IsTextReply bytes (answered x) answer) (sym (w.only d spelled)) h
 
 -- and the other way round
-text_reply : (words : List (List ℕ)) (bytes : List ℕ) (c : Command) (answer : Answer) → Spells words c → IsReply words bytes answer → IsTextReply bytes (answer_of c) answer
+text_reply : (words : List (List ℕ)) (bytes : List ℕ) (c : Command) (answer : Answer) → Spells words c → IsReply words bytes answer → IsTextReply bytes (answered c) answer
 text_reply words bytes (commands.All workers budget) answer w r = r.all budget (record { workers = workers; spelled = w })
 text_reply words bytes (commands.Run budget) answer w r = r.run budget w
 text_reply words bytes commands.Kernel answer w r = r.kernel w
@@ -349,30 +332,18 @@ module _ (words : List (List ℕ)) (c : Command) (bytes : List ℕ) (before afte
   asked_refused f l q = asked words bytes before after cause (refused_answer f) (λ x r. (text_reply words bytes c x w r).refused l f q) h
 
   module _ (p : Program) (l : length bytes ≤ text_limit) (a : Accepts bytes p) where
-    only_answer : (x : Answer) → IsReply words bytes x → x ≡ answer_of c (unserved_in bytes a.lexemes) p
+    only_answer : (x : Answer) → IsReply words bytes x → x ≡ answered c p
     only_answer x r = (text_reply words bytes c x w r).accepted l p a
 
-    pub asked_accepted : (cause ≡ (answer_of c (unserved_in bytes a.lexemes) p).0) ⊎ IsExcused cause
-    asked_accepted = asked words bytes before after cause (answer_of c (unserved_in bytes a.lexemes) p) only_answer h
+    pub asked_accepted : (cause ≡ (answered c p).0) ⊎ IsExcused cause
+    asked_accepted = asked words bytes before after cause (answered c p) only_answer h
 
     -- what is written of one answer
-    pub written : (front : List ℕ) (answer : Answer) → answer_of c (unserved_in bytes a.lexemes) p ≡ answer → before.written ≡ Some front
+    pub written : (front : List ℕ) (answer : Answer) → answered c p ≡ answer → before.written ≡ Some front
         → cause ≢ causes.ReadFault → cause ≢ causes.WriteFault → cause ≢ causes.NoMemory → (cause ≡ answer.0) × (after.written ≡ Some (front ++ answer.1))
     written front answer is o f n m =
         let d = answered_with words bytes before after cause answer (λ x r. only_answer x r ∙ is) h f n m in
         (d.0, whole_written before.written after.written front answer.1 o d.1)
-
-    -- a token that is not served yet
-    pub asked_unserved : (at : ℕ) → minded c (unserved_in bytes a.lexemes) ≡ Some at → (cause ≡ causes.Refused (record { kind = kinds.Syntax; at = at })) ⊎ IsExcused cause
-    asked_unserved at e =
-        asked words bytes before after cause (refused_answer (record { kind = kinds.Syntax; at = at }))
-        (λ x r. only_answer x r ∙ ap (λ o. unless_unserved o (answered c p)) e) h
-
--- all of a program is served
-pub served_answer : (c : Command) (bytes : List ℕ) (p : Program) (a : IsServed bytes p) → answer_of c (unserved_in bytes a.accepted.lexemes) p ≡ answered c p
-served_answer (commands.All workers budget) bytes p a = ap (λ o. unless_unserved o (answered (commands.All workers budget) p)) a.served
-served_answer (commands.Run budget) bytes p a = ap (λ o. unless_unserved o (answered (commands.Run budget) p)) a.served
-served_answer commands.Kernel bytes p a = refl
 
 -- the tree of the script is searched
 pub searched_all : (k : Kernel) (budget : ℕ) (found : Found (List ℕ × Outcome)) (s : Searches k budget found) → all_answer k budget ≡ answer_of_tree (shown_lines s.top) budget found

@@ -3,11 +3,9 @@ use Rattle.std.specs.Prelude.{ℕ, ◌≡◌, ◌≢◌, ◌<◌, ◌≤◌, ◌
 use Rattle.std.specs.Io.KnownBytes.{Appends, Consumes, IsAtEnd}
 use Rattle.oz_outside.specs.Counts.{Rose}
 use Rattle.oz_language.specs.Refusals.{Program, Accepts, IsRefused}
-use Rattle.oz_replies.specs.Served.{unserved_in}
 use Rattle.oz_language.specs.Commands.{Spells, IsUsage}
 use Rattle.oz_language.specs.declared.command.Command.{Command}
-use Rattle.oz_language.specs.declared.command.Command.TheVariants as command
-use Rattle.oz_replies.specs.Replies.{Answer, IsReply, text_limit, usage_reply, too_large_reply, refused_reply, refused_answer, unless_unserved}
+use Rattle.oz_replies.specs.Replies.{Answer, IsReply, text_limit, usage_reply, too_large_reply, refused_reply, refused_answer}
 use Rattle.oz_language.specs.declared.fault.Fault.{Fault}
 use Rattle.oz_replies.specs.declared.cause.Cause.{Cause}
 use Rattle.oz_replies.specs.declared.cause.Cause.TheVariants as causes
@@ -32,23 +30,13 @@ pub record HasRead (old new : Reading) (text : List ℕ) : Type 0 where
 abbrev pub IsBounded : Option (List ℕ) → Option (List ℕ) → Type 0
 IsBounded old new = (bytes : List ℕ) × (length bytes ≤ text_limit + 1) × Consumes old new bytes
 
--- the place of a token that is not served yet, where the command runs the program
-abbrev pub minded : Command → Option ℕ → Option ℕ
-minded command.Kernel at = None
-minded (command.All workers budget) at = at
-minded (command.Run budget) at = at
-
--- what a command answers for a program with a token that is not served yet at this place, if there is one
-abbrev pub answer_of : Command → Option ℕ → Program → Answer
-answer_of c at p = unless_unserved (minded c at) (answered c p)
-
 -- a program of the text has this answer
 abbrev pub ProgramGives : List ℕ → Command → Answer → Type 0
-ProgramGives text c answer = (p : Program) × (a : Accepts text p) × (answer_of c (unserved_in text a.lexemes) p ≡ answer)
+ProgramGives text c answer = (p : Program) × Accepts text p × (answered c p ≡ answer)
 
 -- a text gives this cause and this reply, before anything is written
 abbrev pub TextGives : List ℕ → Command → Cause → List ℕ → Type 0
-TextGives text c (causes.Refused fault) reply = (IsRefused text fault × (reply ≡ refused_reply fault)) ⊎ ProgramGives text c (causes.Refused fault, reply)
+TextGives text c (causes.Refused fault) reply = IsRefused text fault × (reply ≡ refused_reply fault)
 TextGives text c causes.Done reply = ProgramGives text c (causes.Done, reply)
 TextGives text c (causes.Raised shown) reply = ProgramGives text c (causes.Raised shown, reply)
 TextGives text c (causes.Spent total) reply = ProgramGives text c (causes.Spent total, reply)
@@ -105,7 +93,7 @@ IsExcused cause = (cause ≡ causes.ReadFault) ⊎ ((cause ≡ causes.WriteFault
 -- What each text asks for, where memory is there.
 pub record AsText (text : List ℕ) (c : Command) (answer : Answer) : Type 0 where
   pub refused : answer.0 ≢ causes.NoMemory → (fault : Fault) → IsRefused text fault → answer ≡ refused_answer fault
-  pub accepted : answer.0 ≢ causes.NoMemory → (p : Program) → (a : Accepts text p) → answer ≡ answer_of c (unserved_in text a.lexemes) p
+  pub accepted : answer.0 ≢ causes.NoMemory → (p : Program) → Accepts text p → answer ≡ answered c p
 
 -- the words spell this command and no other
 pub record IsCommand (words : List (List ℕ)) (c : Command) : Type 0 where

@@ -3,34 +3,29 @@ ghost use Rattle.std.specs.Prelude.{◌≡◌, ◌≢◌, ◌⊎◌, ◌≤◌, 
 ghost use Rattle.std.specs.String.{string_bytes};
 ghost use Rattle.std.specs.Io.KnownBytes.{Appends};
 ghost use Rattle.oz_outside.specs.Counts.{Rose};
-ghost use Rattle.oz_language.specs.Tokens.{Lexes, Whole};
 ghost use Rattle.oz_language.specs.Refusals.{Program, Accepts, IsRefused};
-ghost use Rattle.oz_replies.specs.Served.{IsServed, unserved_in};
 ghost use Rattle.oz_language.specs.Translation.{statements_of, kernel_of};
 ghost use Rattle.oz_language.specs.KernelTexts.{kernel_text};
 ghost use Rattle.oz_language.specs.Commands.{Spells, IsUsage, AsksAll, AsksRun, AsksKernel};
 ghost use Rattle.oz_semantics.specs.Runs.{Ended, run, opening};
-ghost use Rattle.oz_replies.specs.Replies.{IsReply, Searches, status_of, text_limit, usage_reply, too_large_reply, shown_lines, leaves_reply, kind_text, refused_reply, refused_answer, unless_unserved, all_answer, run_answer};
+ghost use Rattle.oz_replies.specs.Replies.{IsReply, Searches, status_of, text_limit, usage_reply, too_large_reply, shown_lines, leaves_reply, kind_text, refused_reply, refused_answer, all_answer, run_answer};
 ghost use Rattle.oz_language.specs.declared.command.Command.{Command};
 ghost use Rattle.oz_semantics.specs.declared.configuration.Configuration.{Configuration};
-ghost use Rattle.oz_language.specs.declared.token.Lexeme.{Lexeme};
 ghost use Rattle.oz_language.specs.declared.fault.RefusalKind.{RefusalKind};
 ghost use Rattle.oz_language.specs.declared.fault.Fault.{Fault};
 ghost use Rattle.oz_search.specs.declared.leaf.Outcome.{Outcome as Leaf};
 ghost use Rattle.oz_replies.specs.declared.cause.Cause.{Cause};
 ghost use Rattle.command_answers.specs.Answers.{answered};
-ghost use Rattle.oz_top.specs.Call.{minded, answer_of, TextGives, AsText, IsCommand, Plans, IsDue, IsRead, IsBounded, Ends, Answers, IsExcused};
+ghost use Rattle.oz_top.specs.Call.{TextGives, AsText, IsCommand, Plans, IsDue, IsRead, IsBounded, Ends, Answers, IsExcused};
 
 use command_answers::{Plan, answered};
 use command_line::read_command;
 use kernel_trans::translate;
 use oz_language::{Command, Fault, RefusalKind};
-use oz_lex::one_reading;
 use oz_outside::{Gate, READ_LIMIT, ReadError as SourceError, Sink, Source, read_all, write_all};
 use oz_reader::{Program, ReadError, read_program};
 use oz_replies::Cause;
 use reply_text::add_decimal;
-use served_tokens::first_unserved;
 use std::alloc::{AllocError, Global};
 
 fn make_plan(alloc: Global, cause: Cause, reply: &[u8]) -> Result<Plan, AllocError>
@@ -68,18 +63,8 @@ fn refused(alloc: Global, fault: Fault) -> Result<Plan, AllocError>
     })
 }
 
-/// The place of the first token that a program may not have yet, where the command runs the program.
-fn minded(alloc: Global, command: Command, text: &[u8]) -> Result<Option<usize>, AllocError>
-    ensures { IfOk result (λ at. (ls : List Lexeme) → Lexes text.now 0 ls Whole → at ≡ minded command (unserved_in text.now ls)) }
-{
-    match command {
-        Command::Kernel => Ok(None),
-        Command::All { .. } | Command::Run { .. } => first_unserved(alloc, text),
-    }
-}
-
-/// What a command answers for a program that may have all its tokens.
-fn answer_served<G: Gate>(
+/// What a command answers for the program of a text.
+fn answer_for<G: Gate>(
     alloc: Global,
     command: Command,
     program: Program,
@@ -90,42 +75,6 @@ fn answer_served<G: Gate>(
     let (words, phrase) = program.into_parts();
     let kernel = translate(alloc, words, &phrase)?;
     answered(alloc, command, kernel, gate)
-}
-
-/// What a command answers for a program with a token that is not served yet at this place, if there is one.
-fn answer_unless<G: Gate>(
-    alloc: Global,
-    command: Command,
-    unserved: Option<usize>,
-    program: Program,
-    gate: &G,
-) -> Result<Plan, AllocError>
-    ensures { IfOk result (λ plan. (plan.cause, plan.reply.items) ≡ unless_unserved unserved (answered command program)) }
-{
-    match unserved {
-        None => answer_served(alloc, command, program, gate),
-        Some(at) => refused(
-            alloc,
-            Fault {
-                kind: RefusalKind::Syntax,
-                at,
-            },
-        ),
-    }
-}
-
-/// What a command answers for the program of a text.
-fn answer_for<G: Gate>(
-    alloc: Global,
-    command: Command,
-    text: &[u8],
-    program: Program,
-    gate: &G,
-) -> Result<Plan, AllocError>
-    ensures { (a : Accepts text.now program) → IfOk result (λ plan. (plan.cause, plan.reply.items) ≡ answer_of command (unserved_in text.now a.lexemes) program) }
-{
-    let unserved = minded(alloc, command, text)?;
-    answer_unless(alloc, command, unserved, program, gate)
 }
 
 /// What a command answers for a text.
@@ -139,9 +88,8 @@ fn answer<G: Gate>(
     ensures gives { IfOk result (λ plan. TextGives text.now command plan.cause plan.reply.items) }
     ensures due { IfOk result (λ plan. AsText text.now command (plan.cause, plan.reply.items)) }
 {
-    one_reading();
     match read_program(alloc, text) {
-        Ok(program) => answer_for(alloc, command, text, program, gate),
+        Ok(program) => answer_for(alloc, command, program, gate),
         Err(ReadError::Refused(fault)) => refused(alloc, fault),
         Err(ReadError::Memory) => Err(AllocError),
     }
@@ -309,19 +257,19 @@ pub fn oz_call<S: Source, K: Sink, G: Gate>(
     // `all` on an accepted text whose top becomes quiescent with a script, and whose tree takes no more than what is left of
     // the budget, writes what the top has shown and exactly the unfailed leaves, each once, left to right, and their totals.
     ensures leaves { (budget : ℕ) (bytes before : List ℕ) (p : Program) (found : List (List ℕ × Leaf)) (steps : ℕ) → AsksAll (map string_bytes words.now) budget
-        → S.left source.old ≡ Some bytes → K.written sink.old ≡ Some before → length bytes ≤ text_limit → IsServed bytes p
+        → S.left source.old ≡ Some bytes → K.written sink.old ≡ Some before → length bytes ≤ text_limit → Accepts bytes p
         → (s : Searches (kernel_of p) budget (Some (found, steps)))
         → result.cause ≢ Cause.ReadFault → result.cause ≢ Cause.WriteFault → result.cause ≢ Cause.NoMemory
         → (result.cause ≡ Cause.Done) × (K.written sink.new ≡ Some (before ++ shown_lines s.top ++ leaves_reply (map (λ (leaf : List ℕ × Leaf). leaf.1) found))) }
 
     // It is spent exactly where the tree takes more.
     ensures spent { (budget : ℕ) (bytes : List ℕ) (p : Program) → AsksAll (map string_bytes words.now) budget
-        → S.left source.old ≡ Some bytes → length bytes ≤ text_limit → IsServed bytes p → Searches (kernel_of p) budget None
+        → S.left source.old ≡ Some bytes → length bytes ≤ text_limit → Accepts bytes p → Searches (kernel_of p) budget None
         → (result.cause ≡ Cause.Spent budget) ⊎ IsExcused result.cause }
 
     // `run` on an accepted text whose top becomes quiescent within the budget writes exactly what the top has shown.
     ensures shown { (budget : ℕ) (bytes before : List ℕ) (p : Program) (top : Configuration) (left : ℕ) → AsksRun (map string_bytes words.now) budget
-        → S.left source.old ≡ Some bytes → K.written sink.old ≡ Some before → length bytes ≤ text_limit → IsServed bytes p
+        → S.left source.old ≡ Some bytes → K.written sink.old ≡ Some before → length bytes ≤ text_limit → Accepts bytes p
         → run (kernel_of p) [] (opening (kernel_of p)) budget ≡ Ended top left
         → result.cause ≢ Cause.ReadFault → result.cause ≢ Cause.WriteFault → result.cause ≢ Cause.NoMemory
         → (result.cause ≡ Cause.Done) × (K.written sink.new ≡ Some (before ++ shown_lines top)) }
@@ -347,15 +295,10 @@ pub fn oz_call<S: Source, K: Sink, G: Gate>(
         → (result.cause ≡ Cause.TooLarge (text_limit + 1)) ⊎ IsExcused result.cause }
     ensures refused { (c : Command) (bytes : List ℕ) (fault : Fault) → Spells (map string_bytes words.now) c → S.left source.old ≡ Some bytes → length bytes ≤ text_limit → IsRefused bytes fault
         → (result.cause ≡ Cause.Refused fault) ⊎ IsExcused result.cause }
-    ensures accepted { (budget : ℕ) (bytes : List ℕ) (p : Program) → AsksAll (map string_bytes words.now) budget → S.left source.old ≡ Some bytes → length bytes ≤ text_limit → IsServed bytes p
+    ensures accepted { (budget : ℕ) (bytes : List ℕ) (p : Program) → AsksAll (map string_bytes words.now) budget → S.left source.old ≡ Some bytes → length bytes ≤ text_limit → Accepts bytes p
         → (result.cause ≡ (all_answer (kernel_of p) budget).0) ⊎ IsExcused result.cause }
-    ensures accepted_run { (budget : ℕ) (bytes : List ℕ) (p : Program) → AsksRun (map string_bytes words.now) budget → S.left source.old ≡ Some bytes → length bytes ≤ text_limit → IsServed bytes p
+    ensures accepted_run { (budget : ℕ) (bytes : List ℕ) (p : Program) → AsksRun (map string_bytes words.now) budget → S.left source.old ≡ Some bytes → length bytes ≤ text_limit → Accepts bytes p
         → (result.cause ≡ (run_answer (kernel_of p) budget).0) ⊎ IsExcused result.cause }
-
-    // A command that runs programs refuses one at the first token that programs may not have yet.
-    ensures unserved { (c : Command) (bytes : List ℕ) (p : Program) (at : ℕ) → Spells (map string_bytes words.now) c → S.left source.old ≡ Some bytes → length bytes ≤ text_limit
-        → (a : Accepts bytes p) → minded c (unserved_in bytes a.lexemes) ≡ Some at
-        → (result.cause ≡ Cause.Refused (record { kind = RefusalKind.Syntax; at = at })) ⊎ IsExcused result.cause }
 
     // Faults come only where they were counted, and before the writing nothing is written.
     ensures read_fault { result.cause ≡ Cause.ReadFault → Rose (S.faults source.old) (S.faults source.new) }

@@ -4,17 +4,19 @@ use Rattle.std.specs.List.{zip, list_any}
 use Rattle.oz_base.specs.declared.names.Ident.{Ident}
 use Rattle.oz_language.specs.SimpleTexts.{record_text}
 use Rattle.oz_language.specs.declared.text.Form.{Form}
-use Rattle.oz_semantics.specs.Store.{same, value_of}
+use Rattle.oz_semantics.specs.Store.{same, value_of, domain_of}
 use Rattle.oz_semantics.specs.Texts.{Printed, printed, count_nodes, record_printed, form_unless_open, value_printed}
 use Rattle.oz_semantics.specs.Texts as texts
 use Rattle.oz_semantics.specs.declared.value.Record.{Record}
 use Rattle.oz_semantics.specs.declared.value.Value.{Value}
 use Rattle.oz_semantics.specs.declared.value.Value.TheVariants as value
 use Rattle.oz_semantics.specs.declared.value.Tell.{Tell}
+use Rattle.oz_laws.proofs.StoreLaws.{record_told}
+use Rattle.oz_laws.proofs.OpeningLaws.{left_of, one_opened}
 use Rattle.text_laws.specs.Terms.{Term, Terms, simple, compound, no_term, beside, form_in, term_text, field_texts}
 use Rattle.print_law.specs.Trees.{IsTree, AreTrees, of_constant, of_record, no_trees, tree_beside, nodes_of, nodes_among}
 use Rattle.print_law.specs.Laws.{IsPrintOf}
-use Rattle.print_law.proofs.Openings.{Inside, one_open, inside_less, is_apart, no_position, left_of, one_opened}
+use Rattle.print_law.proofs.Openings.{Inside, one_open, inside_less, is_apart, no_position}
 
 -- fields are printed, each in its form
 record ArePrintsOf (words : List (List ℕ)) (forms : Ident → Form) (print : Ident → Printed) (xs : List Ident) (ts : Terms) : Type 0 where
@@ -42,7 +44,7 @@ module _ (words : List (List ℕ)) where
 
 module _ (words : List (List ℕ)) (view : List Tell) where
   printed_suc : (n : ℕ) (up : List Ident) (x : Ident)
-      → printed words view (suc n) up x ≡ value_printed words (texts.form_in words view (x ∷ up)) (printed words view n (x ∷ up)) (position (same view x) up) (value_of view x)
+      → printed words view (suc n) up x ≡ value_printed words (texts.form_in words view (x ∷ up)) (printed words view n (x ∷ up)) (position (same view x) up) (domain_of view x) (value_of view x)
   unfolding printed
   printed_suc n up x = refl
 
@@ -55,13 +57,13 @@ module _ (words : List (List ℕ)) (view : List Tell) where
 
   -- what is printed, by the value and by what is open
   print_by : (n : ℕ) (up : List Ident) (x : Ident) (v : Value) (t : Term) → value_of view x ≡ Some v → list_any (same view x) up ≡ false
-      → IsPrintOf words (value_printed words (texts.form_in words view (x ∷ up)) (printed words view n (x ∷ up)) None (Some v)) t → IsPrintOf words (printed words view (suc n) up x) t
+      → IsPrintOf words (value_printed words (texts.form_in words view (x ∷ up)) (printed words view n (x ∷ up)) None (domain_of view x) (Some v)) t → IsPrintOf words (printed words view (suc n) up x) t
   print_by n up x v t e a p =
       subst (λ q. IsPrintOf words q t)
       (sym (
       printed_suc n up x
-      ∙ ap (value_printed words (texts.form_in words view (x ∷ up)) (printed words view n (x ∷ up)) (position (same view x) up)) e
-      ∙ ap (λ o. value_printed words (texts.form_in words view (x ∷ up)) (printed words view n (x ∷ up)) o (Some v)) (no_position (same view x) up a)
+      ∙ ap (value_printed words (texts.form_in words view (x ∷ up)) (printed words view n (x ∷ up)) (position (same view x) up) (domain_of view x)) e
+      ∙ ap (λ o. value_printed words (texts.form_in words view (x ∷ up)) (printed words view n (x ∷ up)) o (domain_of view x) (Some v)) (no_position (same view x) up a)
       )) p
 
   mutual
@@ -72,7 +74,7 @@ module _ (words : List (List ℕ)) (view : List Tell) where
     print_tree {x} (of_record {r = r} {ts = ts} e hs) (suc n) up i l =
         let t = compound r.label r.features ts in
         let a = is_apart view x t (of_record e hs) i in
-        let m = one_opened view x up (value.Record r) e a in
+        let m = one_opened view x up (value.Record r) (record_told view x r e) a in
         print_by n up x (value.Record r) t e a
         (print_record words (texts.form_in words view (x ∷ up)) (printed words view n (x ∷ up)) r ts
         (print_trees hs n (x ∷ up) (one_open (of_record e hs) (omega arith) (inside_less view (nodes_among ts) (suc (nodes_among ts)) (omega arith) i)) (omega (arith, l, m))))

@@ -4,7 +4,8 @@ use Rattle.text_laws.specs.Laws.{IsReadAs, IsReadAlone}
 use Rattle.text_laws.proofs.TermLaws.{terms_read}
 use Rattle.text_laws.proofs.OwnWords.{terms_read_alone}
 use Rattle.print_law.specs.Laws.{TreePrinted, PrintedRead, PrintedReadAlone}
-use Rattle.print_law.proofs.Openings.{none_open, left_at_first}
+use Rattle.oz_laws.proofs.OpeningLaws.{left_at_first}
+use Rattle.print_law.proofs.Openings.{none_open}
 use Rattle.print_law.proofs.Printing.{tree_printed}
 
 pub trees_printed : TreePrinted

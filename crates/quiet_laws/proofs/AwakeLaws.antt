@@ -1,5 +1,6 @@
 -- Where the thread that stepped can step still, no thread of another space wakes.
-use Rattle.std.proofs.Common.{◌≡◌, inl, inr, ℕ, Bool, true, false, not, if◌then◌else◌, List, [], ◌∷◌, ◌++◌, flat_map, refl, sym, ap, ap₂, subst, ◌∙◌, Option, Some, None, unwrap_or}
+use Rattle.std.proofs.Common.{◌≡◌, inl, inr, ℕ, Bool, true, false, not, if◌then◌else◌, List, [], ◌∷◌, ◌++◌, filter, flat_map, refl, sym, ap, ap₂, subst, ◌∙◌, Option, Some, None, unwrap_or}
+use Rattle.std.specs.List.{list_any}
 use Rattle.std.proofs.lemmas.Bool.{false≢true}
 use Rattle.std.proofs.lemmas.List.{append-nil}
 use Rattle.oz_base.specs.Lists.{list_eq}
@@ -8,30 +9,31 @@ use Rattle.oz_language.specs.declared.kernel.Statement.{Statement}
 use Rattle.oz_semantics.specs.Names.{is_below, is_properly_below, parent_of, named}
 use Rattle.oz_semantics.specs.Configurations.{is_of, layer_at, new_layer, is_numbered, thread_at, frames_in, is_open, view, in_layer}
 use Rattle.oz_semantics.specs.Sights.{Sight, States, can_step}
-use Rattle.oz_semantics.specs.Answers.{Answer, Acts, Edits, RaisesKind, RaisesTerm, Operates, Rests}
+use Rattle.oz_semantics.specs.Answers.{Answer, Acts, Edits, RaisesKind, RaisesTerm, Operates, Widens, Rests}
 use Rattle.oz_semantics.specs.Operations.{by_state}
 use Rattle.oz_semantics.specs.Statements.{stack_answer}
 use Rattle.oz_semantics.specs.Readiness.{answer_ready}
 use Rattle.oz_semantics.specs.Spaces.{sight, states_of, thread_ready, goes_on}
-use Rattle.oz_semantics.specs.Settling.{is_among, runnable_in, runnable}
+use Rattle.oz_semantics.specs.Settling.{is_among, mover_in, runnable_in, runnable}
 use Rattle.oz_semantics.specs.declared.configuration.Thread.{Thread}
 use Rattle.oz_semantics.specs.declared.configuration.Layer.{Layer}
 use Rattle.oz_semantics.specs.declared.configuration.Configuration.{Configuration}
 use Rattle.oz_laws.proofs.SameLaws.{In, contains-from_In, In-flat, In-flat_back, eq-true}
-use Rattle.view_laws.proofs.Members.{In-left, by_some}
-use Rattle.view_laws.proofs.ListLaws.{among_in, in_among, filter_in, filter_none, in_edit, found_in}
+use Rattle.view_laws.specs.Queues.{is_due_below}
+use Rattle.view_laws.proofs.Members.{In-left, by_some, or_left}
+use Rattle.view_laws.proofs.ListLaws.{among_in, in_among, filter_in, in_filter, filter_none, in_edit, found_in}
 use Rattle.view_laws.proofs.NameLaws.{names_equal, properly}
 use Rattle.view_laws.proofs.SightLaws.{space_of}
 use Rattle.view_laws.proofs.QueueLaws.{can_from, from_can, queue_tells}
 use Rattle.edit_laws.proofs.ViewLaws.{not_above}
 use Rattle.turn_laws.specs.Kept.{IsKept}
-use Rattle.turn_laws.specs.Telling.{others_of, staying}
+use Rattle.turn_laws.specs.Telling.{others_of, is_able_still, staying}
 use Rattle.turn_laws.proofs.HeadLaws.{kept_head}
 use Rattle.quiet_laws.specs.Unknown.{AreUnknown}
-use Rattle.quiet_laws.specs.Among.{above_of, woken}
-use Rattle.quiet_laws.specs.Awake.{IsAble}
+use Rattle.quiet_laws.specs.Among.{above_of, woken, rejoined}
+use Rattle.quiet_laws.specs.Awake.{IsAble, rest_and}
 use Rattle.quiet_laws.proofs.HeldLaws.{GivesMore}
-use Rattle.quiet_laws.proofs.WakeLaws.{GoesTo, found_put, pairs, ascending, goes_above, rests, after_own}
+use Rattle.quiet_laws.proofs.WakeLaws.{GoesTo, other_able_still, found_put, pairs, ascending, goes_above, rests, after_own}
 use Rattle.quiet_laws.proofs.StillLaws.{thread_stays}
 
 -- Threads that can step by what their space sees alone
@@ -43,6 +45,7 @@ stated layers s known (Acts act) e = refl
 stated layers s known (Edits edit) e = refl
 stated layers s known (RaisesKind kind) e = refl
 stated layers s known (RaisesTerm x) e = refl
+stated layers s known (Widens ts) e = refl
 stated layers s known (Rests ready) e = refl
 
 pub able_ready : (statements : List Statement) (layers : List Layer) (space : List ℕ) (t : Thread) → can_step (answer_ready (stack_answer (sight statements layers space) t.frames)) ≡ true
@@ -76,10 +79,11 @@ able_runs statements layers id l at opened able =
 
 -- The step
 
--- the thread that stepped joins the rest of the queue, and none of the proper ancestors of its space wakes
+-- the thread that stepped joins the rest of the queue, and none of the proper ancestors of its space wakes, where of the rest all of other
+-- spaces stay
 pub record WakesNone (statements : List Statement) (layers : List Layer) (id : Ident) (queue : List Ident) : Type 0 where
-  pub stays : staying statements layers id queue ≡ queue ++ id ∷ []
-  pub none : woken statements layers id.space (queue ++ id ∷ []) ≡ []
+  pub joins : mover_in (Some id) (runnable statements layers) ≡ id ∷ []
+  pub none : (rest : List Ident) → ((o : Ident) → In o queue → (o.space ≡ id.space → ⊥) → In o rest) → woken statements layers id.space (rest ++ id ∷ []) ≡ []
 
 module _ (statements : List Statement) (c : Configuration) (id : Ident) (queue : List Ident) (before after : Layer) (news : List Thread) (xs : List Ident) (kept : IsKept statements (record c { queue = id ∷ queue }))
     (at : layer_at c.layers id.space ≡ Some before) (goes : GoesTo id.number before after news) (gives : GivesMore before after xs) (unknown : AreUnknown statements c.layers id.space xs)
@@ -112,7 +116,9 @@ module _ (statements : List Statement) (c : Configuration) (id : Ident) (queue :
   able_id = able_runs statements new id after own_there opened able
 
   goes_still : (u : List ℕ) → is_below u t ≡ true → goes_on statements new u ≡ true
-  goes_still u e = queue_tells statements new ids u (λ o. refl) ∙ by_some (λ (o : Ident). is_below u o.space) ids id (contains-from_In ids id able_id) e
+  goes_still u e =
+      queue_tells statements new ids u (λ o. refl)
+      ∙ or_left (list_any (λ (o : Ident). is_below u o.space) ids) (is_due_below new u) (by_some (λ (o : Ident). is_below u o.space) ids id (contains-from_In ids id able_id) e)
 
   same_ready : (u : List ℕ) → view new u ≡ view old u → (th : Thread) → thread_ready statements new u th ≡ thread_ready statements old u th
   same_ready =
@@ -135,30 +141,37 @@ module _ (statements : List Statement) (c : Configuration) (id : Ident) (queue :
     | inr r ↦ absurd ((properly l.space t above).1 (ap (λ (m : Layer). m.space) r.2 ∙ own))
   ]
 
-  abbrev stay : List Ident
-  stay = queue ++ id ∷ []
+  module _ (rest : List Ident) (stays : (o : Ident) → In o queue → (o.space ≡ t → ⊥) → In o rest) where
+    abbrev stay : List Ident
+    stay = rest ++ id ∷ []
 
-  none_wakes : woken statements new t stay ≡ []
-  none_wakes = filter_none (λ (o : Ident). not (is_among stay o)) (flat_map (runnable_in statements new) (above_of new t)) each
-    where
-      each : (o : Ident) → In o (flat_map (runnable_in statements new) (above_of new t)) → not (is_among stay o) ≡ false
-      each o i =
-          let l = In-flat_back (runnable_in statements new) o (above_of new t) i in
-          let f = filter_in (λ (m : Layer). is_properly_below m.space t) new l.0 l.1 in
-          ap not (in_among stay o (In-left o queue (id ∷ []) (was_queued l.0 o f.0 f.1 l.2)))
+    none_wakes : woken statements new t stay ≡ []
+    none_wakes = filter_none (λ (o : Ident). not (is_among stay o)) (flat_map (runnable_in statements new) (above_of new t)) each
+      where
+        each : (o : Ident) → In o (flat_map (runnable_in statements new) (above_of new t)) → not (is_among stay o) ≡ false
+        each o i =
+            let l = In-flat_back (runnable_in statements new) o (above_of new t) i in
+            let f = filter_in (λ (m : Layer). is_properly_below m.space t) new l.0 l.1 in
+            let s = can_from statements new l.0 o l.2 in
+            let apart : o.space ≡ t → ⊥ = λ q. (properly l.0.space t f.1).1 (ap (λ (n : Ident). n.space) s.name ∙ q) in
+            ap not (in_among stay o (In-left o rest (id ∷ []) (stays o (was_queued l.0 o f.0 f.1 l.2) apart)))
 
   pub wakes_none : WakesNone statements new id queue
-  wakes_none = record { stays = ap (λ (b : Bool). queue ++ (if b then id ∷ [] else [])) (in_among ids id able_id); none = none_wakes }
+  wakes_none = record { joins = ap (λ (b : Bool). if b then id ∷ [] else []) (in_among ids id able_id); none = none_wakes }
 
 -- the queue is then shorter to say
 pub quiet_awake : (statements : List Statement) (layers : List Layer) (id : Ident) (queue ys : List Ident) → WakesNone statements layers id queue
-    → staying statements layers id queue ++ woken statements layers id.space (staying statements layers id queue) ++ ys ≡ (queue ++ id ∷ []) ++ ys
+    → rejoined statements layers id queue ++ woken statements layers id.space (rejoined statements layers id queue) ++ ys ≡ (queue ++ id ∷ []) ++ ys
 quiet_awake statements layers id queue ys w =
-    ap (λ (q : List Ident). q ++ woken statements layers id.space q ++ ys) w.stays ∙ ap (λ (zs : List Ident). queue ++ id ∷ [] ++ zs ++ ys) w.none ∙ ap (λ (zs : List Ident). zs ++ ys) (append-nil (queue ++ id ∷ []))
+    ap (λ (ms : List Ident). queue ++ ms ++ woken statements layers id.space (queue ++ ms) ++ ys) w.joins
+    ∙ ap (λ (zs : List Ident). queue ++ id ∷ [] ++ zs ++ ys) (w.none queue (λ o h apart. h)) ∙ ap (λ (zs : List Ident). zs ++ ys) (append-nil (queue ++ id ∷ []))
 
 pub told_awake : (statements : List Statement) (layers : List Layer) (id : Ident) (queue ys : List Ident) → WakesNone statements layers id queue
     → staying statements layers id queue ++ woken statements layers id.space (staying statements layers id queue) ++ others_of (staying statements layers id queue) ys
-    ≡ (queue ++ id ∷ []) ++ others_of (queue ++ id ∷ []) ys
+    ≡ rest_and statements layers id queue ++ others_of (rest_and statements layers id queue) ys
 told_awake statements layers id queue ys w =
-    ap (λ (q : List Ident). q ++ woken statements layers id.space q ++ others_of q ys) w.stays ∙ ap (λ (zs : List Ident). queue ++ id ∷ [] ++ zs ++ others_of (queue ++ id ∷ []) ys) w.none
-    ∙ ap (λ (zs : List Ident). zs ++ others_of (queue ++ id ∷ []) ys) (append-nil (queue ++ id ∷ []))
+    let rest : List Ident = filter (is_able_still statements layers id.space) queue in
+    ap (λ (ms : List Ident). rest ++ ms ++ woken statements layers id.space (rest ++ ms) ++ others_of (rest ++ ms) ys) w.joins
+    ∙ ap (λ (zs : List Ident). rest ++ id ∷ [] ++ zs ++ others_of (rest ++ id ∷ []) ys)
+    (w.none rest (λ o h apart. in_filter (is_able_still statements layers id.space) queue o h (other_able_still statements layers id.space o apart)))
+    ∙ ap (λ (zs : List Ident). zs ++ others_of (rest ++ id ∷ []) ys) (append-nil (rest ++ id ∷ []))

@@ -1,5 +1,5 @@
 -- By which ancestors' variables a space goes after a step above it that gives some out: those are unknown below.
-use Rattle.std.proofs.Common.{◌≡◌, ◌⊎◌, inl, inr, ℕ, suc, zero, ◌+◌, ◌<◌, ◌≤◌, nat_lt, Bool, true, false, if◌then◌else◌, List, [], map, flat_map, refl, sym, ap, subst, ◌∙◌, arith, Contains, Option, Some, None}
+use Rattle.std.proofs.Common.{◌≡◌, ◌⊎◌, inl, inr, ℕ, suc, zero, ◌+◌, ◌<◌, ◌≤◌, nat_lt, Bool, true, false, if◌then◌else◌, List, [], ◌∷◌, ◌++◌, map, flat_map, refl, sym, ap, ap₂, subst, ◌∙◌, arith, Contains, Option, Some, None}
 use Rattle.std.specs.List.{list_any, range_with_len}
 use Rattle.std.proofs.lemmas.Bool.{false≢true}
 use Rattle.std.proofs.lemmas.Bool.Decides.{nat_tests}
@@ -7,24 +7,29 @@ use Rattle.oz_base.specs.Names.{ident_eq}
 use Rattle.oz_base.specs.declared.names.Ident.{Ident}
 use Rattle.oz_language.specs.declared.kernel.Statement.{Statement}
 use Rattle.oz_semantics.specs.Names.{is_below, is_properly_below, parent_of, named}
-use Rattle.oz_semantics.specs.Store.{View, Same, itself, same, value_of, named_by}
+use Rattle.oz_semantics.specs.Store.{View, Same, itself, same, common, told_value, told_domain, value_of, domain_by, domain_of, named_by}
 use Rattle.oz_semantics.specs.Configurations.{is_of, layer_at, view, in_layer, variables_of, ancestor_variables}
 use Rattle.oz_semantics.specs.Sights.{States}
-use Rattle.oz_semantics.specs.Spaces.{waited_in, values_eq, alike_on}
+use Rattle.oz_semantics.specs.Spaces.{waited_in, undecided_in, values_eq, domains_eq, alike_on}
 use Rattle.oz_semantics.specs.declared.value.Value.{Value}
 use Rattle.oz_semantics.specs.declared.value.Tell.{Tell}
-use Rattle.oz_semantics.specs.declared.value.Tell.TheVariants.{Is}
+use Rattle.oz_semantics.specs.declared.value.Tell.TheVariants.{Is, Within}
 use Rattle.oz_semantics.specs.declared.configuration.Layer.{Layer}
 use Rattle.oz_laws.proofs.SameLaws.{In, In-from_contains, contains-from_In, In-flat, In-flat_back, ident_eq-true, ident_eq-refl, tests_same}
-use Rattle.view_laws.proofs.Members.{bool_eq, decide, some_of, by_some}
+use Rattle.oz_laws.proofs.StoreLaws.{told_sets, told_set_by}
+use Rattle.view_laws.proofs.Members.{In-cases, bool_eq, decide, some_of, by_some}
 use Rattle.view_laws.proofs.ListLaws.{map_in, in_map, in_edit, edit_in, edited_in, found_in}
 use Rattle.view_laws.proofs.NameLaws.{below_trans, properly_trans}
-use Rattle.view_laws.proofs.ViewLaws.{same_named, given_value}
+use Rattle.view_laws.proofs.ViewLaws.{same_named, given_told}
 use Rattle.view_laws.proofs.TouchedLaws.{AreAlike, alike_meaning, meaning_alike}
 use Rattle.quiet_laws.specs.Unknown.{IsUnknown, AreUnknown}
 use Rattle.quiet_laws.proofs.StateLaws.{Rests, parent_over}
 
--- A variable that no tell names is equal to itself alone, and has no value
+nothing_in : {A : Type 0} (xs : List A) → ((x : A) → In x xs → ⊥) → xs ≡ []
+nothing_in [] h = refl
+nothing_in (x ∷ xs) h = absurd (h x (inl refl))
+
+-- A variable that no tell names is equal to itself alone, and has no value and no domain
 
 module _ (ts : List Tell) (x : Ident) (unnamed : Contains (flat_map named_by ts) x → ⊥) where
   itself_alone : (y : Ident) → Same ts x y → x ≡ y
@@ -46,15 +51,29 @@ module _ (ts : List Tell) (x : Ident) (unnamed : Contains (flat_map named_by ts)
       bool_eq (same ts y x) (ident_eq y x) (λ e. subst (λ z. ident_eq y z ≡ true) (alone_itself y ((tests_same ts y x).0 e)) (ident_eq-refl y))
       (λ e. equal_ones y x (ident_eq-true y x e))
 
-  pub valueless : value_of ts x ≡ None
-  valueless = by (value_of ts x) refl
+  unnamed_tell : (t : Tell) → Contains ts t → In x (named_by t) → ⊥
+  unnamed_tell t c h = unnamed (contains-from_In (flat_map named_by ts) x (In-flat named_by t x ts (In-from_contains ts t c) h))
+
+  untold : told_value ts x ≡ None
+  untold = by (told_value ts x) refl
     where
-      by : (o : Option Value) → value_of ts x ≡ o → o ≡ None
+      by : (o : Option Value) → told_value ts x ≡ o → o ≡ None
       by None e = refl
       by (Some v) e =
-          let g = given_value ts x v e in
-          let same_one : g.variable ≡ x = alone_itself g.variable g.equal in
-          absurd (unnamed (subst (Contains (flat_map named_by ts)) same_one (contains-from_In (flat_map named_by ts) g.variable (In-flat named_by (Is g.variable v) g.variable ts (In-from_contains ts (Is g.variable v) g.told) (inl refl)))))
+          let g = given_told ts x v e in
+          absurd (unnamed_tell (Is g.variable v) g.told (inl (alone_itself g.variable g.equal)))
+
+  unbound : told_domain ts x ≡ None
+  unbound =
+      ap common (nothing_in (told_sets ts x) (λ s h.
+      let g = told_set_by ts x s h in
+      unnamed_tell (Within g.variable g.intervals) g.tells (inl (alone_itself g.variable g.equal))))
+
+  pub valueless : value_of ts x ≡ None
+  valueless = rw (untold, unbound) refl
+
+  pub domainless : domain_of ts x ≡ None
+  domainless = ap₂ domain_by untold unbound
 
 -- Variables of layers
 
@@ -181,7 +200,7 @@ module _ (statements : List Statement) (space : List ℕ) (old : List Layer) (be
     unknown_here : (x : Ident) → In x xs → is_properly_below space l.space ≡ true → IsUnknown statements old l x
     unknown_here x h below = unknown l x (contains-from_In old l there) below (contains-from_In xs x h)
 
-    held_same : (m : Layer) (states : States) (x : Ident) → In m old → is_below l.space m.space ≡ true → In x (waited_in statements old states m)
+    held_same : (m : Layer) (states : States) (x : Ident) → In m old → is_below l.space m.space ≡ true → In x (waited_in statements old states m ++ undecided_in (view old m.space) m)
         → list_any (same (view old m.space) x) later ≡ list_any (same (view old m.space) x) mine
     held_same m states x i under waits = bool_eq (list_any (same (view old m.space) x) later) (list_any (same (view old m.space) x) mine) fewer more
       where
@@ -192,7 +211,10 @@ module _ (statements : List Statement) (space : List ℕ) (old : List Layer) (be
               | inl k ↦ by_some (same (view old m.space) x) mine y.0 (contains-from_In mine y.0 k) y.2
               | inr g ↦ (let u = unknown m y.0 (contains-from_In old m i) (properly_trans space l.space m.space g.1 under) (contains-from_In xs y.0 g.0) in
                   let one : x ≡ y.0 = ident_eq-true x y.0 (sym (lone_right (view old m.space) y.0 u.unnamed x) ∙ y.2) in
-                  absurd (u.unwaited states (subst (Contains (waited_in statements old states m)) one (contains-from_In (waited_in statements old states m) x waits))))
+                  elim (In-cases x (waited_in statements old states m) (undecided_in (view old m.space) m) waits) [
+                    | inl w ↦ absurd (u.unwaited states (subst (Contains (waited_in statements old states m)) one (contains-from_In (waited_in statements old states m) x w)))
+                    | inr w ↦ absurd (u.unposted (subst (Contains (undecided_in (view old m.space) m)) one (contains-from_In (undecided_in (view old m.space) m) x w)))
+                  ])
             ]
 
         more : list_any (same (view old m.space) x) mine ≡ true → list_any (same (view old m.space) x) later ≡ true
@@ -212,6 +234,9 @@ module _ (statements : List Statement) (space : List ℕ) (old : List Layer) (be
     free_values : (x : Ident) → Free x → values_eq (value_of v x) (value_of p x) ≡ true
     free_values x f = rw (valueless v x f.0, valueless p x f.1) refl
 
+    free_domains : (x : Ident) → Free x → domains_eq (domain_of v x) (domain_of p x) ≡ true
+    free_domains x f = rw (domainless v x f.0, domainless p x f.1) refl
+
     free_left : (x y : Ident) → Free x → same v x y ≡ same p x y
     free_left x y f = lone_left v x f.0 y ∙ sym (lone_left p x f.1 y)
 
@@ -221,6 +246,7 @@ module _ (statements : List Statement) (space : List ℕ) (old : List Layer) (be
     alike_later : AreAlike mine v p → AreAlike later v p
     alike_later a = record {
       values = λ x h. elim (old_or_free x h) [ inl k ↦ a.values x k | inr f ↦ free_values x f ];
+      domains = λ x h. elim (old_or_free x h) [ inl k ↦ a.domains x k | inr f ↦ free_domains x f ];
       equal = λ x y h k. elim (old_or_free x h) [
         | inl m ↦ elim (old_or_free y k) [ inl n ↦ a.equal x y m n | inr f ↦ free_right x y f ]
         | inr f ↦ free_left x y f
@@ -230,7 +256,7 @@ module _ (statements : List Statement) (space : List ℕ) (old : List Layer) (be
     alike_before : AreAlike later v p → AreAlike mine v p
     alike_before a =
         let keep : (x : Ident) → Contains mine x → Contains later x = λ x h. contains-from_In later x (ancestors_kept l.space x (In-from_contains mine x h)) in
-        record { values = λ x h. a.values x (keep x h); equal = λ x y h k. a.equal x y (keep x h) (keep y k) }
+        record { values = λ x h. a.values x (keep x h); domains = λ x h. a.domains x (keep x h); equal = λ x y h k. a.equal x y (keep x h) (keep y k) }
 
     alike_same : alike_on later v p ≡ alike_on mine v p
     alike_same =

@@ -6,8 +6,6 @@ pub mod ComeLaws
 pub mod WakeLaws
 pub mod GivenLaws
 pub mod QuietLaws
-pub mod RestLaws
-pub mod LoneLaws
 pub mod ToldLaws
 pub mod StillLaws
 pub mod AwakeLaws

@@ -83,7 +83,7 @@ module _ (layers : List Layer) (s : Sight) (known later : States) (moves : (c : 
   operation_still op child x y told below = moved_steps s (view layers child) op child x (state_in known child) (state_in later child) (moves child below)
 
   stack_still : (frames : List Frame) → StepsStill (stack_answer s frames)
-  stack_still frames = stack_holds s StepsStill (λ act e. e) (λ procedure x e. e) (λ kind e. e) (λ x e. e) (λ ready e. e) operation_still frames
+  stack_still frames = stack_holds s StepsStill (λ act e. e) (λ procedure x e. e) (λ kind e. e) (λ x e. e) (λ ts e. e) (λ ready e. e) operation_still frames
 
 -- So a thread that can step can step still, where the states of the spaces in its own stay, but for those of spaces that ran
 pub ready_still : (statements : List Statement) (layers : List Layer) (space : List ℕ) (known later : States) → ((c : List ℕ) → is_child_of space c ≡ true → Moves (state_in known c) (state_in later c))

@@ -35,16 +35,16 @@ use Rattle.view_laws.proofs.SettleLaws.{quiet_sound}
 use Rattle.settle_laws.proofs.SettleLaws.{settled_by}
 use Rattle.settle_laws.proofs.SoundLaws.{sound_settles}
 use Rattle.turn_laws.specs.Kept.{IsKept}
-use Rattle.turn_laws.specs.Telling.{others_of, staying}
+use Rattle.turn_laws.specs.Telling.{others_of}
 use Rattle.turn_laws.proofs.HeadLaws.{kept_head, head_numbered}
 use Rattle.quiet_laws.specs.Unknown.{given_by, given_in, AreUnknown}
-use Rattle.quiet_laws.specs.Among.{woken, ChangesAmong, StackAmong}
+use Rattle.quiet_laws.specs.Among.{woken, rejoined, ChangesAmong, StackAmong}
 use Rattle.quiet_laws.specs.Awake.{IsAble, ChangesAwake, StackAwake}
 use Rattle.quiet_laws.proofs.UnknownLaws.{none_given}
 use Rattle.quiet_laws.proofs.HeldLaws.{GivesMore, gives_more}
 use Rattle.quiet_laws.proofs.GivenLaws.{Gave, changes_gave, edit_gave, popped_there, gave_there}
 use Rattle.quiet_laws.proofs.AwakeLaws.{WakesNone, wakes_none, quiet_awake}
-use Rattle.quiet_laws.proofs.WakeLaws.{GoesTo, filter_twice, frames_there, found_put, queued, same_there}
+use Rattle.quiet_laws.proofs.WakeLaws.{GoesTo, filter_twice, frames_there, found_put, queued, rest_rejoins, same_there}
 
 abbrev has_frames : Thread → Bool
 has_frames th = not (is_empty th.frames)
@@ -92,12 +92,13 @@ module _ (statements : List Statement) (c : Configuration) (id : Ident) (queue :
   ids = runnable statements new
 
   abbrev stay : List Ident
-  stay = staying statements new id queue
+  stay = rejoined statements new id queue
 
   all_queued : queue_after ids (Some id) queue ≡ stay ++ woken statements new t stay ++ others_of stay (runnable_in statements new after)
   all_queued =
       queued statements c id queue before after news xs kept at goes gives unknown (λ u e. seen u) (λ l i e. (seen l.space, seen (parent_of l.space)))
-      (λ th e. ap can_step (own_same th) ∙ e)
+      ∙ ap (λ (q : List Ident). q ++ woken statements new t q ++ others_of q (runnable_in statements new after))
+      (rest_rejoins statements c id queue before after news xs kept at goes gives unknown (λ u e. seen u) (λ l i e. (seen l.space, seen (parent_of l.space))) (λ th e. ap can_step (own_same th) ∙ e))
 
   -- The thread that stepped, the others of its layer, and the new ones
 
@@ -232,8 +233,8 @@ module _ (statements : List Statement) (c : Configuration) (id : Ident) (queue :
         record c {
           layers = layers;
           queue =
-              staying statements layers id queue
-              ++ woken statements layers t (staying statements layers id queue)
+              rejoined statements layers id queue
+              ++ woken statements layers t (rejoined statements layers id queue)
               ++ runnable_in statements layers (record before { threads = news });
         },
       )
@@ -244,7 +245,7 @@ module _ (statements : List Statement) (c : Configuration) (id : Ident) (queue :
         Moved cost,
         record c {
           layers = ls;
-          queue = staying statements ls id queue ++ woken statements ls t (staying statements ls id queue) ++ runnable_in statements ls (record before { threads = news });
+          queue = rejoined statements ls id queue ++ woken statements ls t (rejoined statements ls id queue) ++ runnable_in statements ls (record before { threads = news });
         },
       )) (sym (f ∙ e))
 
@@ -327,9 +328,9 @@ stack_among statements c id queue frames cost kept layers e none =
     (none_given statements c.layers id.space [] refl) (λ t h. elim (In-from_contains [] t h) [ ]) cost result layers made.left e none
     ∙ ap (λ (ys : List Ident). (
       Moved cost,
-      record c { layers = layers; queue = staying statements layers id queue ++ woken statements layers id.space (staying statements layers id queue) ++ ys },
+      record c { layers = layers; queue = rejoined statements layers id queue ++ woken statements layers id.space (rejoined statements layers id queue) ++ ys },
     )) (no_news layers first)
-    ∙ ap (λ (q : List Ident). (Moved cost, record c { layers = layers; queue = q })) (append-nil (staying statements layers id queue ++ woken statements layers id.space (staying statements layers id queue)))
+    ∙ ap (λ (q : List Ident). (Moved cost, record c { layers = layers; queue = q })) (append-nil (rejoined statements layers id queue ++ woken statements layers id.space (rejoined statements layers id queue)))
   where
     no_news : (ls : List Layer) (l : Layer) → runnable_in statements ls (record l { threads = [] }) ≡ []
     no_news ls l = by (is_open l.status)
@@ -349,4 +350,5 @@ stack_awake statements c id queue frames cost kept layers e none able =
     (none_given statements c.layers id.space [] refl) (λ t h. elim (In-from_contains [] t h) [ ]) result layers made.left e able in
     stack_among statements c id queue frames cost kept layers e none
     ∙ ap (λ (q : List Ident). (Moved cost, record c { layers = layers; queue = q }))
-    (ap (λ (q : List Ident). q ++ woken statements layers id.space q) wakes.stays ∙ ap (λ (zs : List Ident). (queue ++ id ∷ []) ++ zs) wakes.none ∙ append-nil (queue ++ id ∷ []))
+    (sym (append-nil (rejoined statements layers id queue ++ woken statements layers id.space (rejoined statements layers id queue)))
+    ∙ quiet_awake statements layers id queue [] wakes ∙ append-nil (queue ++ id ∷ []))

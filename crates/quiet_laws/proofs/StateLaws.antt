@@ -8,7 +8,7 @@ use Rattle.oz_semantics.specs.Names.{is_below, is_properly_below, is_child_of, p
 use Rattle.oz_semantics.specs.Store.{View, same, is_determined}
 use Rattle.oz_semantics.specs.Configurations.{is_open, view, ancestor_variables}
 use Rattle.oz_semantics.specs.Sights.{States, state_in, Readiness, can_step, waits_of, offer_of}
-use Rattle.oz_semantics.specs.Spaces.{readinesses, layer_goes_on, waited_in, layers_below, subtree_goes_on, is_held, layer_waits, waits_outside, alike_on, is_stable, offer_in, stable_state, open_state, state_by, states_behind, states_of, thread_ready, goes_on}
+use Rattle.oz_semantics.specs.Spaces.{readinesses, has_due, layer_goes_on, waited_in, undecided_in, layers_below, subtree_goes_on, is_held, layer_waits, waits_outside, alike_on, is_stable, offer_in, is_left, stable_state, open_state, state_by, states_behind, states_of, thread_ready, goes_on}
 use Rattle.oz_semantics.specs.declared.configuration.Thread.{Thread}
 use Rattle.oz_semantics.specs.declared.configuration.Status.{Status}
 use Rattle.oz_semantics.specs.declared.configuration.Status.TheVariants as status
@@ -58,7 +58,7 @@ pub runs : (statements : List Statement) (layers front ls : List Layer) (l : Lay
     → open_state statements layers (states_behind statements layers ls) l ≡ states.Running
 runs statements layers front ls l ordered parts goes =
     ap (λ (b : Bool). if b then states.Running
-    else (if is_stable statements layers (states_behind statements layers ls) l.space then stable_state (offer_in statements layers (states_behind statements layers ls) l) l.threads else states.Suspended))
+    else (if is_stable statements layers (states_behind statements layers ls) l.space then stable_state (offer_in statements layers (states_behind statements layers ls) l) (is_left (view layers l.space) l) else states.Suspended))
     (behind_goes_on statements layers front ls l parts ordered ∙ goes)
 
 -- The layers before the step in a space and after it
@@ -81,7 +81,7 @@ module _ (statements : List Statement) (space : List ℕ) (old new : List Layer)
     pub seen : view new l.space ≡ view old l.space
     pub above : view new (parent_of l.space) ≡ view old (parent_of l.space)
     pub held :
-        (m : Layer) (states : States) (x : Ident) → In m old → is_below l.space m.space ≡ true → In x (waited_in statements old states m)
+        (m : Layer) (states : States) (x : Ident) → In m old → is_below l.space m.space ≡ true → In x (waited_in statements old states m ++ undecided_in (view old m.space) m)
         → list_any (same (view old m.space) x) (ancestor_variables new l.space) ≡ list_any (same (view old m.space) x) (ancestor_variables old l.space)
     pub alike :
         alike_on (ancestor_variables new l.space) (view old l.space) (view old (parent_of l.space))
@@ -117,7 +117,7 @@ module _ (statements : List Statement) (space : List ℕ) (old new : List Layer)
           (λ j t. ready_agrees statements old after before m.space (λ c k. agree c (apart_below m.space c (child_under m.space c k) apart)) t j)
 
       goes_same : (m : Layer) → In m old → Apart m.space → layer_goes_on statements new after m ≡ layer_goes_on statements old before m
-      goes_same m i apart = ap (list_any can_step) (ready_same m i apart)
+      goes_same m i apart = ap₂ (λ (rs : List Readiness) (v : View). list_any can_step rs || has_due v m) (ready_same m i apart) (rests m i apart).seen
 
       -- of each layer of a space below it
       part_same : (p q : Layer → Bool) (u : List ℕ) → Apart u → ((m : Layer) → In m old → is_below u m.space ≡ true → p m ≡ q m) → list_any p (layers_below new u) ≡ list_any q (layers_below old u)
@@ -138,8 +138,9 @@ module _ (statements : List Statement) (space : List ℕ) (old new : List Layer)
         waits_same : (m : Layer) → In m old → is_below u m.space ≡ true → layer_waits statements new after (ancestor_variables new u) m ≡ layer_waits statements old before (ancestor_variables old u) m
         waits_same m i k =
             let off = apart_below u m.space k apart in
-            ap₂ (λ (rs : List Readiness) (v : View). list_any (is_held v (ancestor_variables new u)) (flat_map waits_of rs)) (ready_same m i off) (rests m i off).seen
-            ∙ any_in (is_held (view old m.space) (ancestor_variables new u)) (is_held (view old m.space) (ancestor_variables old u)) (waited_in statements old before m)
+            ap₂ (λ (rs : List Readiness) (v : View). list_any (is_held v (ancestor_variables new u)) (flat_map waits_of rs ++ undecided_in v m)) (ready_same m i off) (rests m i off).seen
+            ∙ any_in (is_held (view old m.space) (ancestor_variables new u)) (is_held (view old m.space) (ancestor_variables old u))
+            (waited_in statements old before m ++ undecided_in (view old m.space) m)
             (λ x j. ap (λ b. not (is_determined (view old m.space) x) && b) (still.held m before x i k j))
 
         outside_same : waits_outside statements new after u ≡ waits_outside statements old before u
@@ -156,13 +157,13 @@ module _ (statements : List Statement) (space : List ℕ) (old new : List Layer)
             ap (λ b. stable_by b (waits_outside statements new after u) (alike_on (ancestor_variables new u) (view new u) (view new (parent_of u)))) (subtree_same u apart)
             ∙ ap₂ (λ (w a : Bool). stable_by (subtree_goes_on statements old before u) w a) outside_same alike_same
 
-        abbrev open_by : Bool → Bool → List Readiness → State
-        open_by b c rs = if b then states.Running else (if c then stable_state (first (filter_map offer_of rs)) l.threads else states.Suspended)
+        abbrev open_by : View → Bool → Bool → List Readiness → State
+        open_by v b c rs = if b then states.Running else (if c then stable_state (first (filter_map offer_of rs)) (is_left v l) else states.Suspended)
 
         open_same : open_state statements new after l ≡ open_state statements old before l
         open_same =
-            ap (λ b. open_by b (is_stable statements new after u) (readinesses statements new after l)) (subtree_same u apart)
-            ∙ ap₂ (λ (c : Bool) (rs : List Readiness). open_by (subtree_goes_on statements old before u) c rs) stable_same (ready_same l there apart)
+            ap₂ (λ (v : View) (b : Bool). open_by v b (is_stable statements new after u) (readinesses statements new after l)) still.seen (subtree_same u apart)
+            ∙ ap₂ (λ (c : Bool) (rs : List Readiness). open_by (view old u) (subtree_goes_on statements old before u) c rs) stable_same (ready_same l there apart)
 
         state_same : (st : Status) → state_by statements new after l st ≡ state_by statements old before l st
         state_same status.Open = open_same

@@ -1,13 +1,11 @@
 -- What a step that tells a space with none below it makes of the queue.
-use Rattle.std.proofs.Common.{◌≡◌, inl, inr, ℕ, Bool, true, false, cond, List, [], ◌∷◌, ◌++◌, filter, refl, sym, ap, subst, ◌∙◌, Contains, Option, Some, is_some, unwrap_or}
+use Rattle.std.proofs.Common.{◌≡◌, inl, inr, ℕ, Bool, true, false, cond, List, [], ◌∷◌, ◌++◌, filter, refl, sym, ap, subst, ◌∙◌, Contains, Option, Some, unwrap_or}
 use Rattle.oz_base.specs.Lists.{list_eq}
 use Rattle.oz_base.specs.declared.names.Ident.{Ident}
 use Rattle.oz_language.specs.declared.kernel.Statement.{Statement}
 use Rattle.oz_semantics.specs.Names.{is_below, is_properly_below, parent_of}
 use Rattle.oz_semantics.specs.Store.{View, is_consistent}
 use Rattle.oz_semantics.specs.Configurations.{is_of, layer_at, layer_of, new_layer, view, in_layer, without_terminated, telling}
-use Rattle.oz_semantics.specs.Sights.{can_step}
-use Rattle.oz_semantics.specs.Spaces.{thread_ready}
 use Rattle.oz_semantics.specs.Changes.{Change, GivesOut, changed, changed_all, done}
 use Rattle.oz_semantics.specs.Settling.{Turned, is_inconsistent, inconsistent_spaces, queue_after, runnable_in, runnable, settled}
 use Rattle.oz_semantics.specs.Steps.{without_top}
@@ -17,14 +15,12 @@ use Rattle.oz_semantics.specs.declared.configuration.Layer.{Layer}
 use Rattle.oz_semantics.specs.declared.configuration.Configuration.{Configuration}
 use Rattle.oz_semantics.specs.declared.outcome.Stepped.TheVariants.{Moved}
 use Rattle.oz_laws.proofs.SameLaws.{In, In-from_contains, contains-from_In}
-use Rattle.oz_laws.proofs.StoreLaws.{tests_consistent}
-use Rattle.view_laws.specs.Sights.{SeesBesides}
 use Rattle.view_laws.specs.Needs.{NoneNeeded}
 use Rattle.view_laws.specs.Steps.{spawned_from, MadeOf, IsSound}
-use Rattle.view_laws.proofs.Members.{decide, not_both, has-left, has-right}
+use Rattle.view_laws.proofs.Members.{decide, not_both}
 use Rattle.view_laws.proofs.ListLaws.{in_filter, map_in, in_edit}
 use Rattle.view_laws.proofs.NameLaws.{below_itself, below_trans, names_equal, properly, properly_by}
-use Rattle.view_laws.proofs.SightLaws.{space_of, change_unseen, quiet_unseen, tell_seen}
+use Rattle.view_laws.proofs.SightLaws.{space_of, change_unseen, quiet_unseen}
 use Rattle.view_laws.proofs.ChangeLaws.{edit_of, changed_by, edit_keeps}
 use Rattle.view_laws.proofs.StepLaws.{changes_made}
 use Rattle.view_laws.proofs.NeedLaws.{nothing_fires}
@@ -32,7 +28,7 @@ use Rattle.view_laws.proofs.SettleLaws.{quiet_sound}
 use Rattle.settle_laws.proofs.EditLaws.{edits_join, edits_agree}
 use Rattle.settle_laws.proofs.SettleLaws.{settled_by}
 use Rattle.settle_laws.proofs.SoundLaws.{sound_settles}
-use Rattle.settle_laws.proofs.TellLaws.{consistent_part, tell_below}
+use Rattle.settle_laws.proofs.TellLaws.{tell_below}
 use Rattle.turn_laws.specs.Kept.{IsKept}
 use Rattle.turn_laws.specs.Telling.{IsAlone, others_of, staying}
 use Rattle.turn_laws.proofs.HeadLaws.{kept_head}
@@ -45,7 +41,6 @@ use Rattle.quiet_laws.proofs.HeldLaws.{GivesMore}
 use Rattle.quiet_laws.proofs.AwakeLaws.{WakesNone, wakes_none, told_awake}
 use Rattle.quiet_laws.proofs.WakeLaws.{GoesTo, found_put, queued}
 use Rattle.quiet_laws.proofs.QuietLaws.{changes_give}
-use Rattle.quiet_laws.proofs.LoneLaws.{alone_still}
 
 -- A tell may come after the changes
 
@@ -177,21 +172,11 @@ module _ (statements : List Statement) (c : Configuration) (id : Ident) (queue :
       subst (λ (ls : List Layer). WakesNone statements ls id queue) (sym (e ∙ result_new))
       (wakes_none statements c id queue before after news (given_in before changes) kept at goes gives unknown unseen lower (subst (λ (ls : List Layer). IsAble statements ls id) (e ∙ result_new) able))
 
-  own_seen : SeesBesides (view old t) (view new t) ts
-  own_seen = tell_seen (λ m. after) old t t ts keeps_name (λ l e. ap (λ (us : List Tell). us ++ ts) (keeps_tells l e)) (ap is_some at) (below_itself t)
-
-  own_consistent : is_consistent (view new t) ≡ true
-  own_consistent =
-      consistent_part (view new t) (view old t ++ ts) (λ u h. elim (own_seen.only u h) [ inl k ↦ has-left u (view old t) ts k | inr k ↦ has-right u (view old t) ts k ]) fits
-
   alone_later : IsAlone new t
   alone_later l h = elim (in_edit (is_of t) (λ m. after) old l (In-from_contains new l h)) [
     | inl k ↦ alone l (contains-from_In old l k)
     | inr r ↦ (ap (λ (m : Layer). is_properly_below t m.space) r.2 ∙ ap (is_properly_below t) own ∙ elim (decide (is_properly_below t t)) [ inl k ↦ absurd ((properly t t k).1 refl) | inr k ↦ k ])
   ]
-
-  own_still : (th : Thread) → can_step (thread_ready statements old t th) ≡ true → can_step (thread_ready statements new t th) ≡ true
-  own_still = alone_still statements old new t alone alone_later own_seen.kept ((tests_consistent (view new t)).0 own_consistent)
 
   -- No space sees what is inconsistent
 
@@ -222,7 +207,7 @@ module _ (statements : List Statement) (c : Configuration) (id : Ident) (queue :
 
   all_queued : queue_after (runnable statements new) (Some id) queue ≡ stay ++ woken statements new t stay ++ others_of stay (runnable_in statements new (layer_of new t))
   all_queued =
-      queued statements c id queue before after news (given_in before changes) kept at goes gives unknown unseen lower own_still
+      queued statements c id queue before after news (given_in before changes) kept at goes gives unknown unseen lower
       ∙ ap (λ (o : Option Layer). stay ++ woken statements new t stay ++ others_of stay (runnable_in statements new (unwrap_or o (new_layer t))))
       (sym (found_put t after is_own old before at))
 

@@ -1,13 +1,13 @@
--- What a step of the thread at the head makes of the queue, where only its own space may see more than before: the rest stays, and
--- besides threads of the space only threads of its ancestors come.
-use Rattle.std.proofs.Common.{◌≡◌, inl, inr, ℕ, Bool, true, false, not, cond, List, [], ◌∷◌, ◌++◌, filter, refl, sym, ap, ap₂, subst, ◌∙◌, append_assoc, Option, Some}
+-- What a step of the thread at the head makes of the queue, where only its own space may see more than before: of the rest only
+-- threads of the space may leave, and besides those only threads of its ancestors come.
+use Rattle.std.proofs.Common.{◌≡◌, inl, inr, ℕ, Bool, true, false, not, ◌||◌, cond, List, [], ◌∷◌, ◌++◌, filter, refl, sym, ap, ap₂, subst, ◌∙◌, append_assoc, Option, Some, unwrap_or}
 use Rattle.std.specs.List.{find, list_any}
 use Rattle.std.proofs.lemmas.Bool.{false≢true}
 use Rattle.oz_base.specs.Lists.{list_eq, is_empty}
 use Rattle.oz_base.specs.declared.names.Ident.{Ident}
 use Rattle.oz_language.specs.declared.kernel.Statement.{Statement}
 use Rattle.oz_semantics.specs.Names.{is_below, is_properly_below, parent_of, named}
-use Rattle.oz_semantics.specs.Configurations.{is_of, layer_at, is_numbered, is_open, view, in_layer, in_thread}
+use Rattle.oz_semantics.specs.Configurations.{is_of, layer_at, layer_of, new_layer, is_numbered, is_open, view, in_layer, in_thread}
 use Rattle.oz_semantics.specs.Sights.{States, can_step}
 use Rattle.oz_semantics.specs.Readiness.{answer_ready}
 use Rattle.oz_semantics.specs.Spaces.{states_of, answer_in, thread_ready, goes_on}
@@ -18,18 +18,19 @@ use Rattle.oz_semantics.specs.declared.configuration.Layer.{Layer}
 use Rattle.oz_semantics.specs.declared.configuration.Configuration.{Configuration}
 use Rattle.oz_laws.proofs.SameLaws.{In, In-flat, In-flat_back, eq-true}
 use Rattle.view_laws.specs.Trees.{is_ascending, names_of}
-use Rattle.view_laws.proofs.Members.{In-left, decide, not_both, or_left}
+use Rattle.view_laws.specs.Queues.{is_due_below}
+use Rattle.view_laws.proofs.Members.{In-left, bool_eq, decide, not_both, or_left}
 use Rattle.view_laws.proofs.ListLaws.{among_in, in_among, in_filter, filter_all, filter_none, in_edit, edit_in, edited_in, found_in}
 use Rattle.view_laws.proofs.NameLaws.{below_itself, names_equal, equal_names, properly_by, properly}
 use Rattle.view_laws.proofs.SightLaws.{space_of}
-use Rattle.view_laws.proofs.TreeLaws.{names_edited, ascending_leads}
+use Rattle.view_laws.proofs.TreeLaws.{names_edited, ascending_leads, same_named_layer}
 use Rattle.view_laws.proofs.QueueLaws.{once_head, can_from, from_can}
 use Rattle.edit_laws.proofs.ViewLaws.{not_above}
 use Rattle.turn_laws.specs.Kept.{IsKept}
-use Rattle.turn_laws.specs.Telling.{others_of, staying}
+use Rattle.turn_laws.specs.Telling.{others_of, is_able_still, staying}
 use Rattle.turn_laws.proofs.HeadLaws.{kept_goes_on}
 use Rattle.quiet_laws.specs.Unknown.{AreUnknown}
-use Rattle.quiet_laws.specs.Among.{woken}
+use Rattle.quiet_laws.specs.Among.{woken, rejoined}
 use Rattle.quiet_laws.proofs.StateLaws.{Pairs, Rests, thread_still, thread_same}
 use Rattle.quiet_laws.proofs.HeldLaws.{GivesMore, layer_rests}
 use Rattle.quiet_laws.proofs.ComeLaws.{own_of, above_come}
@@ -46,6 +47,18 @@ filter_twice {A = A} p q h (x ∷ xs) = by (p x) (q x) refl refl (filter_twice p
     by false true e f r = ap (λ (c : Bool). cond c (x ∷ filter p (filter q xs)) (filter p (filter q xs))) e ∙ r
     by true false e f r = absurd (not_both _ (h x e) f)
     by false false e f r = r
+
+filter_same : {A : Type 0} (p q : A → Bool) (xs : List A) → ((x : A) → In x xs → p x ≡ q x) → filter p xs ≡ filter q xs
+filter_same p q [] h = refl
+filter_same p q (x ∷ xs) h =
+    ap (λ (b : Bool). cond b (x ∷ filter p xs) (filter p xs)) (h x (inl refl)) ∙ ap (λ ys. cond (q x) (x ∷ ys) ys) (filter_same p q xs (λ y i. h y (inr i)))
+
+-- a thread of another space stays in the queue
+pub other_able_still : (statements : List Statement) (layers : List Layer) (space : List ℕ) (o : Ident) → (o.space ≡ space → ⊥) → is_able_still statements layers space o ≡ true
+other_able_still statements layers space o apart = elim (decide (list_eq o.space space)) [
+  | inl k ↦ absurd (apart (equal_names o.space space k))
+  | inr k ↦ ap (λ b. not b || is_among (runnable_in statements layers (layer_of layers space)) o) k
+]
 
 -- only a thread with statements can step
 pub frames_there : (statements : List Statement) (layers : List Layer) (states : States) (space : List ℕ) (frames : List Frame)
@@ -119,7 +132,10 @@ module _ (statements : List Statement) (c : Configuration) (id : Ident) (queue :
   ascending = ap is_ascending (names_edited (is_of t) (λ m. after) old (λ l e. goes.space ∙ ap (λ (m : Layer). m.space) (found_one l e))) ∙ kept.tree.ordered
 
   pub goes_above : (u : List ℕ) → is_below u t ≡ true → goes_on statements old u ≡ true
-  goes_above u e = kept_goes_on statements (record c { queue = id ∷ queue }) u kept ∙ or_left (is_below u t) (list_any (λ (o : Ident). is_below u o.space) queue) e
+  goes_above u e =
+      kept_goes_on statements (record c { queue = id ∷ queue }) u kept
+      ∙ or_left (list_any (λ (o : Ident). is_below u o.space) (id ∷ queue)) (is_due_below c.layers u)
+      (or_left (is_below u t) (list_any (λ (o : Ident). is_below u o.space) queue) e)
 
   -- the layer of the step is not that of another space
   not_own : (l : Layer) → is_below l.space t ≡ false → l.space ≡ t → ⊥
@@ -136,27 +152,118 @@ module _ (statements : List Statement) (c : Configuration) (id : Ident) (queue :
     pub same_there : (u : List ℕ) → view new u ≡ view old u → is_properly_below u t ≡ false → (th : Thread) → thread_ready statements new u th ≡ thread_ready statements old u th
     same_there = thread_same statements t old new pairs rests
 
+    layer_still : (l : Layer) → In l old → (l.space ≡ t → ⊥) → (th : Thread) → can_step (thread_ready statements old l.space th) ≡ true → can_step (thread_ready statements new l.space th) ≡ true
+    layer_still l i apart th = by (is_below l.space t) refl
+      where
+        by : (b : Bool) → is_below l.space t ≡ b → can_step (thread_ready statements old l.space th) ≡ true → can_step (thread_ready statements new l.space th) ≡ true
+        by false e = still l.space (lower l i e).0 th
+        by true e = still l.space (unseen l.space (not_above l.space t (properly_by l.space t e apart))) th
+
+    abbrev held : List Ident
+    held = id ∷ queue
+
+    abbrev pub ids : List Ident
+    ids = runnable statements new
+
+    ran_held : (o : Ident) → In o (runnable statements old) → In o held
+    ran_held o h = among_in held o (kept.exact o ∙ in_among (runnable statements old) o h)
+
+    held_ran : (o : Ident) → In o held → In o (runnable statements old)
+    held_ran o h = among_in (runnable statements old) o (sym (kept.exact o) ∙ in_among held o h)
+
+    pub own_there : layer_at new t ≡ Some after
+    own_there = found_put t after (subst (λ s. list_eq s t ≡ true) (sym after_own) (names_equal t)) old before at
+
+    own_layer : layer_of new t ≡ after
+    own_layer = ap (λ (o : Option Layer). unwrap_or o (new_layer t)) own_there
+
+    own_in : In after new
+    own_in = edited_in (is_of t) (λ m. after) old before at
+
+    -- Only threads of the space leave the rest of the queue
+
+    other_able : (o : Ident) → In o queue → (o.space ≡ t → ⊥) → In o ids
+    other_able o h apart =
+        let l = In-flat_back (runnable_in statements old) o old (held_ran o (inr h)) in
+        let s = can_from statements old l.0 o l.2 in
+        let off : l.0.space ≡ t → ⊥ = λ q. apart (ap (λ (n : Ident). n.space) (sym s.name) ∙ q) in
+        elim (edit_in (is_of t) (λ m. after) old l.0 l.1) [
+          | inl k ↦ In-flat (runnable_in statements new) l.0 o new k
+              (from_can statements new l.0 o (record { opened = s.opened; thread = s.thread; among = s.among; ready = layer_still l.0 l.1 off s.thread s.ready; name = s.name }))
+          | inr e ↦ absurd (off (space_of old t l.0 e))
+        ]
+
+    -- a thread of the space can step just where its layer says so
+    own_runs : (o : Ident) → o.space ≡ t → is_among ids o ≡ is_among (runnable_in statements new after) o
+    own_runs o q = bool_eq _ _ forward back
+      where
+        forward : is_among ids o ≡ true → is_among (runnable_in statements new after) o ≡ true
+        forward e =
+            let l = In-flat_back (runnable_in statements new) o new (among_in ids o e) in
+            let s = can_from statements new l.0 o l.2 in
+            let name : l.0.space ≡ after.space = ap (λ (n : Ident). n.space) s.name ∙ q ∙ sym after_own in
+            let same : l.0 ≡ after = same_named_layer new l.0 after ascending l.1 own_in name in
+            in_among (runnable_in statements new after) o (subst (λ (m : Layer). In o (runnable_in statements new m)) same l.2)
+
+        back : is_among (runnable_in statements new after) o ≡ true → is_among ids o ≡ true
+        back e = in_among ids o (In-flat (runnable_in statements new) after o new own_in (among_in (runnable_in statements new after) o e))
+
+    abbrev able_still : Ident → Bool
+    able_still = is_able_still statements new t
+
+    own_still_is : (o : Ident) → list_eq o.space t ≡ true → able_still o ≡ is_among (runnable_in statements new after) o
+    own_still_is o k =
+        ap (λ b. not b || is_among (runnable_in statements new (layer_of new t)) o) k ∙ ap (λ (l : Layer). is_among (runnable_in statements new l) o) own_layer
+
+    rest_stays : filter (is_among ids) queue ≡ filter able_still queue
+    rest_stays = filter_same (is_among ids) able_still queue (λ o h. elim (decide (list_eq o.space t)) [
+      | inl k ↦ own_runs o (equal_names o.space t k) ∙ sym (own_still_is o k)
+      | inr k ↦ (let n : o.space ≡ t → ⊥ = λ q. not_both _ (subst (λ s. list_eq s t ≡ true) (sym q) (names_equal t)) k in
+          in_among ids o (other_able o h n) ∙ sym (other_able_still statements new t o n))
+    ])
+
+    -- No thread of another space comes that is not above
+
+    abbrev pub stay : List Ident
+    stay = staying statements new id queue
+
+    abbrev comes : Ident → Bool
+    comes o = not (is_among stay o)
+
+    was_queued : (l : Layer) (o : Ident) → In l new → is_below l.space t ≡ false → In o (runnable_in statements new l) → In o queue
+    was_queued l o h off i = elim (in_edit (is_of t) (λ m. after) old l h) [
+      | inl k ↦ (let s = can_from statements new l o i in
+          let seen = lower l k off in
+          let not_over : is_properly_below l.space t ≡ false = elim (decide (is_properly_below l.space t)) [ inl q ↦ absurd (not_both _ (properly l.space t q).0 off) | inr q ↦ q ] in
+          let ready = ap can_step (sym (same_there l.space seen.0 not_over s.thread)) ∙ s.ready in
+          let ran : In o (runnable statements old) =
+          In-flat (runnable_in statements old) l o old k (from_can statements old l o (record { opened = s.opened; thread = s.thread; among = s.among; ready = ready; name = s.name })) in
+          elim (ran_held o ran) [
+            | inl q ↦ absurd (not_own l off (ap (λ (n : Ident). n.space) (s.name ∙ sym q)))
+            | inr q ↦ q
+          ])
+      | inr r ↦ absurd (not_own l off (ap (λ (m : Layer). m.space) r.2 ∙ after_own))
+    ]
+
+    stays_queued : (l : Layer) (o : Ident) → In l new → is_below l.space t ≡ false → In o (runnable_in statements new l) → In o stay
+    stays_queued l o h off i =
+        let s = can_from statements new l o i in
+        let apart : o.space ≡ t → ⊥ = λ q. not_own l off (ap (λ (n : Ident). n.space) s.name ∙ q) in
+        In-left o (filter able_still queue) (mover_in (Some id) ids) (in_filter able_still queue o (was_queued l o h off i) (other_able_still statements new t o apart))
+
+    none_comes : (l : Layer) → In l new → is_below l.space t ≡ false → filter comes (runnable_in statements new l) ≡ []
+    none_comes l h off = filter_none comes (runnable_in statements new l) (λ o i. ap not (in_among stay o (stays_queued l o h off i)))
+
+    pub queued : queue_after ids (Some id) queue ≡ stay ++ woken statements new t stay ++ others_of stay (runnable_in statements new after)
+    queued =
+        ap (λ (q : List Ident). (q ++ mover_in (Some id) ids) ++ filter (λ o. not (is_among (q ++ mover_in (Some id) ids) o)) ids) rest_stays
+        ∙ ap (λ (q : List Ident). stay ++ q) (above_come (runnable_in statements new) comes t new (ascending_leads new ascending) none_comes
+        ∙ ap (λ (o : Option Layer). woken statements new t stay ++ filter comes (own_of (runnable_in statements new) o)) own_there)
+        ∙ sym (append_assoc stay (woken statements new t stay) (others_of stay (runnable_in statements new after)))
+
+    -- Where each thread of the space that could step can step still, nothing leaves the rest of the queue
+
     module _ (own_still : (th : Thread) → can_step (thread_ready statements old t th) ≡ true → can_step (thread_ready statements new t th) ≡ true) where
-      layer_still : (l : Layer) → In l old → (th : Thread) → can_step (thread_ready statements old l.space th) ≡ true → can_step (thread_ready statements new l.space th) ≡ true
-      layer_still l i th = by (is_below l.space t) (list_eq l.space t) refl refl
-        where
-          by : (b d : Bool) → is_below l.space t ≡ b → list_eq l.space t ≡ d → can_step (thread_ready statements old l.space th) ≡ true → can_step (thread_ready statements new l.space th) ≡ true
-          by false d e f = still l.space (lower l i e).0 th
-          by true true e f = subst (λ s. can_step (thread_ready statements old s th) ≡ true → can_step (thread_ready statements new s th) ≡ true) (sym (equal_names l.space t f)) (own_still th)
-          by true false e f = still l.space (unseen l.space (not_above l.space t (properly_by l.space t e (λ q. not_both _ (subst (λ s. list_eq l.space s ≡ true) q (names_equal l.space)) f)))) th
-
-      abbrev held : List Ident
-      held = id ∷ queue
-
-      abbrev pub ids : List Ident
-      ids = runnable statements new
-
-      ran_held : (o : Ident) → In o (runnable statements old) → In o held
-      ran_held o h = among_in held o (kept.exact o ∙ in_among (runnable statements old) o h)
-
-      held_ran : (o : Ident) → In o held → In o (runnable statements old)
-      held_ran o h = among_in (runnable statements old) o (sym (kept.exact o) ∙ in_among held o h)
-
       abbrev stepped : List Thread
       stepped = in_thread id.number (λ (th : Thread). record th { frames = goes.change th.frames }) before.threads
 
@@ -184,55 +291,16 @@ module _ (statements : List Statement) (c : Configuration) (id : Ident) (queue :
             name = ap (λ u. named u s.thread.number) goes.space ∙ s.name;
           })
 
-      -- Nothing leaves the rest of the queue
-
-      rest_able : (o : Ident) → In o queue → In o ids
-      rest_able o h =
+      own_queued : (o : Ident) → In o queue → o.space ≡ t → In o (runnable_in statements new after)
+      own_queued o h q =
           let l = In-flat_back (runnable_in statements old) o old (held_ran o (inr h)) in
-          elim (edit_in (is_of t) (λ m. after) old l.0 l.1) [
-            | inl k ↦ (let s = can_from statements old l.0 o l.2 in
-                In-flat (runnable_in statements new) l.0 o new k
-                (from_can statements new l.0 o (record { opened = s.opened; thread = s.thread; among = s.among; ready = layer_still l.0 l.1 s.thread s.ready; name = s.name })))
-            | inr e ↦ In-flat (runnable_in statements new) after o new (edited_in (is_of t) (λ m. after) old l.0 e)
-                (own_able o (λ q. once_head id queue kept.once (subst (λ i. In i queue) (sym q) h)) (subst (λ (m : Layer). In o (runnable_in statements old m)) (sym (found_one l.0 e)) l.2))
-          ]
+          let s = can_from statements old l.0 o l.2 in
+          let name : l.0.space ≡ before.space = ap (λ (n : Ident). n.space) s.name ∙ q ∙ sym own in
+          let same : l.0 ≡ before = same_named_layer old l.0 before kept.tree.ordered l.1 (found_in (is_of t) (λ (m : Layer). m) old before at).0 name in
+          own_able o (λ k. once_head id queue kept.once (subst (λ i. In i queue) (sym k) h)) (subst (λ (m : Layer). In o (runnable_in statements old m)) same l.2)
 
-      rest_stays : filter (is_among ids) queue ≡ queue
-      rest_stays = filter_all (is_among ids) queue (λ o h. in_among ids o (rest_able o h))
-
-      -- No thread of another space comes that is not above
-
-      abbrev pub stay : List Ident
-      stay = staying statements new id queue
-
-      abbrev comes : Ident → Bool
-      comes o = not (is_among stay o)
-
-      was_queued : (l : Layer) (o : Ident) → In l new → is_below l.space t ≡ false → In o (runnable_in statements new l) → In o queue
-      was_queued l o h off i = elim (in_edit (is_of t) (λ m. after) old l h) [
-        | inl k ↦ (let s = can_from statements new l o i in
-            let seen = lower l k off in
-            let not_over : is_properly_below l.space t ≡ false = elim (decide (is_properly_below l.space t)) [ inl q ↦ absurd (not_both _ (properly l.space t q).0 off) | inr q ↦ q ] in
-            let ready = ap can_step (sym (same_there l.space seen.0 not_over s.thread)) ∙ s.ready in
-            let ran : In o (runnable statements old) =
-            In-flat (runnable_in statements old) l o old k (from_can statements old l o (record { opened = s.opened; thread = s.thread; among = s.among; ready = ready; name = s.name })) in
-            elim (ran_held o ran) [
-              | inl q ↦ absurd (not_own l off (ap (λ (n : Ident). n.space) (s.name ∙ sym q)))
-              | inr q ↦ q
-            ])
-        | inr r ↦ absurd (not_own l off (ap (λ (m : Layer). m.space) r.2 ∙ after_own))
-      ]
-
-      none_comes : (l : Layer) → In l new → is_below l.space t ≡ false → filter comes (runnable_in statements new l) ≡ []
-      none_comes l h off =
-          filter_none comes (runnable_in statements new l) (λ o i. ap not (in_among stay o (In-left o queue (mover_in (Some id) ids) (was_queued l o h off i))))
-
-      pub own_there : layer_at new t ≡ Some after
-      own_there = found_put t after (subst (λ s. list_eq s t ≡ true) (sym after_own) (names_equal t)) old before at
-
-      pub queued : queue_after ids (Some id) queue ≡ stay ++ woken statements new t stay ++ others_of stay (runnable_in statements new after)
-      queued =
-          ap (λ (q : List Ident). (q ++ mover_in (Some id) ids) ++ filter (λ o. not (is_among (q ++ mover_in (Some id) ids) o)) ids) rest_stays
-          ∙ ap (λ (q : List Ident). stay ++ q) (above_come (runnable_in statements new) comes t new (ascending_leads new ascending) none_comes
-          ∙ ap (λ (o : Option Layer). woken statements new t stay ++ filter comes (own_of (runnable_in statements new) o)) own_there)
-          ∙ sym (append_assoc stay (woken statements new t stay) (others_of stay (runnable_in statements new after)))
+      pub rest_rejoins : stay ≡ rejoined statements new id queue
+      rest_rejoins = ap (λ (q : List Ident). q ++ mover_in (Some id) ids) (filter_all able_still queue (λ o h. elim (decide (list_eq o.space t)) [
+        | inl k ↦ own_still_is o k ∙ in_among (runnable_in statements new after) o (own_queued o h (equal_names o.space t k))
+        | inr k ↦ other_able_still statements new t o (λ q. not_both _ (subst (λ s. list_eq s t ≡ true) (sym q) (names_equal t)) k)
+      ]))

@@ -1,13 +1,13 @@
 -- What a step that tells nothing, or tells a space with none below it, makes of the queue, also where spaces are values: it may wake
 -- threads of the proper ancestors of its space, which wait for the state of a space in their own.
-use Rattle.std.specs.Prelude.{ℕ, ◌≡◌, true, List, [], ◌∷◌, ◌++◌, filter, flat_map}
+use Rattle.std.specs.Prelude.{ℕ, ◌≡◌, true, List, [], ◌∷◌, ◌++◌, Some, filter, flat_map}
 use Rattle.oz_base.specs.declared.names.Ident.{Ident}
 use Rattle.oz_language.specs.declared.kernel.Statement.{Statement}
 use Rattle.oz_semantics.specs.Names.{is_properly_below}
 use Rattle.oz_semantics.specs.Store.{is_consistent}
 use Rattle.oz_semantics.specs.Configurations.{layer_of, view, in_layer, with_frames, without_terminated}
 use Rattle.oz_semantics.specs.Changes.{Change, changed_all, done}
-use Rattle.oz_semantics.specs.Settling.{Turned, runnable_in}
+use Rattle.oz_semantics.specs.Settling.{Turned, mover_in, runnable_in, runnable}
 use Rattle.oz_semantics.specs.Steps.{without_top, went_on}
 use Rattle.oz_semantics.specs.declared.value.Tell.{Tell}
 use Rattle.oz_semantics.specs.declared.configuration.Frame.{Frame}
@@ -28,6 +28,10 @@ above_of layers space = filter (λ (l : Layer). is_properly_below l.space space)
 abbrev pub woken : List Statement → List Layer → List ℕ → List Ident → List Ident
 woken statements layers space queue = others_of queue (flat_map (runnable_in statements layers) (above_of layers space))
 
+-- the rest of the queue, and the thread that stepped, where it can step
+abbrev pub rejoined : List Statement → List Layer → Ident → List Ident → List Ident
+rejoined statements layers id queue = queue ++ mover_in (Some id) (runnable statements layers)
+
 -- The thread at the head makes changes, and what it gives out is unknown below its space. Where no trigger is needed then, no space
 -- fails, and the queue is the rest, and then the thread, the threads of the proper ancestors that wake, and the new ones, as far as they can step
 abbrev pub ChangesAmong : Type 0
@@ -40,8 +44,8 @@ ChangesAmong =
       record c {
         layers = layers;
         queue =
-            staying statements layers id queue
-            ++ woken statements layers id.space (staying statements layers id queue)
+            rejoined statements layers id queue
+            ++ woken statements layers id.space (rejoined statements layers id queue)
             ++ runnable_in statements layers (record (layer_of c.layers id.space) { threads = spawned_from (layer_of c.layers id.space).next.thread changes });
       },
     )
@@ -54,11 +58,12 @@ StackAmong =
     → NoneNeeded statements layers
     → ◌≡◌ {A = Turned} (went_on statements id cost (in_layer id.space (with_frames id.number (λ rest. frames)) (without_top id c.layers)) (record c { queue = queue })) (
       Moved cost,
-      record c { layers = layers; queue = staying statements layers id queue ++ woken statements layers id.space (staying statements layers id queue) },
+      record c { layers = layers; queue = rejoined statements layers id queue ++ woken statements layers id.space (rejoined statements layers id queue) },
     )
 
 -- A space with none below it is told what is consistent with what it sees. Where no trigger is needed then, no space fails, and the
--- queue is the rest, and then the thread that stepped, the threads of the proper ancestors that wake, and all others of its own space, as far as they can step
+-- queue is the rest, and then the thread that stepped, the threads of the proper ancestors that wake, and all others of its own space, as
+-- far as they can step: of the rest, only threads of its own space may no longer
 abbrev pub TellAmong : Type 0
 TellAmong =
     (statements : List Statement) (c : Configuration) (id : Ident) (queue : List Ident) (ts : List Tell) (changes : List Change) (cost : ℕ) → IsKept statements (record c { queue = id ∷ queue })

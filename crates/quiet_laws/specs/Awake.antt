@@ -1,6 +1,6 @@
 -- Where the thread that stepped can step still, no thread of another space wakes: something of each space on the way from the top to its
 -- own could step before, and can step now, so each of them that may run runs both times.
-use Rattle.std.specs.Prelude.{ℕ, ◌≡◌, true, List, [], ◌∷◌, ◌++◌}
+use Rattle.std.specs.Prelude.{ℕ, ◌≡◌, true, List, [], ◌∷◌, ◌++◌, filter}
 use Rattle.oz_base.specs.declared.names.Ident.{Ident}
 use Rattle.oz_language.specs.declared.kernel.Statement.{Statement}
 use Rattle.oz_semantics.specs.Store.{is_consistent}
@@ -20,7 +20,7 @@ use Rattle.oz_semantics.specs.declared.outcome.Stepped.TheVariants.{Moved}
 use Rattle.view_laws.specs.Needs.{NoneNeeded}
 use Rattle.view_laws.specs.Steps.{spawned_from}
 use Rattle.turn_laws.specs.Kept.{IsKept}
-use Rattle.turn_laws.specs.Telling.{IsAlone, others_of}
+use Rattle.turn_laws.specs.Telling.{IsAlone, others_of, is_able_still}
 use Rattle.quiet_laws.specs.Unknown.{given_in, AreUnknown}
 
 -- the statement on top of the thread's stack can step by what its space sees, whatever the states of the spaces in that
@@ -51,8 +51,13 @@ StackAwake =
     → ◌≡◌ {A = Turned} (went_on statements id cost (in_layer id.space (with_frames id.number (λ rest. frames)) (without_top id c.layers)) (record c { queue = queue }))
     (Moved cost, record c { layers = layers; queue = queue ++ id ∷ [] })
 
+-- the rest of the queue, as far as it can step still, and the thread that stepped
+abbrev pub rest_and : List Statement → List Layer → Ident → List Ident → List Ident
+rest_and statements layers id queue = filter (is_able_still statements layers id.space) queue ++ id ∷ []
+
 -- A space with none below it is told what is consistent with what it sees, no trigger is needed then, and the thread can step still. Then
--- the queue is the rest, the thread, and all others of its own space, as far as they can step
+-- the queue is the rest, the thread, and all others of its own space, as far as they can step: of the rest, only threads of its own space
+-- may no longer
 abbrev pub TellAwake : Type 0
 TellAwake =
     (statements : List Statement) (c : Configuration) (id : Ident) (queue : List Ident) (ts : List Tell) (changes : List Change) (cost : ℕ) → IsKept statements (record c { queue = id ∷ queue })
@@ -62,6 +67,6 @@ TellAwake =
       Moved cost,
       record c {
         layers = layers;
-        queue = (queue ++ id ∷ []) ++ others_of (queue ++ id ∷ []) (runnable_in statements layers (layer_of layers id.space));
+        queue = rest_and statements layers id queue ++ others_of (rest_and statements layers id queue) (runnable_in statements layers (layer_of layers id.space));
       },
     )

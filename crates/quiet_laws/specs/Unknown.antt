@@ -6,8 +6,8 @@ use Rattle.oz_semantics.specs.Names.{is_properly_below}
 use Rattle.oz_semantics.specs.Store.{named_by}
 use Rattle.oz_semantics.specs.Configurations.{layer_of, view, fresh_variables}
 use Rattle.oz_semantics.specs.Sights.{States}
-use Rattle.oz_semantics.specs.Spaces.{waited_in}
-use Rattle.oz_semantics.specs.Changes.{Change, GivesOut, CountsProcedure, CountsName, Pushes, Spawns, AddsCell, Holds, AddsPort, EndsAt, AddsTrigger}
+use Rattle.oz_semantics.specs.Spaces.{waited_in, undecided_in}
+use Rattle.oz_semantics.specs.Changes.{Change, GivesOut, CountsProcedure, CountsName, Pushes, Spawns, AddsCell, Holds, AddsPort, EndsAt, AddsTrigger, AddsPropagator}
 use Rattle.oz_semantics.specs.declared.configuration.Layer.{Layer}
 use Rattle.turn_laws.specs.Telling.{IsAlone}
 
@@ -24,15 +24,18 @@ given_by (Holds number content ∷ changes) = given_by changes
 given_by (AddsPort end ∷ changes) = given_by changes
 given_by (EndsAt number end ∷ changes) = given_by changes
 given_by (AddsTrigger procedure variable ∷ changes) = given_by changes
+given_by (AddsPropagator relation variables ∷ changes) = given_by changes
 
 -- those that they give out in a space with this layer
 abbrev pub given_in : Layer → List Change → List Ident
 given_in l changes = fresh_variables l (given_by changes)
 
--- what the layer's space sees does not name the variable, and no thread of the layer waits for it, whatever the states of spaces
+-- what the layer's space sees does not name the variable, no thread of the layer waits for it, whatever the states of spaces, and it is of
+-- no propagator there that is undecided
 pub record IsUnknown (statements : List Statement) (layers : List Layer) (l : Layer) (x : Ident) : Type 0 where
   pub unnamed : Contains (flat_map named_by (view layers l.space)) x → ⊥
   pub unwaited : (states : States) → Contains (waited_in statements layers states l) x → ⊥
+  pub unposted : Contains (undecided_in (view layers l.space) l) x → ⊥
 
 -- so it is of these variables in each layer properly below the space: else the state of a space there could change as they are given out
 abbrev pub AreUnknown : List Statement → List Layer → List ℕ → List Ident → Type 0

@@ -1,9 +1,9 @@
-//! Threads, triggers and the status of a space under other names.
-ghost use Rattle.oz_semantics.specs.Renamings.{renamed_code, renamed_frame, renamed_thread, renamed_trigger, renamed_status};
+//! Threads, triggers, propagators and the status of a space under other names.
+ghost use Rattle.oz_semantics.specs.Renamings.{renamed_code, renamed_frame, renamed_thread, renamed_trigger, renamed_propagator, renamed_status};
 
 use crate::Renamed;
 use oz_base::Copies;
-use oz_semantics::{Code, Frame, Status, Thread, Trigger};
+use oz_semantics::{Code, Frame, Propagator, Status, Thread, Trigger};
 use renamings::Renaming;
 use std::alloc::{AllocError, Global};
 
@@ -61,6 +61,18 @@ impl Renamed for Trigger {
         Ok(Trigger {
             procedure: self.procedure.renamed(alloc, by)?,
             variable: self.variable.renamed(alloc, by)?,
+        })
+    }
+}
+
+impl Renamed for Propagator {
+    ghost renamed = { renamed_propagator };
+
+    fn renamed(&self, alloc: Global, by: &Renaming) -> Result<Self, AllocError> {
+        Ok(Propagator {
+            relation: self.relation.copied(alloc)?,
+            variables: self.variables.renamed(alloc, by)?,
+            last: self.last.copied(alloc)?,
         })
     }
 }

@@ -109,6 +109,13 @@ impl Renamed for Tell {
                 variable: variable.renamed(alloc, by)?,
                 value: value.renamed(alloc, by)?,
             }),
+            Tell::Within {
+                variable,
+                intervals,
+            } => Ok(Tell::Within {
+                variable: variable.renamed(alloc, by)?,
+                intervals: intervals.copied(alloc)?,
+            }),
         }
     }
 }

@@ -1,10 +1,12 @@
 -- Types that may cross threads, since their parts may.
+use denote.RattleType.{RattleType}
 use denote.Param.SendFields.{declared_send, declared_sync, variants_send, variants_sync}
 use denote.Param.Send.{IsSend, IsSync, sendable, view_send, view_sync}
-use Rattle.std.proofs.Crossing.{Vec-send, Vec-sync}
+use Rattle.std.proofs.Crossing.{Vec-send, Vec-sync, Arc-send, Arc-sync, crosses}
 use Rattle.oz_base.specs.contracts.names.SpaceName as name
 use Rattle.std.specs.contracts.option.Option as option
 use Rattle.oz_base.specs.contracts.names.Ident as ident
+use Rattle.oz_base.specs.contracts.interval.Interval as interval
 use Rattle.oz_base.specs.contracts.sequence.Sequence as sequence
 use Rattle.oz_base.specs.contracts.shared.Shared as shared
 use Rattle.oz_language.specs.contracts.kernel.Kernel as kernel
@@ -13,8 +15,15 @@ use Rattle.oz_semantics.specs.contracts.value.Tell as told
 use Rattle.oz_semantics.specs.contracts.configuration.Status as status
 use Rattle.oz_semantics.specs.contracts.configuration.Thread as thread
 use Rattle.oz_semantics.specs.contracts.configuration.Trigger as trigger
+use Rattle.oz_semantics.specs.contracts.configuration.Propagator as propagator
 use Rattle.shared_list.specs.contracts.list.SharedList as list
 use Rattle.cells_ports.specs.contracts.objects.Objects as objects
+use Rattle.shared_map.proofs.tree.Tree.TheLaws.TheKnot as tree
+use Rattle.ident_map.specs.contracts.map.IdentMap as map
+use Rattle.fd_domain.specs.contracts.domain.Domain as domain
+use Rattle.term_store.specs.contracts.class_domain.ClassDomain as class_domain
+use Rattle.term_store.specs.contracts.cell.Kept as kept
+use Rattle.term_store.specs.contracts.cell.Cell as cell
 use Rattle.term_store.specs.contracts.log.Log as log
 use Rattle.term_store.specs.contracts.classes.Classes as classes
 use Rattle.term_store.specs.contracts.store.Store as store
@@ -26,14 +35,59 @@ use Rattle.oz_threads.specs.contracts.queue.Queue as queue
 use Rattle.oz_machine.specs.contracts.course.Due as due
 use Rattle.oz_machine.specs.contracts.course.Course as course
 use Rattle.oz_machine.specs.contracts.machine.Machine as machine
-use denote.Builtin.{u8}
+use denote.Builtin.{u8, u64}
 
-pub tell_send : IsSend ident.the_row → IsSend value.the_row → IsSend told.the_row
-tell_send i v = variants_send told.enum ((i, (i, tt)), ((i, (v, tt)), tt))
+pub tell_send : IsSend ident.the_row → IsSend value.the_row → IsSend (sequence.the_row interval.the_row) → IsSend told.the_row
+tell_send i v d = variants_send told.enum ((i, (i, tt)), ((i, (v, tt)), ((i, (d, tt)), tt)))
 
-pub tell_sync : IsSync ident.the_row → IsSync value.the_row → IsSync told.the_row
-tell_sync i v = variants_sync told.enum ((i, (i, tt)), ((i, (v, tt)), tt))
+pub tell_sync : IsSync ident.the_row → IsSync value.the_row → IsSync (sequence.the_row interval.the_row) → IsSync told.the_row
+tell_sync i v d = variants_sync told.enum ((i, (i, tt)), ((i, (v, tt)), ((i, (d, tt)), tt)))
 
+-- ---- maps, whose nodes hold one another
+map_send : (T : RattleType) → IsSend T → IsSync T → IsSend (map.the_row T)
+map_send T s y = search (crosses, tree.crosses_both, sendable) depth 60 fits 20000
+
+map_sync : (T : RattleType) → IsSend T → IsSync T → IsSync (map.the_row T)
+map_sync T s y = search (crosses, tree.crosses_both, sendable) depth 60 fits 20000
+
+-- ---- what a store keeps of a class
+pub class_domain_send : IsSend domain.the_row → IsSend (option.the_row value.the_row) → IsSend class_domain.the_row
+class_domain_send d v = view_send _ _ _ _ _ (declared_send class_domain.TheInside.the_type (d, (v, tt)))
+
+pub class_domain_sync : IsSync domain.the_row → IsSync (option.the_row value.the_row) → IsSync class_domain.the_row
+class_domain_sync d v = view_sync _ _ _ _ _ (declared_sync class_domain.TheInside.the_type (d, (v, tt)))
+
+number_send : IsSend (option.the_row u64)
+number_send = variants_send (option.enum u64) (tt, ((search sendable, tt), tt))
+
+number_sync : IsSync (option.the_row u64)
+number_sync = variants_sync (option.enum u64) (tt, ((search sendable, tt), tt))
+
+shared_send : IsSend class_domain.the_row → IsSync class_domain.the_row → IsSend (shared.the_row class_domain.the_row)
+shared_send s y = view_send _ _ _ _ _ (declared_send (shared.TheInside.the_type class_domain.the_row) (Arc-send class_domain.the_row s y, tt))
+
+shared_sync : IsSend class_domain.the_row → IsSync class_domain.the_row → IsSync (shared.the_row class_domain.the_row)
+shared_sync s y = view_sync _ _ _ _ _ (declared_sync (shared.TheInside.the_type class_domain.the_row) (Arc-sync class_domain.the_row s y, tt))
+
+kept_send : IsSend class_domain.the_row → IsSync class_domain.the_row → IsSend kept.the_row
+kept_send s y = declared_send kept.the_type (number_send, (variants_send (option.enum (shared.the_row class_domain.the_row)) (tt, ((shared_send s y, tt), tt)), tt))
+
+kept_sync : IsSend class_domain.the_row → IsSync class_domain.the_row → IsSync kept.the_row
+kept_sync s y = declared_sync kept.the_type (number_sync, (variants_sync (option.enum (shared.the_row class_domain.the_row)) (tt, ((shared_sync s y, tt), tt)), tt))
+
+pub cell_send : IsSend ident.the_row → IsSend class_domain.the_row → IsSync class_domain.the_row → IsSend cell.the_row
+cell_send i s y = variants_send cell.enum ((i, (search sendable, tt)), ((search sendable, (kept_send s y, tt)), tt))
+
+pub cell_sync : IsSync ident.the_row → IsSend class_domain.the_row → IsSync class_domain.the_row → IsSync cell.the_row
+cell_sync i s y = variants_sync cell.enum ((i, (search sendable, tt)), ((search sendable, (kept_sync s y, tt)), tt))
+
+pub classes_send : IsSend cell.the_row → IsSync cell.the_row → IsSend classes.the_row
+classes_send s y = view_send _ _ _ _ _ (declared_send classes.TheInside.the_type (map_send cell.the_row s y, tt))
+
+pub classes_sync : IsSend cell.the_row → IsSync cell.the_row → IsSync classes.the_row
+classes_sync s y = view_sync _ _ _ _ _ (declared_sync classes.TheInside.the_type (map_sync cell.the_row s y, tt))
+
+-- ---- the parts of a machine
 due_send : IsSend ident.the_row → IsSend (option.the_row ident.the_row) → IsSend due.the_row
 due_send i o = variants_send due.enum (tt, ((i, (o, tt)), ((o, tt), tt)))
 
@@ -70,17 +124,17 @@ numbers_send = declared_send numbers.the_type (search sendable, (search sendable
 numbers_sync : IsSync numbers.the_row
 numbers_sync = declared_sync numbers.the_type (search sendable, (search sendable, (search sendable, (search sendable, tt))))
 
-level_send : IsSend name.the_row → IsSend status.the_row → IsSend store.the_row → IsSend (sequence.the_row ident.the_row) → IsSend (sequence.the_row thread.the_row) → IsSend (sequence.the_row trigger.the_row) → IsSend objects.the_row → IsSend level.the_row
-level_send s t u i h q o = declared_send level.the_type (s, (t, (u, (search sendable, (i, (threads_send h, (q, (o, (numbers_send, (search sendable, (search sendable, (search sendable, tt))))))))))))
+level_send : IsSend name.the_row → IsSend status.the_row → IsSend store.the_row → IsSend (sequence.the_row ident.the_row) → IsSend (sequence.the_row thread.the_row) → IsSend (sequence.the_row trigger.the_row) → IsSend (sequence.the_row propagator.the_row) → IsSend objects.the_row → IsSend level.the_row
+level_send s t u i h q p o = declared_send level.the_type (s, (t, (u, (search sendable, (i, (threads_send h, (q, (p, (o, (numbers_send, (search sendable, (search sendable, (search sendable, tt)))))))))))))
 
-level_sync : IsSync name.the_row → IsSync status.the_row → IsSync store.the_row → IsSync (sequence.the_row ident.the_row) → IsSync (sequence.the_row thread.the_row) → IsSync (sequence.the_row trigger.the_row) → IsSync objects.the_row → IsSync level.the_row
-level_sync s t u i h q o = declared_sync level.the_type (s, (t, (u, (search sendable, (i, (threads_sync h, (q, (o, (numbers_sync, (search sendable, (search sendable, (search sendable, tt))))))))))))
+level_sync : IsSync name.the_row → IsSync status.the_row → IsSync store.the_row → IsSync (sequence.the_row ident.the_row) → IsSync (sequence.the_row thread.the_row) → IsSync (sequence.the_row trigger.the_row) → IsSync (sequence.the_row propagator.the_row) → IsSync objects.the_row → IsSync level.the_row
+level_sync s t u i h q p o = declared_sync level.the_type (s, (t, (u, (search sendable, (i, (threads_sync h, (q, (p, (o, (numbers_sync, (search sendable, (search sendable, (search sendable, tt)))))))))))))
 
-pub levels_send : IsSend name.the_row → IsSend status.the_row → IsSend store.the_row → IsSend (sequence.the_row ident.the_row) → IsSend (sequence.the_row thread.the_row) → IsSend (sequence.the_row trigger.the_row) → IsSend objects.the_row → IsSend levels.the_row
-levels_send s t u i h q o = view_send _ _ _ _ _ (declared_send levels.TheInside.the_type (Vec-send level.the_row (level_send s t u i h q o), tt))
+pub levels_send : IsSend name.the_row → IsSend status.the_row → IsSend store.the_row → IsSend (sequence.the_row ident.the_row) → IsSend (sequence.the_row thread.the_row) → IsSend (sequence.the_row trigger.the_row) → IsSend (sequence.the_row propagator.the_row) → IsSend objects.the_row → IsSend levels.the_row
+levels_send s t u i h q p o = view_send _ _ _ _ _ (declared_send levels.TheInside.the_type (Vec-send level.the_row (level_send s t u i h q p o), tt))
 
-pub levels_sync : IsSync name.the_row → IsSync status.the_row → IsSync store.the_row → IsSync (sequence.the_row ident.the_row) → IsSync (sequence.the_row thread.the_row) → IsSync (sequence.the_row trigger.the_row) → IsSync objects.the_row → IsSync levels.the_row
-levels_sync s t u i h q o = view_sync _ _ _ _ _ (declared_sync levels.TheInside.the_type (Vec-sync level.the_row (level_sync s t u i h q o), tt))
+pub levels_sync : IsSync name.the_row → IsSync status.the_row → IsSync store.the_row → IsSync (sequence.the_row ident.the_row) → IsSync (sequence.the_row thread.the_row) → IsSync (sequence.the_row trigger.the_row) → IsSync (sequence.the_row propagator.the_row) → IsSync objects.the_row → IsSync levels.the_row
+levels_sync s t u i h q p o = view_sync _ _ _ _ _ (declared_sync levels.TheInside.the_type (Vec-sync level.the_row (level_sync s t u i h q p o), tt))
 
 pub machine_send : IsSend (shared.the_row kernel.the_row) → IsSend levels.the_row → IsSend queue.the_row → IsSend ident.the_row → IsSend (option.the_row ident.the_row) → IsSend (list.the_row (sequence.the_row u8)) → IsSend machine.the_row
 machine_send k l q i o s = view_send _ _ _ _ _ (declared_send machine.TheInside.the_type (k, (declared_send course.the_type (l, (q, (due_send i o, (s, tt)))), (search sendable, tt))))

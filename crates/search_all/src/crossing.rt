@@ -4,6 +4,7 @@ ghost use Rattle.std.specs.Thread.{IsSend, IsSync};
 ghost use Rattle.std.specs.contracts.option.Option as option;
 ghost use Rattle.oz_base.specs.contracts.names.SpaceName as name;
 ghost use Rattle.oz_base.specs.contracts.names.Ident as ident;
+ghost use Rattle.oz_base.specs.contracts.interval.Interval as interval;
 ghost use Rattle.oz_base.specs.contracts.sequence.Sequence as sequence;
 ghost use Rattle.oz_base.specs.contracts.shared.Shared as shared;
 ghost use Rattle.oz_language.specs.contracts.kernel.Kernel as kernel;
@@ -14,8 +15,12 @@ ghost use Rattle.oz_semantics.specs.contracts.value.Tell as told;
 ghost use Rattle.oz_semantics.specs.contracts.configuration.Status as status;
 ghost use Rattle.oz_semantics.specs.contracts.configuration.Thread as thread;
 ghost use Rattle.oz_semantics.specs.contracts.configuration.Trigger as trigger;
+ghost use Rattle.oz_semantics.specs.contracts.configuration.Propagator as propagator;
 ghost use Rattle.shared_list.specs.contracts.list.SharedList as list;
 ghost use Rattle.cells_ports.specs.contracts.objects.Objects as objects;
+ghost use Rattle.fd_domain.specs.contracts.domain.Domain as domain;
+ghost use Rattle.term_store.specs.contracts.class_domain.ClassDomain as class_domain;
+ghost use Rattle.term_store.specs.contracts.cell.Cell as cell;
 ghost use Rattle.term_store.specs.contracts.classes.Classes as classes;
 ghost use Rattle.term_store.specs.contracts.store.Store as store;
 ghost use Rattle.space_core.specs.contracts.levels.Levels as levels;
@@ -24,13 +29,13 @@ ghost use Rattle.oz_machine.specs.contracts.machine.Machine as machine;
 ghost use Rattle.recompute.specs.contracts.frozen.Frozen as frozen;
 
 use environments::Environment;
-use oz_base::{Ident, Sequence, Shared, SpaceName};
+use fd_domain::Domain;
+use oz_base::{Ident, Interval, Sequence, Shared, SpaceName};
 use oz_language::Kernel;
-use oz_semantics::{Procedure, Status, Tell, Thread, Trigger, Value};
+use oz_semantics::{Procedure, Propagator, Status, Tell, Thread, Trigger, Value};
 use oz_threads::Queue;
 use recompute::Frozen;
 use shared_list::SharedList;
-use term_store::Classes;
 
 /// Nothing, as all functions here: its clause says that a type may be sent to another thread.
 fn sends<T: Send>()
@@ -100,20 +105,61 @@ fn values_cross()
     shares::<Value>();
 }
 
+fn intervals_cross()
+    ensures send { IsSend (sequence.the_row interval.the_row) }
+    ensures sync { IsSync (sequence.the_row interval.the_row) }
+{
+    sends::<Sequence<Interval>>();
+    shares::<Sequence<Interval>>();
+}
+
 fn tells_cross()
     ensures send { IsSend told.the_row }
     ensures sync { IsSync told.the_row }
 {
     ident_crosses();
     values_cross();
+    intervals_cross();
+}
+
+fn optional_values_cross()
+    ensures send { IsSend (option.the_row value.the_row) }
+    ensures sync { IsSync (option.the_row value.the_row) }
+{
+    values_cross();
+    sends::<Option<Value>>();
+    shares::<Option<Value>>();
+}
+
+fn domains_cross()
+    ensures send { IsSend domain.the_row }
+    ensures sync { IsSync domain.the_row }
+{
+    sends::<Domain>();
+    shares::<Domain>();
+}
+
+fn class_domains_cross()
+    ensures send { IsSend class_domain.the_row }
+    ensures sync { IsSync class_domain.the_row }
+{
+    domains_cross();
+    optional_values_cross();
+}
+
+fn cells_cross()
+    ensures send { IsSend cell.the_row }
+    ensures sync { IsSync cell.the_row }
+{
+    ident_crosses();
+    class_domains_cross();
 }
 
 fn classes_cross()
-    ensures send { IsSend (classes.the_row) }
-    ensures sync { IsSync (classes.the_row) }
+    ensures send { IsSend classes.the_row }
+    ensures sync { IsSync classes.the_row }
 {
-    sends::<Classes>();
-    shares::<Classes>();
+    cells_cross();
 }
 
 fn names_cross()
@@ -154,6 +200,14 @@ fn triggers_cross()
 {
     sends::<Sequence<Trigger>>();
     shares::<Sequence<Trigger>>();
+}
+
+fn propagators_cross()
+    ensures send { IsSend (sequence.the_row propagator.the_row) }
+    ensures sync { IsSync (sequence.the_row propagator.the_row) }
+{
+    sends::<Sequence<Propagator>>();
+    shares::<Sequence<Propagator>>();
 }
 
 fn ident_lists_cross()
@@ -214,6 +268,7 @@ fn levels_cross()
     idents_cross();
     threads_cross();
     triggers_cross();
+    propagators_cross();
     objects_cross();
 }
 

@@ -1,11 +1,11 @@
 -- Each turn leaves no trigger that is needed.
-use Rattle.std.proofs.Common.{◌≡◌, ℕ, Bool, true, false, if◌then◌else◌, List, [], ◌∷◌, sym, subst, Option, None}
+use Rattle.std.proofs.Common.{◌≡◌, ℕ, Bool, true, false, if◌then◌else◌, List, [], sym, subst, Option, None}
 use Rattle.oz_base.specs.declared.names.Ident.{Ident}
 use Rattle.oz_language.specs.declared.kernel.Statement.{Statement}
 use Rattle.oz_language.specs.declared.kernel.Kernel.{Kernel}
 use Rattle.oz_semantics.specs.Triggers.{triggered}
 use Rattle.oz_semantics.specs.Settling.{Turned, settled, top_is_inconsistent, top_failed, without_inconsistent, requeued}
-use Rattle.oz_semantics.specs.Schedule.{turn_of}
+use Rattle.oz_semantics.specs.Schedule.{turn}
 use Rattle.oz_semantics.specs.Runs.{left_by}
 use Rattle.oz_semantics.specs.declared.configuration.Configuration.{Configuration}
 use Rattle.oz_semantics.specs.declared.outcome.Stepped.TheVariants.{Moved, TopEnded, Quiescent}
@@ -13,7 +13,7 @@ use Rattle.view_laws.specs.Needs.{NoneNeeded}
 use Rattle.need_laws.proofs.RoundLaws.{none_left}
 use Rattle.settle_laws.specs.Turns.{opening_layers}
 use Rattle.settle_laws.specs.Content.{SettledContent, StepContent, TurnContent, FollowedContent, OpeningContent}
-use Rattle.settle_laws.proofs.StepLaws.{each_step}
+use Rattle.settle_laws.proofs.StepLaws.{each_step, each_turn}
 use Rattle.settle_laws.proofs.SoundLaws.{sound_top}
 use Rattle.settle_laws.proofs.OpeningLaws.{opening_sound}
 
@@ -37,13 +37,11 @@ pub step_content : StepContent
 step_content k id c n d e =
     subst (MovedContent k.statements) e (each_step (MovedContent k.statements) k (λ mover cost b h. content_follows k.statements mover cost b) (λ x layers b. tt) id c)
 
-turn_content_of : (k : Kernel) (c : Configuration) (queue : List Ident) → MovedContent k.statements (turn_of k c queue)
-turn_content_of k c [] = tt
-turn_content_of k c (id ∷ queue) =
-    each_step (MovedContent k.statements) k (λ mover cost b h. content_follows k.statements mover cost b) (λ x layers b. tt) id (record c { queue = queue })
+turn_content_of : (k : Kernel) (c : Configuration) → MovedContent k.statements (turn k c)
+turn_content_of k c = each_turn (MovedContent k.statements) k (λ mover cost b h. content_follows k.statements mover cost b) (λ x layers b. tt) (λ b. tt) c
 
 pub turn_content : TurnContent
-turn_content k c n d e = subst (MovedContent k.statements) e (turn_content_of k c c.queue)
+turn_content k c n d e = subst (MovedContent k.statements) e (turn_content_of k c)
 
 -- where the top is consistent
 left_content : (statements : List Statement) (mover : Option Ident) (cost : ℕ) (c : Configuration) → top_is_inconsistent c.layers ≡ false

@@ -6,7 +6,7 @@ use Rattle.oz_semantics.specs.Changes.{Change}
 use Rattle.oz_semantics.specs.Exceptions.{new_term_tells, with_term}
 use Rattle.oz_semantics.specs.declared.configuration.Layer.{Layer}
 use Rattle.settle_laws.specs.Settles.{IsQuiet}
-use Rattle.settle_laws.specs.Edits.{EditsJoin, EditsAgree, TermSettles, AreQuiet, QuietThere, QuietView, PopView}
+use Rattle.settle_laws.specs.Edits.{EditsJoin, EditsAgree, TermSettles, CommittingParts, AreQuiet, QuietThere, QuietView, PopView}
 use Rattle.settle_laws.proofs.ListEdits.{edit_twice, edit_agree, is_found_edit}
 use Rattle.view_laws.proofs.SightLaws.{quiet_unseen}
 use Rattle.view_laws.proofs.ChangeLaws.{edit_of, edit_keeps}
@@ -23,6 +23,9 @@ term_settles space t layers l at =
     ∙ edits_agree space (λ m. giving_out (length t) (telling (new_term_tells (layer_of layers space) t) m)) (with_term t) layers
     (λ m e. ap (λ (n : Layer). giving_out (length t) (telling (new_term_tells n t) m)) (ap (λ (o : Option Layer). unwrap_or o (new_layer space)) e))
 
+pub committing_parts : CommittingParts
+committing_parts s i l = refl
+
 pub are_quiet : AreQuiet
 are_quiet = record {
   frames = λ number change. record { space = λ l. refl; status = λ l. refl; tells = λ l. refl };
@@ -38,6 +41,8 @@ are_quiet = record {
   port = λ end. record { space = λ l. refl; status = λ l. refl; tells = λ l. refl };
   end = λ number end. record { space = λ l. refl; status = λ l. refl; tells = λ l. refl };
   trigger = λ procedure variable. record { space = λ l. refl; status = λ l. refl; tells = λ l. refl };
+  propagator = λ r xs. record { space = λ l. refl; status = λ l. refl; tells = λ l. refl };
+  noted = λ v ds. record { space = λ l. refl; status = λ l. refl; tells = λ l. refl };
   both = λ f g p q. record {
     space = λ l. p.space (g l) ∙ q.space l;
     status = λ l. p.status (g l) ∙ q.status l;

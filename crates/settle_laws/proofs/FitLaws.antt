@@ -10,7 +10,7 @@ use Rattle.oz_semantics.specs.Values.{integer_in, is_procedure}
 use Rattle.oz_semantics.specs.Store.{View, value_of}
 use Rattle.oz_semantics.specs.Configurations.{is_of, layer_at, new_layer, frames_in, thread_at, stack_of, view, in_layer}
 use Rattle.oz_semantics.specs.Sights.{Sight, States, state_in}
-use Rattle.oz_semantics.specs.Answers.{Edit, Creates, Commits, Copies, Injects, TakesIn, Answer, Acts, Edits, RaisesKind, RaisesTerm, Operates, Rests, given, of_kind}
+use Rattle.oz_semantics.specs.Answers.{Edit, Creates, Commits, Copies, Injects, TakesIn, Answer, Acts, Edits, RaisesKind, RaisesTerm, Operates, Widens, Rests, given, of_kind}
 use Rattle.oz_semantics.specs.Operations.{once_decided, unless_merged, unless_ended, alternative_of, committed_in, injected_in, injects, operated, with_state, by_state}
 use Rattle.oz_semantics.specs.Statements.{stack_answer}
 use Rattle.oz_semantics.specs.Spaces.{sight, state_by, states_behind, states_of, answer_in}
@@ -40,6 +40,7 @@ AnswerFits layers parent (Acts act) = Unit {0}
 AnswerFits layers parent (RaisesKind kind) = Unit {0}
 AnswerFits layers parent (RaisesTerm x) = Unit {0}
 AnswerFits layers parent (Operates op space x) = Unit {0}
+AnswerFits layers parent (Widens ts) = Unit {0}
 AnswerFits layers parent (Rests ready) = Unit {0}
 
 -- An operation on a child that is there
@@ -162,7 +163,7 @@ module _ (statements : List Statement) (layers : List Layer) (parent : List ℕ)
           operated_fits layers parent child (record { below = below; parent_there = there; child_there = sym (state_there statements layers layers child) ∙ ap is_some e }) own (view layers child) op x st
 
   stack_fits : (frames : List Frame) → FitsOnce (stack_answer own frames)
-  stack_fits frames = stack_holds own FitsOnce (λ act. tt) (λ procedure x. there) (λ kind. tt) (λ x. tt) (λ ready. tt) (λ op child x y told below. operation_fits op child x below) frames
+  stack_fits frames = stack_holds own FitsOnce (λ act. tt) (λ procedure x. there) (λ kind. tt) (λ x. tt) (λ ts. tt) (λ ready. tt) (λ op child x y told below. operation_fits op child x below) frames
 
 -- what a thread answers; one whose space is not there has no stack
 pub answer_fits : (statements : List Statement) (layers : List Layer) (id : Ident)

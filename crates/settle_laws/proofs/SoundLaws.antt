@@ -1,14 +1,15 @@
 -- Layers in which no space sees what is inconsistent.
-use Rattle.std.proofs.Common.{◌≡◌, ◌⊎◌, inl, inr, ℕ, Bool, true, false, not, cond, ◌&&◌, if◌then◌else◌, List, [], ◌∷◌, ◌++◌, refl, sym, ap, ap₂, subst, ◌∙◌, Option, Some, None, filter, map, fold, unwrap_or}
-use Rattle.std.specs.List.{find}
+use Rattle.std.proofs.Common.{◌≡◌, ◌⊎◌, inl, inr, ℕ, Bool, true, false, not, cond, ◌&&◌, if◌then◌else◌, List, [], ◌∷◌, ◌++◌, refl, sym, ap, ap₂, subst, ◌∙◌, Contains, Option, Some, None, filter, map, fold, unwrap_or}
+use Rattle.std.specs.List.{find, filter_map}
+use Rattle.std.proofs.lemmas.List.{append-nil}
 use Rattle.std.proofs.lemmas.Bool.{false≢true}
-use Rattle.oz_base.specs.Lists.{list_eq}
+use Rattle.oz_base.specs.Lists.{first, list_eq}
 use Rattle.oz_base.specs.declared.names.Ident.{Ident}
 use Rattle.oz_language.specs.declared.kernel.Statement.{Statement}
 use Rattle.oz_semantics.specs.Names.{is_below, is_properly_below, parent_of, child_name, space_lt}
 use Rattle.oz_semantics.specs.Store.{View, is_consistent}
-use Rattle.oz_semantics.specs.Configurations.{is_of, layer_at, layer_of, view, in_layer, failed, next_child, new_layer, counting_child}
-use Rattle.oz_semantics.specs.Edits.{starting, created, committing}
+use Rattle.oz_semantics.specs.Configurations.{is_of, layer_at, layer_of, view, in_layer, telling, failed, next_child, new_layer, counting_child}
+use Rattle.oz_semantics.specs.Edits.{starting, chosen_tells, thread_offer, created, committing, committed}
 use Rattle.oz_semantics.specs.Spaces.{sight}
 use Rattle.oz_semantics.specs.Triggers.{triggered}
 use Rattle.oz_semantics.specs.Settling.{Turned, may_fail, is_inconsistent, inconsistent_spaces, failing, without_inconsistent, top_is_inconsistent, top_failed, requeued}
@@ -26,9 +27,13 @@ use Rattle.view_laws.proofs.TreeLaws.{failure_tree, same_named_layer, in_put, fr
 use Rattle.view_laws.proofs.SightLaws.{space_of, failure_unseen, creation_unseen}
 use Rattle.need_laws.proofs.FireLaws.{all_fired}
 use Rattle.need_laws.proofs.AfterLaws.{fired_tree, fired_sound}
-use Rattle.settle_laws.specs.Sound.{SoundNothing, SoundTop, SoundSettles, QuietStaysSound, FollowedLeft, LeftTree, LeftSound, SettledSound, CreatedSound, CommittedSound}
+use Rattle.view_laws.specs.Sights.{committed_tells}
+use Rattle.view_laws.proofs.ChoiceLaws.{committed_consistent}
+use Rattle.settle_laws.specs.Edits.{choosing_in}
+use Rattle.settle_laws.proofs.TellLaws.{tell_below}
+use Rattle.settle_laws.specs.Sound.{SoundNothing, SoundTop, SoundSettles, QuietStaysSound, CommittedSettles, FollowedSettles, FollowedLeft, LeftTree, LeftSound, SettledSound, CreatedSound, CommittedSound}
 use Rattle.settle_laws.proofs.SettleLaws.{quiet_inconsistent, nothing_fails, top_kept, settled_by}
-use Rattle.settle_laws.proofs.EditLaws.{are_quiet}
+use Rattle.settle_laws.proofs.EditLaws.{are_quiet, edits_agree, edits_join}
 
 pub sound_nothing : SoundNothing
 sound_nothing layers sound = ap (λ (ls : List Layer). map (λ (l : Layer). l.space) ls) (filter_none (is_inconsistent layers) layers (λ l h. sound l (contains-from_In layers l h)))
@@ -53,7 +58,7 @@ sound_top layers sound = top_kept [] layers layers (sound_settles [] layers soun
 abbrev Rest : List Layer → List (List ℕ) → Type 0
 Rest layers ts = (l : Layer) → In l layers → is_inconsistent layers l ≡ true → In l.space ts
 
-some_found : {A : Type 0} (test : A → Bool) (xs : List A) (x : A) → In x xs → test x ≡ true → (y : A) × (find test xs ≡ Some y)
+pub some_found : {A : Type 0} (test : A → Bool) (xs : List A) (x : A) → In x xs → test x ≡ true → (y : A) × (find test xs ≡ Some y)
 some_found test [] x h e = elim h [ ]
 some_found {A = A} test (z ∷ xs) x h e = by (test z) refl h (some_found test xs x)
   where
@@ -202,8 +207,33 @@ created_sound parent procedure layers l tree at fits sound m c = made_sound pare
 pub quiet_stays_sound : QuietStaysSound
 quiet_stays_sound change layers space quiet sound = nothing_sound (in_layer space change layers) (quiet_inconsistent change layers space quiet ∙ sound_nothing layers sound)
 
+-- a commitment, as the choice over what is told
+committed_by : (statements : List Statement) (space : List ℕ) (i : ℕ) (layers : List Layer) (ts : List Tell) → committed_tells statements layers space i ≡ ts
+    → committed statements space i layers ≡ in_layer space (choosing_in (sight statements layers space) i) (in_layer space (telling ts) layers)
+committed_by statements space i layers ts e =
+    edits_agree space (committing (sight statements layers space) i) (λ l. choosing_in (sight statements layers space) i (telling ts l)) layers
+    (λ l at. ap (λ us. choosing_in (sight statements layers space) i (telling us l))
+    (ap (λ (m : Layer). chosen_tells i (first (filter_map (thread_offer (sight statements layers space)) m.threads))) (ap (λ (o : Option Layer). unwrap_or o (new_layer space)) (sym at)) ∙ e))
+    ∙ sym (edits_join space (choosing_in (sight statements layers space) i) (telling ts) layers (λ l. refl))
+
 pub committed_sound : CommittedSound
-committed_sound statements space i layers sound = quiet_stays_sound (committing (sight statements layers space) i) layers space (are_quiet.choice (sight statements layers space) i) sound
+committed_sound statements space i layers none sound =
+    subst IsSound (sym (committed_by statements space i layers [] none))
+    (quiet_stays_sound (choosing_in (sight statements layers space) i) (in_layer space (telling []) layers) space (are_quiet.choice (sight statements layers space) i)
+    (quiet_stays_sound (telling []) layers space (record { space = λ l. refl; status = λ l. refl; tells = λ l. append-nil l.tells }) sound))
+
+pub committed_settles : CommittedSettles
+committed_settles statements space i layers l at sound consistent =
+    let ts : List Tell = committed_tells statements layers space i in
+    let quiet = are_quiet.choice (sight statements layers space) i in
+    record {
+      below = λ t c. tell_below space ts layers l sound at (committed_consistent statements layers space i consistent) t
+          (subst (λ ss. Contains ss t) (ap inconsistent_spaces (committed_by statements space i layers ts refl) ∙ quiet_inconsistent (choosing_in (sight statements layers space) i) (in_layer space (telling ts) layers) space quiet) c);
+      left = refl;
+    }
+
+pub followed_settles : FollowedSettles
+followed_settles statements c space before after h = ap (λ (t : Turned). left_by t) (settled_by statements None 1 space before after c.queue c.shown h)
 
 pub followed_left : FollowedLeft
 followed_left statements c layers sound = ap (λ (t : Turned). left_by t) (settled_by statements None 1 [] layers layers c.queue c.shown (sound_settles [] layers sound))

@@ -5,18 +5,22 @@ use Rattle.oz_language.specs.declared.kernel.Kernel.{Kernel}
 use Rattle.oz_semantics.specs.Names.{is_top}
 use Rattle.oz_semantics.specs.Store.{is_consistent}
 use Rattle.oz_semantics.specs.Configurations.{layer_of, stack_of, view, in_layer, with_frames, without_terminated, telling, failed, raised_by, ending}
-use Rattle.oz_semantics.specs.Answers.{Edit, Answer, Acts, Edits, RaisesKind, RaisesTerm, Operates, Rests}
+use Rattle.oz_semantics.specs.Answers.{Edit, Answer, Acts, Edits, RaisesKind, RaisesTerm, Operates, Widens, Rests}
 use Rattle.oz_semantics.specs.Spaces.{states_of, answer_in}
 use Rattle.oz_semantics.specs.Changes.{Change, changed, changed_all}
 use Rattle.oz_semantics.specs.Effects.{Effect, Makes, Tells, ShowsText, act_effect}
 use Rattle.oz_semantics.specs.Exceptions.{is_failure, raise_term, with_term, unwound}
 use Rattle.oz_semantics.specs.Texts.{Printed, term_text}
-use Rattle.oz_semantics.specs.Settling.{Turned, settled, term_variable, with_raised, top_ended, without_inconsistent}
+use Rattle.oz_semantics.specs.Settling.{Turned, settled, term_variable, with_raised, top_ended, without_inconsistent, failing, top_failed}
+use Rattle.oz_semantics.specs.Propagation.{Run, Fails, Narrows, run_of, after_run}
+use Rattle.oz_semantics.specs.Schedule.{least_due, after_run_of, turn_of_queue, turn_of, turn}
 use Rattle.oz_semantics.specs.Steps.{went_on, ended_by, uncaught, raised_to, raised, raised_kind, told, after_effect, edit_tells, edited, after_edit, after_answer, without_top, stepped}
 use Rattle.oz_semantics.specs.declared.value.Tell.{Tell}
 use Rattle.oz_semantics.specs.declared.configuration.Frame.{Frame}
+use Rattle.oz_semantics.specs.declared.configuration.Propagator.{Propagator}
 use Rattle.oz_semantics.specs.declared.configuration.Layer.{Layer}
 use Rattle.oz_semantics.specs.declared.configuration.Configuration.{Configuration}
+use Rattle.oz_semantics.specs.declared.outcome.Stepped.TheVariants.{Quiescent}
 use Rattle.oz_semantics.specs.declared.outcome.RaiseKind.{RaiseKind}
 use Rattle.oz_semantics.specs.declared.outcome.RaiseKind.TheVariants.{FailureTell}
 use Rattle.view_laws.specs.Sights.{IsEnd}
@@ -29,7 +33,8 @@ module _ (Good : List Layer → Type 0) (Holds : Turned → Type 0) (k : Kernel)
     (changed_tree : (parent : List ℕ) (edit : Edit) (layers : List Layer) → FitsIn layers parent edit → Good layers → Good (edited k.statements parent edit layers))
     (ended : (space : List ℕ) (how : Layer → Layer) (layers : List Layer) → IsEnd how → Good layers → Good (ending space how layers))
     (follows : (mover : Option Ident) (cost : ℕ) (c : Configuration) → Good c.layers → 1 ≤ cost → Holds (settled k.statements mover cost c))
-    (ends : (x : Ident) (layers : List Layer) (c : Configuration) → Good layers → Holds (top_ended 1 x (without_inconsistent layers) c)) where
+    (ends : (x : Ident) (layers : List Layer) (c : Configuration) → Good layers → Holds (top_ended 1 x (without_inconsistent layers) c))
+    (fails : (c : Configuration) → Good c.layers → Holds (top_failed 1 c)) where
   one : 1 ≤ 1
   one = omega arith
 
@@ -105,6 +110,7 @@ module _ (Good : List Layer → Type 0) (Holds : Turned → Type 0) (k : Kernel)
   answer_holds id c (RaisesKind kind) fits good first = kind_holds id kind (without_top id c.layers) c good
   answer_holds id c (RaisesTerm x) fits good first = raised_holds id x (without_top id c.layers) c good
   answer_holds id c (Operates op space x) fits good first = follows (Some id) 1 c first one
+  answer_holds id c (Widens ts) fits good first = told_holds id ts (λ ls. ls) c.layers c first (λ told. told)
   answer_holds id c (Rests ready) fits good first = follows (Some id) 1 c first one
 
   pub step_holds : (id : Ident) (c : Configuration) → Good c.layers → Holds (stepped k id c)
@@ -112,9 +118,39 @@ module _ (Good : List Layer → Type 0) (Holds : Turned → Type 0) (k : Kernel)
       answer_holds id c (answer_in k.statements c.layers (states_of k.statements c.layers) id.space (stack_of c.layers id)) (answer_fits k.statements c.layers id)
       (edits id.space (with_frames id.number (λ frames. drop 1 frames)) c.layers (λ l. (refl, omega arith)) good) good
 
+  -- and of each run of a propagator
+  run_holds : (l : Layer) (p : Propagator) (c : Configuration) (run : Run) → Good c.layers → Holds (after_run_of k.statements l p c run)
+  run_holds l p c Fails good = by (is_top l.space)
+    where
+      by : (b : Bool) → Holds (if b then top_failed 1 c else settled k.statements None 1 (record c { layers = failing c.layers l.space }))
+      by true = fails c good
+      by false = follows None 1 (record c { layers = failing c.layers l.space }) (ended l.space failed c.layers (λ m. (refl, refl)) good) one
+  run_holds l p c (Narrows ts) good =
+      follows None 1 (record c { layers = in_layer l.space (after_run (view c.layers l.space) p ts) c.layers })
+      (edits l.space (after_run (view c.layers l.space) p ts) c.layers (λ m. (refl, omega arith)) good) one
+
+  -- so of each turn
+  pub turn_holds : (rests : (c : Configuration) → Good c.layers → Holds (Quiescent, c)) (c : Configuration) → Good c.layers → Holds (turn k c)
+  turn_holds rests c good = by (least_due c.layers)
+    where
+      by_queue : (queue : List Ident) → Holds (turn_of_queue k c queue)
+      by_queue [] = rests c good
+      by_queue (id ∷ queue) = step_holds id (record c { queue = queue }) good
+
+      by : (o : Option (Layer × Propagator)) → Holds (turn_of k c o)
+      by None = by_queue c.queue
+      by (Some due) = run_holds due.0 due.1 c (run_of (view c.layers due.0.space) due.1) good
+
 -- So it is of what asks nothing of the layers
 pub each_step : (Holds : Turned → Type 0) (k : Kernel) → ((mover : Option Ident) (cost : ℕ) (c : Configuration) → 1 ≤ cost → Holds (settled k.statements mover cost c))
     → ((x : Ident) (layers : List Layer) (c : Configuration) → Holds (top_ended 1 x layers c)) → (id : Ident) (c : Configuration) → Holds (stepped k id c)
 each_step Holds k follows ends id c =
     step_holds (λ (layers : List Layer). Unit {0}) Holds k (λ space f layers h good. tt) (λ parent edit layers fits good. tt) (λ space how layers h good. tt) (λ mover cost d good h. follows mover cost d h)
-    (λ x layers d good. ends x (without_inconsistent layers) d) id c tt
+    (λ x layers d good. ends x (without_inconsistent layers) d) (λ d good. ends _ _ d) id c tt
+
+-- and of each turn
+pub each_turn : (Holds : Turned → Type 0) (k : Kernel) → ((mover : Option Ident) (cost : ℕ) (c : Configuration) → 1 ≤ cost → Holds (settled k.statements mover cost c))
+    → ((x : Ident) (layers : List Layer) (c : Configuration) → Holds (top_ended 1 x layers c)) → ((c : Configuration) → Holds (Quiescent, c)) → (c : Configuration) → Holds (turn k c)
+each_turn Holds k follows ends rests c =
+    turn_holds (λ (layers : List Layer). Unit {0}) Holds k (λ space f layers h good. tt) (λ parent edit layers fits good. tt) (λ space how layers h good. tt) (λ mover cost d good h. follows mover cost d h)
+    (λ x layers d good. ends x (without_inconsistent layers) d) (λ d good. ends _ _ d) (λ d good. rests d) c tt

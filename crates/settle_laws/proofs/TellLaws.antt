@@ -1,7 +1,7 @@
 -- A space that is told something consistent with what it sees: only spaces below it may fail.
 use Rattle.std.proofs.Common.{◌≡◌, inl, inr, ℕ, Bool, true, false, not, ◌&&◌, List, ◌++◌, refl, sym, ap, ◌∙◌, Some, is_some, filter}
 use Rattle.oz_semantics.specs.Names.{is_below, is_properly_below}
-use Rattle.oz_semantics.specs.Store.{View, IsConsistent, is_consistent}
+use Rattle.oz_semantics.specs.Store.{View, is_consistent}
 use Rattle.oz_semantics.specs.Configurations.{is_of, layer_at, view, in_layer, telling}
 use Rattle.oz_semantics.specs.Settling.{may_fail, is_inconsistent, inconsistent_spaces}
 use Rattle.oz_semantics.specs.declared.value.Tell.{Tell}
@@ -13,15 +13,14 @@ use Rattle.view_laws.specs.Steps.{IsSound}
 use Rattle.view_laws.proofs.Members.{decide, not_both, has-left, has-right}
 use Rattle.view_laws.proofs.ListLaws.{filter_in, in_map, in_edit}
 use Rattle.view_laws.proofs.NameLaws.{below_itself, properly_by}
-use Rattle.view_laws.proofs.ViewLaws.{same_kept}
+use Rattle.view_laws.proofs.EqualLaws.{consistent_less}
 use Rattle.view_laws.proofs.SightLaws.{space_of, change_unseen, tell_seen}
 use Rattle.settle_laws.specs.Settles.{TellBelow}
 
 -- what tells less is consistent too
 pub consistent_part : (before after : List Tell) → Keeps before after → is_consistent after ≡ true → is_consistent before ≡ true
 consistent_part before after keeps e =
-    let whole : IsConsistent after = (tests_consistent after).0 e in
-    (tests_consistent before).1 (record { agree = λ x y v w s c d. whole.agree x y v w (same_kept before after keeps s) (keeps _ c) (keeps _ d) })
+    (tests_consistent before).1 (consistent_less before after keeps ((tests_consistent after).0 e))
 
 module _ (space : List ℕ) (ts : List Tell) (old : List Layer) (l : Layer) (sound : IsSound old) (at : layer_at old space ≡ Some l) (fits : is_consistent (view old space ++ ts) ≡ true) where
   abbrev new : List Layer

@@ -11,9 +11,9 @@ use Rattle.oz_semantics.specs.Answers.{Edit, Creates, Commits, Copies, Injects, 
 use Rattle.oz_semantics.specs.Edits.{committing}
 use Rattle.oz_semantics.specs.Exceptions.{raise_term, with_term}
 use Rattle.oz_semantics.specs.Triggers.{triggered}
-use Rattle.oz_semantics.specs.Settling.{Turned, top_is_inconsistent, top_failed, requeued, without_inconsistent, runnable, queue_after, settled}
+use Rattle.oz_semantics.specs.Settling.{Turned, top_is_inconsistent, top_failed, with_raised, requeued, without_inconsistent, runnable, queue_after, settled}
 use Rattle.oz_semantics.specs.Steps.{edited, stepped}
-use Rattle.oz_semantics.specs.Schedule.{turn_of}
+use Rattle.oz_semantics.specs.Schedule.{turn}
 use Rattle.oz_semantics.specs.Runs.{left_by, opening_environment, top_layer}
 use Rattle.oz_semantics.specs.declared.configuration.Layer.{Layer}
 use Rattle.oz_semantics.specs.declared.configuration.Configuration.{Configuration}
@@ -34,7 +34,7 @@ use Rattle.settle_laws.proofs.SettleLaws.{settled_by}
 use Rattle.settle_laws.proofs.SoundLaws.{left_tree, left_sound, begun_good, sound_settles}
 use Rattle.settle_laws.proofs.OpeningLaws.{opening_sound}
 use Rattle.settle_laws.proofs.FitLaws.{FitsIn}
-use Rattle.settle_laws.proofs.StepLaws.{step_holds}
+use Rattle.settle_laws.proofs.StepLaws.{step_holds, turn_holds}
 
 -- a tree is left, and where the machine moved nothing is inconsistent
 abbrev LeavesTree : Turned → Type 0
@@ -42,11 +42,14 @@ LeavesTree (Moved cost, d) = IsTree d.layers × IsSound d.layers
 LeavesTree (TopEnded x cost, d) = IsTree d.layers
 LeavesTree (Quiescent, d) = IsTree d.layers
 
+failed_top : (layers : List Layer) → IsTree layers → IsTree (with_raised FailureTop [] layers)
+failed_top layers tree = change_tree [] (with_term (raise_term FailureTop)) layers (λ l e. (refl, omega arith)) tree
+
 settled_leaves : (statements : List Statement) (mover : Option Ident) (cost : ℕ) (c : Configuration) → IsTree c.layers → LeavesTree (settled statements mover cost c)
 settled_leaves statements mover cost c tree = by (top_is_inconsistent c.layers)
   where
     by : (b : Bool) → LeavesTree (if b then top_failed cost c else (Moved cost, requeued statements mover c (triggered statements (without_inconsistent c.layers))))
-    by true = change_tree [] (with_term (raise_term FailureTop)) c.layers (λ l e. (refl, omega arith)) tree
+    by true = failed_top c.layers tree
     by false = begun_good statements (without_inconsistent c.layers) (left_tree c.layers tree) (left_sound c.layers tree)
 
 -- the edits of a tree that fit it
@@ -61,7 +64,7 @@ edited_tree statements parent (TakesIn child x) layers fits tree = taken_tree pa
 step_leaves : (k : Kernel) (id : Ident) (c : Configuration) → IsTree c.layers → LeavesTree (stepped k id c)
 step_leaves k id c tree =
     step_holds IsTree LeavesTree k (λ space f layers h good. change_tree space f layers (λ l e. h l) good) (edited_tree k.statements) (λ space how layers h good. end_tree space how layers h good)
-    (λ mover cost d good h. settled_leaves k.statements mover cost d good) (λ x layers d good. left_tree layers good) id c tree
+    (λ mover cost d good h. settled_leaves k.statements mover cost d good) (λ x layers d good. left_tree layers good) (λ d good. failed_top d.layers good) id c tree
 
 tree_of : (t : Turned) → LeavesTree t → IsTree t.1.layers
 tree_of (Moved cost, d) h = h.0
@@ -74,15 +77,16 @@ step_tree k id c tree = tree_of (stepped k id c) (step_leaves k id c tree)
 pub step_sound : StepSound
 step_sound k id c n d tree e = (subst LeavesTree e (step_leaves k id c tree)).1
 
-turn_leaves : (k : Kernel) (c : Configuration) (queue : List Ident) → IsTree c.layers → LeavesTree (turn_of k c queue)
-turn_leaves k c [] tree = tree
-turn_leaves k c (id ∷ queue) tree = step_leaves k id (record c { queue = queue }) tree
+turn_leaves : (k : Kernel) (c : Configuration) → IsTree c.layers → LeavesTree (turn k c)
+turn_leaves k c tree =
+    turn_holds IsTree LeavesTree k (λ space f layers h good. change_tree space f layers (λ l e. h l) good) (edited_tree k.statements) (λ space how layers h good. end_tree space how layers h good)
+    (λ mover cost d good h. settled_leaves k.statements mover cost d good) (λ x layers d good. left_tree layers good) (λ d good. failed_top d.layers good) (λ d good. good) c tree
 
 pub turn_tree : TurnTree
-turn_tree k c tree = tree_of (turn_of k c c.queue) (turn_leaves k c c.queue tree)
+turn_tree k c tree = tree_of (turn k c) (turn_leaves k c tree)
 
 pub turn_sound : TurnSound
-turn_sound k c n d tree e = (subst LeavesTree e (turn_leaves k c c.queue tree)).1
+turn_sound k c n d tree e = (subst LeavesTree e (turn_leaves k c tree)).1
 
 -- Where a program opens
 

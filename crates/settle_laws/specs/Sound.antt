@@ -14,6 +14,7 @@ use Rattle.oz_semantics.specs.Runs.{opening}
 use Rattle.oz_semantics.specs.Search.{followed}
 use Rattle.oz_semantics.specs.declared.configuration.Layer.{Layer}
 use Rattle.oz_semantics.specs.declared.configuration.Configuration.{Configuration}
+use Rattle.view_laws.specs.Sights.{committed_tells}
 use Rattle.view_laws.specs.Trees.{IsTree}
 use Rattle.view_laws.specs.Steps.{IsSound}
 use Rattle.settle_laws.specs.Settles.{Settles, IsQuiet}
@@ -69,11 +70,25 @@ CreatedSound =
     (parent : List ℕ) (procedure : Ident) (layers : List Layer) (l : Layer) → IsTree layers → layer_at layers parent ≡ Some l → is_consistent (view layers parent) ≡ true → IsSound layers
     → IsSound (created parent procedure layers)
 
--- and the choice of an alternative is not seen
+-- and the choice of an alternative that tells nothing is not seen
 abbrev pub CommittedSound : Type 0
-CommittedSound = (statements : List Statement) (space : List ℕ) (i : ℕ) (layers : List Layer) → IsSound layers → IsSound (committed statements space i layers)
+CommittedSound =
+    (statements : List Statement) (space : List ℕ) (i : ℕ) (layers : List Layer) → committed_tells statements layers space i ≡ [] → IsSound layers
+    → IsSound (committed statements space i layers)
 
--- What follows an edit by the search that leaves nothing inconsistent is that what is needed begins, and the queue follows
+-- Where the space is consistent, only spaces below it fail
+abbrev pub CommittedSettles : Type 0
+CommittedSettles =
+    (statements : List Statement) (space : List ℕ) (i : ℕ) (layers : List Layer) (l : Layer) → layer_at layers space ≡ Some l → IsSound layers
+    → is_consistent (view layers space) ≡ true → Settles space (committed statements space i layers) (without_inconsistent (committed statements space i layers))
+
+-- What follows an edit by the search after which only spaces below one fail is that these fail, what is needed begins, and the queue follows
+abbrev pub FollowedSettles : Type 0
+FollowedSettles =
+    (statements : List Statement) (c : Configuration) (space : List ℕ) (before after : List Layer) → Settles space before after
+    → followed statements c before ≡ record c { layers = triggered statements after; queue = queue_after (runnable statements (triggered statements after)) None c.queue }
+
+-- What follows one that leaves nothing inconsistent is that what is needed begins, and the queue follows
 abbrev pub FollowedLeft : Type 0
 FollowedLeft =
     (statements : List Statement) (c : Configuration) (layers : List Layer) → IsSound layers

@@ -1,5 +1,5 @@
 -- What each turn leaves, a queue of exactly the threads that can step, and what it costs.
-use Rattle.std.specs.Prelude.{ℕ, ◌≡◌, ◌≤◌, false, List, [], ◌∷◌, Option}
+use Rattle.std.specs.Prelude.{ℕ, ◌≡◌, ◌⊎◌, ◌≤◌, false, List, [], ◌∷◌, Option}
 use Rattle.oz_base.specs.declared.names.Ident.{Ident}
 use Rattle.oz_language.specs.declared.kernel.Statement.{Statement}
 use Rattle.oz_language.specs.declared.kernel.Kernel.{Kernel}
@@ -68,3 +68,7 @@ cost_of Quiescent = 0
 -- Each step costs something
 abbrev pub CostLaw : Type 0
 CostLaw = (k : Kernel) (id : Ident) (c : Configuration) → 1 ≤ cost_of (stepped k id c).0
+
+-- and so does each turn, unless there is nothing to do
+abbrev pub TurnCost : Type 0
+TurnCost = (k : Kernel) (c : Configuration) → ((turn k c).0 ≡ Quiescent) ⊎ (1 ≤ cost_of (turn k c).0)

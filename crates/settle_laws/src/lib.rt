@@ -4,16 +4,17 @@
 #![tactic(auto)]
 
 ghost use Rattle.settle_laws.specs.Settles.{NothingFails, QuietFails, QuietSettles, ChangesSettle, KeepsOwn, KeepsView, EndsSame, Settled, TellSettles, TellBelow, TopKept};
-ghost use Rattle.settle_laws.specs.Edits.{EditsJoin, EditsAgree, TermSettles, AreQuiet, QuietThere, QuietView, PopView};
-ghost use Rattle.settle_laws.specs.Turns.{SettledExact, StepExact, TurnExact, FollowedExact, OpeningExact, RootExact, ChosenExact, CostLaw};
+ghost use Rattle.settle_laws.specs.Edits.{EditsJoin, EditsAgree, TermSettles, CommittingParts, AreQuiet, QuietThere, QuietView, PopView};
+ghost use Rattle.settle_laws.specs.Turns.{SettledExact, StepExact, TurnExact, FollowedExact, OpeningExact, RootExact, ChosenExact, CostLaw, TurnCost};
 ghost use Rattle.settle_laws.specs.Content.{SettledContent, StepContent, TurnContent, FollowedContent, OpeningContent};
-ghost use Rattle.settle_laws.specs.Sound.{SoundNothing, SoundTop, SoundSettles, QuietStaysSound, LeftTree, LeftSound, SettledSound, StepTree, StepSound, TurnTree, TurnSound, CreatedSound, CommittedSound, FollowedLeft, OpeningSound, OpeningTree, OpeningLeft};
+ghost use Rattle.settle_laws.specs.Sound.{SoundNothing, SoundTop, SoundSettles, QuietStaysSound, LeftTree, LeftSound, SettledSound, StepTree, StepSound, TurnTree, TurnSound, CreatedSound, CommittedSound, CommittedSettles, FollowedLeft, FollowedSettles, OpeningSound, OpeningTree, OpeningLeft};
 
 /// What edits of one layer come to. Nothing: it holds laws.
 pub fn edit_law()
     ensures join { EditsJoin }
     ensures agree { EditsAgree }
     ensures term { TermSettles }
+    ensures committing { CommittingParts }
     ensures quiet { AreQuiet }
     ensures there { QuietThere }
     ensures seen { QuietView }
@@ -44,6 +45,7 @@ pub fn turn_law()
     ensures root { RootExact }
     ensures chosen { ChosenExact }
     ensures cost { CostLaw }
+    ensures turn_cost { TurnCost }
 {}
 
 /// No turn leaves a trigger that is needed. Nothing: it holds laws.
@@ -70,7 +72,9 @@ pub fn sound_law()
     ensures turn { TurnSound }
     ensures created { CreatedSound }
     ensures committed { CommittedSound }
+    ensures committed_settles { CommittedSettles }
     ensures followed { FollowedLeft }
+    ensures followed_settles { FollowedSettles }
 {}
 
 /// What a program opens with. Nothing: it holds laws.

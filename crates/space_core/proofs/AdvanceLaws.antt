@@ -1,7 +1,8 @@
 -- One edit of a space after another, at the place that was looked up.
-use Rattle.std.proofs.Common.{◌≡◌, ℕ, ◌+◌, ◌<◌, ◌≤◌, arith, length, true, false, List, [], ◌∷◌, ◌++◌, slice_set, slice_index_or, refl, sym, ap, ap₂, subst, ◌∙◌, drop, Option, Some, None, unwrap_or, Bool}
+use Rattle.std.proofs.Common.{◌≡◌, ℕ, ◌+◌, ◌<◌, ◌≤◌, arith, length, true, false, List, [], ◌∷◌, ◌++◌, slice_set, slice_index_or, refl, sym, ap, ap₂, subst, ◌∙◌, drop, take, Option, Some, None, unwrap_or, Bool}
 use Rattle.std.specs.Prelude.{MatchOption}
 use Rattle.std.specs.List.{list_all}
+use Rattle.std.proofs.Math.Seq.{take-length, take-append_seam}
 use Rattle.std.proofs.lemmas.List.{get_or-set_same, get_or_default, set-set, set-get_or}
 use Rattle.oz_base.specs.Lists.{list_eq}
 use Rattle.oz_base.specs.declared.names.Ident.{Ident}
@@ -13,6 +14,8 @@ use Rattle.oz_semantics.specs.Steps.{without_top}
 use Rattle.oz_semantics.specs.declared.value.Tell.{Tell}
 use Rattle.oz_semantics.specs.declared.configuration.Frame.{Frame}
 use Rattle.oz_semantics.specs.declared.configuration.Thread.{Thread}
+use Rattle.oz_semantics.specs.declared.configuration.LastRun.TheVariants.{Never}
+use Rattle.oz_semantics.specs.declared.configuration.Propagator as propagators
 use Rattle.oz_semantics.specs.declared.configuration.Layer.{Layer}
 use Rattle.settle_laws.specs.Settles.{Settles, IsQuiet as IsQuietChange}
 use Rattle.settle_laws.proofs.EditLaws.{are_quiet}
@@ -20,13 +23,13 @@ use Rattle.settle_laws.proofs.SettleLaws.{quiet_settles}
 use Rattle.view_laws.proofs.SightLaws.{space_of}
 use Rattle.cells_ports.specs.Objects.{Contents}
 use Rattle.space_core.specs.Advances.{given_out, IsAdvanced, IsRaised, taken_on}
-use Rattle.space_core.specs.Giving.{giving, objects_after, after_giving}
+use Rattle.space_core.specs.Giving.{giving, objects_after, propagators_after, after_giving}
 use Rattle.space_core.specs.Places.{IsFirst}
 use Rattle.space_core.specs.Shown.{shown, shown_all, is_home, IsSound, IsQuiet}
 use Rattle.space_core.specs.Stacks.{cut_out}
 use Rattle.space_core.specs.Telling.{after_giving_at, IsToldMore, IsLeft, ToldThrough, ToldAt, ClashesAt, HasThread}
 use Rattle.space_core.specs.declared.given.Given.{Given}
-use Rattle.space_core.specs.declared.given.Given.TheVariants.{Nothing, Variables, Procedure, Name, Cell, Content, Port, End}
+use Rattle.space_core.specs.declared.given.Given.TheVariants.{Nothing, Variables, Procedure, Name, Cell, Content, Port, End, Propagator}
 use Rattle.space_core.specs.declared.level.Level.{Level}
 use Rattle.space_core.specs.Threads.{Running}
 use Rattle.space_core.proofs.AnswerLaws.{PlaceIn, unchanged}
@@ -69,6 +72,7 @@ gives_quietly (Cell content) l = record { becomes = refl; space = refl; store = 
 gives_quietly (Content n content) l = record { becomes = refl; space = refl; store = refl; told_from = refl; touched = refl; traced = refl; knows = refl; bare = refl; variables = omega arith; children = omega arith }
 gives_quietly (Port stream) l = record { becomes = refl; space = refl; store = refl; told_from = refl; touched = refl; traced = refl; knows = refl; bare = refl; variables = omega arith; children = omega arith }
 gives_quietly (End n end) l = record { becomes = refl; space = refl; store = refl; told_from = refl; touched = refl; traced = refl; knows = refl; bare = refl; variables = omega arith; children = omega arith }
+gives_quietly (Propagator relation variables) l = record { becomes = refl; space = refl; store = refl; told_from = refl; touched = refl; traced = refl; knows = refl; bare = refl; variables = omega arith; children = omega arith }
 
 -- A space gives something out and is told more
 module _ (levels : List Level) (id : Ident) (place : ℕ) (s : IsSound levels) (h : PlaceIn levels id.space place)
@@ -274,7 +278,19 @@ set_back_is : (given : Given) (objects : Contents) (before : Option Contents) �
 set_back_is given objects None h = h
 set_back_is given objects (Some same) h = h
 
--- A space that was told nothing after it gave something out, and whose numbers, cells and ports are set back
+-- as many propagators as there were are those
+kept_first : (given : Given) (ps : List propagators.Propagator) → take (length ps) (propagators_after given ps) ≡ ps
+kept_first Nothing ps = take-length ps
+kept_first (Variables n) ps = take-length ps
+kept_first Procedure ps = take-length ps
+kept_first Name ps = take-length ps
+kept_first (Cell content) ps = take-length ps
+kept_first (Content n content) ps = take-length ps
+kept_first (Port stream) ps = take-length ps
+kept_first (End n end) ps = take-length ps
+kept_first (Propagator relation variables) ps = take-append_seam ps (record { relation = relation; variables = variables; last = Never } ∷ [])
+
+-- A space that was told nothing after it gave something out, and whose numbers, cells, ports and propagators are set back
 module _ (levels : List Level) (place : ℕ) (within : place < length levels) (given : Given) (l0 l1 g : Level) (r0 : l0 ≡ slice_index_or levels place l0) (r1 : l1 ≡ slice_index_or levels place l1)
     (e : g ≡ after_giving given l1) (news : List Level) (same : news ≡ slice_set levels place g) where
   same_level : l1 ≡ l0
@@ -284,13 +300,15 @@ module _ (levels : List Level) (place : ℕ) (within : place < length levels) (g
   pub given_level : (l2 : Level) → l2 ≡ slice_index_or (slice_set levels place g) place l2 → l2 ≡ after_giving given l0
   given_level l2 r2 = read_set levels place g l2 within r2 ∙ e ∙ ap (after_giving given) same_level
 
-  module _ (l3 : Level) (r3 : l3 ≡ slice_index_or news place l3) (before : Option Contents) (b : IsBefore given l1.objects before) (m : Level)
-      (back : m ≡ record l3 { numbers = l0.numbers; objects = unwrap_or before l3.objects }) where
+  module _ (l3 : Level) (r3 : l3 ≡ slice_index_or news place l3) (before : Option Contents) (b : IsBefore given l1.objects before) (posted : ℕ) (p : posted ≡ length l0.propagators) (m : Level)
+      (back : m ≡ record l3 { numbers = l0.numbers; objects = unwrap_or before l3.objects; propagators = take posted l3.propagators }) where
     set_back_level : m ≡ l0
     set_back_level =
         back
-        ∙ ap (λ (n : Level). record n { numbers = l0.numbers; objects = unwrap_or before n.objects }) (given_level l3 (subst (λ (ls : List Level). l3 ≡ slice_index_or ls place l3) same r3))
-        ∙ ap (λ (o : Contents). record l0 { objects = o }) (set_back_is given l0.objects before (subst (λ (n : Level). IsBefore given n.objects before) same_level b))
+        ∙ ap₂ (λ (n : Level) (count : ℕ). record n { numbers = l0.numbers; objects = unwrap_or before n.objects; propagators = take count n.propagators })
+        (given_level l3 (subst (λ (ls : List Level). l3 ≡ slice_index_or ls place l3) same r3)) p
+        ∙ ap₂ (λ (o : Contents) (ps : List propagators.Propagator). record l0 { objects = o; propagators = ps })
+        (set_back_is given l0.objects before (subst (λ (n : Level). IsBefore given n.objects before) same_level b)) (kept_first given l0.propagators)
 
     pub restored : slice_set news place m ≡ levels
     restored =

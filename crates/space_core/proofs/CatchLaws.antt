@@ -58,6 +58,7 @@ quiet_same l m q = λ i. record {
   touched = q.touched i;
   threads = record { list = (q.becomes i).threads; next = (q.becomes i).next.thread };
   triggers = (q.becomes i).triggers;
+  propagators = (q.becomes i).propagators;
   objects = record { cells = (q.becomes i).cells; ports = (q.becomes i).ports };
   numbers = record { variable = (q.becomes i).next.variable; procedure = (q.becomes i).next.procedure; name = (q.becomes i).next.name; child = (q.becomes i).next.child };
   traced = q.traced i;

@@ -174,6 +174,7 @@ shown_seeing seen l e = λ i. record {
   tells = e i;
   threads = l.threads.list;
   triggers = l.triggers;
+  propagators = l.propagators;
   cells = l.objects.cells;
   ports = l.objects.ports;
   next = next_with l.threads.next l.numbers;

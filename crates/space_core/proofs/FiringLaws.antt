@@ -154,19 +154,19 @@ changed_result l m left (Err a) q = changed_quietly l m left q
 
 -- The place of a space
 
-set_at : (ls : List Layer) (place : ℕ) (x : Layer) (change : Layer → Layer) → place < length ls → x ≡ get_or ls place x → slice_set ls place (change x) ≡ at_place place change ls
+pub set_at : {A : Type 0} (xs : List A) (place : ℕ) (x : A) (change : A → A) → place < length xs → x ≡ get_or xs place x → slice_set xs place (change x) ≡ at_place place change xs
 set_at [] place x change within e = absurd (omega (arith, within))
-set_at (l ∷ ls) zero x change within e = ap (λ (y : Layer). change y ∷ ls) e
-set_at (l ∷ ls) (suc n) x change within e = ap (λ ms. l ∷ ms) (set_at ls n x change (omega (arith, within)) e)
+set_at {A = A} (y ∷ ys) zero x change within e = ap (λ (z : A). change z ∷ ys) e
+set_at (y ∷ ys) (suc n) x change within e = ap (λ zs. y ∷ zs) (set_at ys n x change (omega (arith, within)) e)
 
 module _ (levels : List Level) (s : IsSound levels) (place : ℕ) (within : place < length levels) (l : Level) (e : l ≡ slice_index_or levels place l) where
   abbrev layers : List Layer
   layers = shown_all levels
 
-  shown_within : place < length layers
+  pub shown_within : place < length layers
   shown_within = omega (arith, within, length-map levels shown)
 
-  shown_item : get_or layers place (shown l) ≡ shown l
+  pub shown_item : get_or layers place (shown l) ≡ shown l
   shown_item = get_or-map shown levels place l (shown l) within ∙ ap shown (sym e)
 
   at_own_place : (o : Option ℕ) → Found (is_of l.space) layers o → layer_at layers l.space ≡ Some (shown l) → IsFirst (is_of l.space) layers place (shown l)
@@ -179,7 +179,7 @@ module _ (levels : List Level) (s : IsSound levels) (place : ℕ) (within : plac
         | inr q ↦ absurd (other_name layers p place h.0 (shown l) s.tree.ordered h.1.within shown_within h.1.item shown_item (λ k. absurd (grind (arith, q, k))) (ap (λ (k : Layer). k.space) same))
       ]
 
-  own_place : IsFirst (is_of l.space) layers place (shown l)
+  pub own_place : IsFirst (is_of l.space) layers place (shown l)
   own_place = at_own_place (position (is_of l.space) layers) (found_by_position (is_of l.space) layers) (layer_found levels s l (place, within, sym e))
 
   pub edit_sound : (m : Level) (change : Layer → Layer) → IsQuiet change l m → IsSound (slice_set levels place m)
@@ -190,7 +190,7 @@ module _ (levels : List Level) (s : IsSound levels) (place : ℕ) (within : plac
 
 module _ (levels : List Level) (value : List Layer) (viewed : shown_all levels ≡ value) (s : IsSound levels) (place : ℕ) (within : place < length value) (l m : Level) (e : l ≡ slice_index_or levels place l)
     (change : Layer → Layer) where
-  inside : place < length levels
+  pub inside : place < length levels
   inside = omega (arith, within, length-map levels shown, ap length viewed)
 
   pub placed_sound : {A E : Type 0} (r : Result A E) → OnOk r (IsQuiet change l m) → OnErr r (IsChanged l m) → IsSound (slice_set levels place m)

@@ -7,7 +7,7 @@ use Rattle.oz_semantics.specs.Store.{named_by, is_consistent}
 use Rattle.oz_semantics.specs.Configurations.{is_of, view, in_layer, telling}
 use Rattle.oz_semantics.specs.Renamings.{Renaming, renamed_tell}
 use Rattle.oz_semantics.specs.declared.value.Tell.{Tell}
-use Rattle.oz_semantics.specs.declared.value.Tell.TheVariants.{Equal, Is}
+use Rattle.oz_semantics.specs.declared.value.Tell.TheVariants.{Equal, Is, Within}
 use Rattle.oz_semantics.specs.declared.value.Value.TheVariants as value
 use Rattle.oz_semantics.specs.declared.configuration.Layer.{Layer}
 use Rattle.view_laws.specs.Trees.{IsTree}
@@ -163,6 +163,7 @@ renamed_bare r space old new n bare under b =
 -- Other names leave it whether a variable is told to be a space
 gives_renamed : (r : Renaming) (t : Tell) → gives_space (renamed_tell r t) ≡ gives_space t
 gives_renamed r (Equal x y) = refl
+gives_renamed r (Within x is) = refl
 gives_renamed r (Is x (value.Constant c)) = refl
 gives_renamed r (Is x (value.Name n)) = refl
 gives_renamed r (Is x (value.Record w)) = refl

@@ -17,7 +17,7 @@ use Rattle.space_core.specs.Stacks.{cut_out}
 use Rattle.space_core.specs.Giving.{giving, declaring, spawning_by, assigning}
 use Rattle.space_core.specs.Advances.{given_out, taken_on}
 use Rattle.space_core.specs.declared.given.Given.{Given}
-use Rattle.space_core.specs.declared.given.Given.TheVariants.{Nothing, Variables, Procedure, Name, Cell, Content, Port, End}
+use Rattle.space_core.specs.declared.given.Given.TheVariants.{Nothing, Variables, Procedure, Name, Cell, Content, Port, End, Propagator}
 
 -- Stacks
 
@@ -92,6 +92,7 @@ module _ (id : Ident) (value : List Layer) where
   told_by_is ts (Cell content) = together ts (Cell content) ∙ sym (then_given ts (giving (Cell content)))
   told_by_is ts (Content n content) = together ts (Content n content) ∙ sym (then_given ts (giving (Content n content)))
   told_by_is ts (Port stream) = together ts (Port stream) ∙ sym (then_given ts (giving (Port stream)))
+  told_by_is ts (Propagator relation variables) = together ts (Propagator relation variables) ∙ sym (then_given ts (giving (Propagator relation variables)))
   told_by_is ts (End n end) =
       together ts (End n end)
       ∙ sym (edits_join id.space (with_end n end) (giving_out 1) (in_layer id.space (telling ts) (without_top id value)) (λ l. refl) ∙ then_given ts (giving (End n end)))

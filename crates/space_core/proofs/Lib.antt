@@ -1,4 +1,6 @@
+pub mod IntervalLaws
 pub mod FiringLaws
+pub mod PostingLaws
 pub mod Firsts
 pub mod HalvingLaws
 pub mod BehindLaws

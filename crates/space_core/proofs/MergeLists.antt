@@ -5,8 +5,9 @@ use Rattle.std.specs.List.{list_all}
 use Rattle.std.proofs.lemmas.Bool.{false≢true}
 use Rattle.std.proofs.lemmas.Option.{slice_get-get_or}
 use Rattle.oz_semantics.specs.Configurations.{with_frames}
-use Rattle.oz_semantics.specs.Renamings.{Renaming, renamed_thread, renamed_trigger, renamed_layer}
+use Rattle.oz_semantics.specs.Renamings.{Renaming, renamed_thread, renamed_trigger, renamed_propagator, renamed_layer}
 use Rattle.oz_semantics.specs.Edits.{joined}
+use Rattle.oz_semantics.specs.declared.configuration.Propagator.{Propagator}
 use Rattle.oz_semantics.specs.declared.configuration.Trigger.{Trigger}
 use Rattle.cells_ports.specs.Objects.{Contents}
 use Rattle.oz_semantics.specs.declared.configuration.Thread.{Thread}
@@ -105,6 +106,7 @@ kept_none ts next ended h = record { ascends = ascends_low 1 next ts h.ascends; 
 module _ (r : Renaming) (child l m : Level) (number : ℕ) (q : IsQuiet (with_frames number (λ stack. drop 1 stack)) l m)
     (threads : Running) (are_threads : threads ≡ with_joined r child.threads m.threads)
     (triggers : List Trigger) (are_triggers : triggers ≡ m.triggers ++ map (renamed_trigger r) child.triggers)
+    (propagators : List Propagator) (are_propagators : propagators ≡ m.propagators ++ map (renamed_propagator r) child.propagators)
     (objects : Contents) (are_objects : objects ≡ record { cells = m.objects.cells ++ map r.variable child.objects.cells; ports = m.objects.ports ++ map r.variable child.objects.ports })
     (numbers : Numbers) (are_numbers : numbers ≡ record {
       variable = m.numbers.variable + child.numbers.variable;
@@ -113,7 +115,7 @@ module _ (r : Renaming) (child l m : Level) (number : ℕ) (q : IsQuiet (with_fr
       child = m.numbers.child + (child.numbers.child - 1);
     }) where
   abbrev new : Level
-  new = record m { threads = threads; triggers = triggers; objects = objects; numbers = numbers }
+  new = record m { threads = threads; triggers = triggers; propagators = propagators; objects = objects; numbers = numbers }
 
   shows_joined : shown new ≡ joined (renamed_layer r (shown child)) (shown m)
   shows_joined = λ i. record {
@@ -122,6 +124,7 @@ module _ (r : Renaming) (child l m : Level) (number : ℕ) (q : IsQuiet (with_fr
     tells = drop m.told_from m.store;
     threads = (are_threads i).list;
     triggers = are_triggers i;
+    propagators = are_propagators i;
     cells = (are_objects i).cells;
     ports = (are_objects i).ports;
     next = next_with (are_threads i).next (are_numbers i);

@@ -1,24 +1,28 @@
 -- The variables of the spaces above a space, and what the variables that are named decide.
-use Rattle.std.proofs.Common.{◌≡◌, inl, inr, ℕ, ◌<◌, ◌≤◌, ◌+◌, zero, suc, nat_lt, Bool, true, false, not, ◌&&◌, ◌||◌, if◌then◌else◌, List, [], ◌++◌, filter, flat_map, refl, sym, ap, ap₂, subst, arith, Contains, Option, Some, None}
+use Rattle.std.proofs.Common.{◌≡◌, inl, inr, ℕ, ◌<◌, ◌≤◌, ◌+◌, zero, suc, nat_lt, Bool, true, false, not, ◌&&◌, ◌||◌, if◌then◌else◌, List, [], ◌++◌, filter, flat_map, refl, sym, ap, ap₂, subst, arith, Contains, Option, Some, None, ◌∷◌, option_map, option_and_then}
 use Rattle.std.specs.List.{list_any, range_with_len}
 use Rattle.std.proofs.lemmas.Bool.Decides.{nat_tests}
+use Rattle.oz_base.specs.Lists.{given_or}
 use Rattle.oz_base.specs.declared.names.Ident.{Ident}
+use Rattle.oz_domains.specs.Domains.{IntSet, only}
 use Rattle.oz_semantics.specs.Names.{is_below, is_properly_below, is_top, parent_of, named}
-use Rattle.oz_semantics.specs.Store.{Same, itself, same, value_of, is_determined, named_by}
+use Rattle.oz_semantics.specs.Values.{integer}
+use Rattle.oz_semantics.specs.Store.{Same, itself, same, told_value, common, value_of, domain_by, domain_of, is_determined, named_by}
 use Rattle.oz_semantics.specs.Configurations.{view, variables_of, ancestor_variables}
 use Rattle.oz_semantics.specs.Settling.{is_among}
-use Rattle.oz_semantics.specs.Spaces.{values_eq, alike_on, is_held}
+use Rattle.oz_semantics.specs.Spaces.{values_eq, domains_eq, alike_on, is_held}
 use Rattle.oz_semantics.specs.declared.value.Value.{Value}
 use Rattle.oz_semantics.specs.declared.value.Tell.{Tell}
-use Rattle.oz_semantics.specs.declared.value.Tell.TheVariants.{Is}
+use Rattle.oz_semantics.specs.declared.value.Tell.TheVariants.{Is, Within}
 use Rattle.oz_semantics.specs.declared.configuration.Layer.{Layer}
 use Rattle.oz_laws.proofs.SameLaws.{In, In-from_contains, contains-from_In, In-flat, In-flat_back, and-left, and-right, tests_same}
+use Rattle.oz_laws.proofs.StoreLaws.{told_sets, told_value_by, told_set_by}
 use Rattle.view_laws.specs.Touched.{NamesWithin, IsPart}
 use Rattle.view_laws.proofs.Members.{In-left, bool_eq, decide, not_both, and_both, or_left, or_right, or_cases, each, some_of, by_some}
 use Rattle.view_laws.proofs.NameLaws.{equal_names, names_equal, properly_by, below_trans, not_above_parent}
 use Rattle.view_laws.proofs.ListLaws.{in_among, among_in, in_filter, map_in, in_map}
 use Rattle.view_laws.proofs.SightLaws.{parent_above}
-use Rattle.view_laws.proofs.ViewLaws.{same_named, given_value}
+use Rattle.view_laws.proofs.ViewLaws.{same_named}
 use Rattle.view_laws.proofs.TouchedLaws.{AreAlike, alike_meaning, meaning_alike}
 use Rattle.space_core.specs.Shown.{shown, shown_all, gave_out, is_home, is_outer, IsSound}
 use Rattle.space_core.specs.declared.level.Level.{Level}
@@ -131,18 +135,35 @@ module _ (levels : List Level) (s : IsSound levels) (space : List ℕ) (inner : 
 abbrev pub mentioned : List Tell → List Ident
 mentioned ts = flat_map named_by ts
 
--- a variable that is not named has no value, and is equal to itself alone
-no_value : (ts : List Tell) (x : Ident) → (In x (mentioned ts) → ⊥) → value_of ts x ≡ None
-no_value ts x n = by (value_of ts x) refl
-  where
-    by : (o : Option Value) → value_of ts x ≡ o → o ≡ None
-    by None e = refl
-    by (Some v) e =
-        let g = given_value ts x v e in
-        absurd (elim (same_named ts g.equal) [
-          | inl q ↦ n (subst (λ (y : Ident). In y (mentioned ts)) q (In-flat named_by (Is g.variable v) g.variable ts (In-from_contains ts (Is g.variable v) g.told) (inl refl)))
-          | inr k ↦ n k.1
-        ])
+-- a variable that is not named is equal to itself alone, and has no value and no domain
+module _ (ts : List Tell) (x : Ident) (n : In x (mentioned ts) → ⊥) where
+  named_not : (y : Ident) (t : Tell) → Contains ts t → In y (named_by t) → Same ts y x → ⊥
+  named_not y t c i s = elim (same_named ts s) [
+    | inl q ↦ n (subst (λ (z : Ident). In z (mentioned ts)) q (In-flat named_by t y ts (In-from_contains ts t c) i))
+    | inr k ↦ n k.1
+  ]
+
+  untold : told_value ts x ≡ None
+  untold = by (told_value ts x) refl
+    where
+      by : (o : Option Value) → told_value ts x ≡ o → o ≡ None
+      by None e = refl
+      by (Some v) e = let g = told_value_by ts x v e in absurd (named_not g.variable (Is g.variable v) g.tells (inl refl) g.equal)
+
+  no_set : told_sets ts x ≡ []
+  no_set = by (told_sets ts x) refl
+    where
+      by : (ss : List IntSet) → told_sets ts x ≡ ss → ss ≡ []
+      by [] e = refl
+      by (s ∷ ss) e =
+          let g = told_set_by ts x s (subst (In s) (sym e) (inl refl)) in
+          absurd (named_not g.variable (Within g.variable g.intervals) g.tells (inl refl) g.equal)
+
+  no_value : value_of ts x ≡ None
+  no_value = ap₂ (λ (v : Option Value) (ss : List IntSet). given_or v (option_map integer (option_and_then only (common ss)))) untold no_set
+
+  no_domain : domain_of ts x ≡ None
+  no_domain = ap₂ (λ (v : Option Value) (ss : List IntSet). domain_by v (common ss)) untold no_set
 
 module _ (one other : List Tell) (within : (x : Ident) → In x (mentioned other) → In x (mentioned one)) (xs ys : List Ident) (part : IsPart (mentioned one) xs ys) where
   unnamed_same : (ts : List Tell) (x y : Ident) → ((In x (mentioned ts) × In y (mentioned ts)) → ⊥) → Same ts x y → x ≡ y
@@ -160,6 +181,11 @@ module _ (one other : List Tell) (within : (x : Ident) → In x (mentioned other
       | inr e ↦ (let n : In x (mentioned one) → ⊥ = λ k. not_both _ (in_among (mentioned one) x k) e in
           ap₂ values_eq (no_value one x n) (no_value other x (λ k. n (within x k))))
     ];
+    domains = λ x c. elim (decide (is_among (mentioned one) x)) [
+      | inl e ↦ a.domains x (part.all x (contains-from_In (mentioned one) x (among_in (mentioned one) x e)) c)
+      | inr e ↦ (let n : In x (mentioned one) → ⊥ = λ k. not_both _ (in_among (mentioned one) x k) e in
+          ap₂ domains_eq (no_domain one x n) (no_domain other x (λ k. n (within x k))))
+    ];
     equal = λ x y c d. elim (decide (is_among (mentioned one) x && is_among (mentioned one) y)) [
       | inl e ↦ a.equal x y (part.all x (contains-from_In (mentioned one) x (among_in (mentioned one) x (and-left _ _ e))) c)
           (part.all y (contains-from_In (mentioned one) y (among_in (mentioned one) y (and-right (is_among (mentioned one) x) _ e))) d)
@@ -168,7 +194,7 @@ module _ (one other : List Tell) (within : (x : Ident) → In x (mentioned other
   }
 
   alike_part : AreAlike xs one other → AreAlike ys one other
-  alike_part a = record { values = λ x c. a.values x (part.only x c); equal = λ x y c d. a.equal x y (part.only x c) (part.only y d) }
+  alike_part a = record { values = λ x c. a.values x (part.only x c); domains = λ x c. a.domains x (part.only x c); equal = λ x y c d. a.equal x y (part.only x c) (part.only y d) }
 
   pub named_decide : alike_on xs one other ≡ alike_on ys one other
   named_decide = bool_eq _ _

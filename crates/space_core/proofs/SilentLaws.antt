@@ -5,14 +5,14 @@ use Rattle.std.proofs.lemmas.Bool.{false≢true}
 use Rattle.oz_base.specs.Lists.{list_eq, is_empty, iff}
 use Rattle.oz_base.specs.declared.names.Ident.{Ident}
 use Rattle.oz_semantics.specs.Names.{is_below, is_properly_below, is_top, parent_of}
-use Rattle.oz_semantics.specs.Store.{same, value_of, is_determined, named_by}
+use Rattle.oz_semantics.specs.Store.{same, is_determined, named_by}
 use Rattle.oz_semantics.specs.Configurations.{view, variables_of, ancestor_variables}
 use Rattle.oz_semantics.specs.Settling.{is_among}
-use Rattle.oz_semantics.specs.Spaces.{values_eq, alike_on, is_held}
+use Rattle.oz_semantics.specs.Spaces.{alike_on, is_held}
 use Rattle.oz_semantics.specs.declared.value.Tell.{Tell}
 use Rattle.oz_semantics.specs.declared.configuration.Layer.{Layer}
 use Rattle.oz_laws.proofs.SameLaws.{In, In-from_contains}
-use Rattle.view_laws.specs.Touched.{IsPart}
+use Rattle.view_laws.specs.Touched.{IsPart, alike_at}
 use Rattle.view_laws.proofs.Members.{not_both, each}
 use Rattle.view_laws.proofs.NameLaws.{names_equal, equal_names, below_itself}
 use Rattle.view_laws.proofs.ListLaws.{in_map}
@@ -76,6 +76,16 @@ has_parent levels s l c inner a =
 
 -- Tests by one list of variables
 
+-- two tests of each item are one
+all_both : {A : Type 0} (p q : A → Bool) (xs : List A) → (list_all p xs && list_all q xs) ≡ list_all (λ x. p x && q x) xs
+all_both p q [] = refl
+all_both p q (x ∷ xs) = by (p x) (q x) (all_both p q xs)
+  where
+    by : (a b : Bool) → (list_all p xs && list_all q xs) ≡ list_all (λ y. p y && q y) xs → ((a && list_all p xs) && (b && list_all q xs)) ≡ ((a && b) && list_all (λ y. p y && q y) xs)
+    by true true e = e
+    by true false e = and-false (list_all p xs)
+    by false b e = refl
+
 module _ (layers : List Layer) (space : List ℕ) (one other : List Tell) where
   abbrev outer : Ident → Bool
   outer = is_outer layers space
@@ -83,17 +93,15 @@ module _ (layers : List Layer) (space : List ℕ) (one other : List Tell) where
   abbrev equal_at : Ident → Ident → Bool
   equal_at x y = iff (same one x y) (same other x y)
 
-  abbrev value_at : Ident → Bool
-  value_at x = values_eq (value_of one x) (value_of other x)
-
   alike_filter : (vs : List Ident) → alike_on (filter outer vs) one other ≡ list_all (variable_alike layers space one other vs) vs
   alike_filter vs =
-      all_filter outer (λ x. value_at x && list_all (equal_at x) (filter outer vs)) vs
-      ∙ ap (λ (f : Ident → Bool). list_all f vs) (λ i x. not (outer x) || (value_at x && all_filter outer (equal_at x) vs i))
+      all_both (alike_at one other) (λ x. list_all (equal_at x) (filter outer vs)) (filter outer vs)
+      ∙ all_filter outer (λ x. alike_at one other x && list_all (equal_at x) (filter outer vs)) vs
+      ∙ ap (λ (f : Ident → Bool). list_all f vs) (λ i x. not (outer x) || (alike_at one other x && all_filter outer (equal_at x) vs i))
 
   told_same : (x : Ident) → variable_alike layers space one other (mentioned one) x ≡ told_alike layers space one other x
   unfolding told_alike
-  told_same x = ap (λ (b : Bool). not (outer x) || (value_at x && b)) (all_flat (equal_alike layers space one other x) named_by one)
+  told_same x = ap (λ (b : Bool). not (outer x) || (alike_at one other x && b)) (all_flat (equal_alike layers space one other x) named_by one)
 
   pub alike_told : list_all (tell_alike layers space one other) one ≡ alike_on (filter outer (mentioned one)) one other
   alike_told =

@@ -65,7 +65,7 @@ pub record IsAlike (old new : Level) : Type 0 where
 
 pub fits_alike : (layers : List Layer) (l m : Level) → IsAlike l m → Fits layers l → Fits layers m
 fits_alike layers l m e f =
-    let l' : Level = record l { status = m.status; threads = m.threads; triggers = m.triggers; objects = m.objects; numbers = m.numbers } in
+    let l' : Level = record l { status = m.status; threads = m.threads; triggers = m.triggers; propagators = m.propagators; objects = m.objects; numbers = m.numbers } in
     let bare : l'.bare ≡ true → IsBare l' = λ b. (let k = f.bare b in record { inner = k.inner; store = k.store; touched = k.touched }) in
     let f' : Fits layers l' = record { seen = f.seen; from = f.from; bare = bare; consistent = f.consistent; home = f.home; touches = f.touches; known = f.known } in
     let same : l' ≡ m = λ i. record {
@@ -76,6 +76,7 @@ fits_alike layers l m e f =
       touched = sym e.touched i;
       threads = m.threads;
       triggers = m.triggers;
+      propagators = m.propagators;
       objects = m.objects;
       numbers = m.numbers;
       traced = sym e.traced i;

@@ -261,7 +261,7 @@ module _ (levels : List Level) (space : List ℕ) (place : ℕ) (x : Layer) (h :
   more_tells = ap₂ (λ (n : ℕ) (us : List Tell). drop n us) told.told_from told.store ∙ drop-append-le l.told_from l.store ts told_within
 
   pub shows_more : shown m ≡ telling ts (shown l)
-  shows_more = λ i. record { space = told.space i; status = told.status i; tells = more_tells i; threads = (told.threads i).list; triggers = told.triggers i; cells = (told.objects i).cells; ports = (told.objects i).ports; next = next_with (told.threads i).next (told.numbers i) }
+  shows_more = λ i. record { space = told.space i; status = told.status i; tells = more_tells i; threads = (told.threads i).list; triggers = told.triggers i; propagators = told.propagators i; cells = (told.objects i).cells; ports = (told.objects i).ports; next = next_with (told.threads i).next (told.numbers i) }
 
   all_named_home : l.traced ≡ true → home ≡ true → list_all (is_home (shown_all levels) space) (flat_map named_by (shown m).tells) ≡ true
   all_named_home t k =

@@ -87,6 +87,7 @@ told_marked home ts l k m store noted e t q b =
       told_from = q.told_from ∙ ap (λ (n : Level). n.told_from) e;
       threads = q.threads ∙ ap (λ (n : Level). n.threads) e;
       triggers = q.triggers ∙ ap (λ (n : Level). n.triggers) e;
+      propagators = q.propagators ∙ ap (λ (n : Level). n.propagators) e;
       objects = q.objects ∙ ap (λ (n : Level). n.objects) e;
       numbers = q.numbers ∙ ap (λ (n : Level). n.numbers) e;
       traced = λ t. let r = q.traced t in (sym (ap (λ (n : Level). n.traced) e) ∙ r.0, r.1);

@@ -7,7 +7,7 @@ use Rattle.oz_base.specs.declared.names.Ident.{Ident}
 use Rattle.std.proofs.lemmas.List.{length-map}
 use Rattle.oz_semantics.specs.Names.{is_properly_below, space_lt, parent_of}
 use Rattle.oz_semantics.specs.Edits.{created}
-use Rattle.oz_semantics.specs.Spaces.{alike_on}
+use Rattle.oz_semantics.specs.Spaces.{alike_on, is_held}
 use Rattle.oz_semantics.specs.Store.{named_by, is_consistent}
 use Rattle.oz_semantics.specs.Configurations.{is_of, in_layer, view, ancestor_variables, telling, ending, raised_by, failed, next_child, layer_of, new_layer, counting_child}
 use Rattle.oz_semantics.specs.declared.value.Tell.{Tell}
@@ -149,6 +149,15 @@ silent_at levels now value seen viewed s place within x e r f k at =
     let member : Contains levels x = (place, omega (arith, within, ap length viewed, length-map levels shown), sym e) in
     f (subst IsSound (sym seen) s) (subst (λ (ls : List Level). Contains ls x) (sym seen) member)
     ∙ ap₂ (λ (ls : List Layer) (t : List ℕ). alike_on (ancestor_variables ls t) (view ls t) (view ls (parent_of t))) (ap shown_all seen ∙ viewed)
+    (ap (λ (j : Layer). j.space) (layer_is levels place k (ap (λ (ls : List Layer). slice_get ls place) viewed ∙ at) x e))
+
+pub held_at : (levels now : List Level) (value : List Layer) → now ≡ levels → shown_all levels ≡ value → IsSound levels → (place : ℕ) → place < length value → (x : Level) → x ≡ slice_index_or levels place x
+    → (space : List ℕ) (variable : Ident) (r : Bool) → (IsSound now → Contains now x → r ≡ is_held (view (shown_all now) x.space) (ancestor_variables (shown_all now) space) variable)
+    → (k : Layer) → slice_get value place ≡ Some k → r ≡ is_held (view value k.space) (ancestor_variables value space) variable
+held_at levels now value seen viewed s place within x e space variable r f k at =
+    let member : Contains levels x = (place, omega (arith, within, ap length viewed, length-map levels shown), sym e) in
+    f (subst IsSound (sym seen) s) (subst (λ (ls : List Level). Contains ls x) (sym seen) member)
+    ∙ ap₂ (λ (ls : List Layer) (t : List ℕ). is_held (view ls t) (ancestor_variables ls space) variable) (ap shown_all seen ∙ viewed)
     (ap (λ (j : Layer). j.space) (layer_is levels place k (ap (λ (ls : List Layer). slice_get ls place) viewed ∙ at) x e))
 
 -- A new space

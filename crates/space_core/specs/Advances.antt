@@ -3,7 +3,7 @@ use Rattle.std.specs.Prelude.{ℕ, ◌≡◌, Bool, true, false, List, [], ◌�
 use Rattle.oz_base.specs.declared.names.Ident.{Ident}
 use Rattle.oz_semantics.specs.Store.{is_consistent}
 use Rattle.oz_semantics.specs.Configurations.{view, in_layer, with_frames, stack_of}
-use Rattle.oz_semantics.specs.Changes.{Change, GivesOut, CountsProcedure, CountsName, AddsCell, Holds, AddsPort, EndsAt, done}
+use Rattle.oz_semantics.specs.Changes.{Change, GivesOut, CountsProcedure, CountsName, AddsCell, Holds, AddsPort, EndsAt, AddsPropagator, done}
 use Rattle.oz_semantics.specs.Exceptions.{unwound}
 use Rattle.oz_semantics.specs.Steps.{without_top}
 use Rattle.oz_semantics.specs.declared.value.Tell.{Tell}
@@ -11,7 +11,7 @@ use Rattle.oz_semantics.specs.declared.configuration.Frame.{Frame}
 use Rattle.oz_semantics.specs.declared.configuration.Layer.{Layer}
 use Rattle.settle_laws.specs.Settles.{Settles}
 use Rattle.space_core.specs.declared.given.Given.{Given}
-use Rattle.space_core.specs.declared.given.Given.TheVariants.{Nothing, Variables, Procedure, Name, Cell, Content, Port, End}
+use Rattle.space_core.specs.declared.given.Given.TheVariants.{Nothing, Variables, Procedure, Name, Cell, Content, Port, End, Propagator}
 
 -- the change that comes with what a space is told
 abbrev pub given_out : Given → List Change
@@ -23,6 +23,7 @@ given_out (Cell content) = AddsCell content ∷ []
 given_out (Content n content) = Holds n content ∷ []
 given_out (Port stream) = AddsPort stream ∷ []
 given_out (End n end) = GivesOut 1 ∷ EndsAt n end ∷ []
+given_out (Propagator relation variables) = AddsPropagator relation variables ∷ []
 
 -- the space was told this, and then these changes were made; or what it is told clashes with what it sees, and nothing was done
 abbrev pub IsAdvanced : Ident → List Tell → List Change → List Layer → List Layer → Bool → Type 0

@@ -19,6 +19,7 @@ fallen l =
       touched = [];
       threads = record l.threads { list = [] };
       triggers = [];
+      propagators = [];
       objects = record { cells = []; ports = [] };
       traced = true;
       knows_space = false;

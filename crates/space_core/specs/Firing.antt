@@ -25,8 +25,8 @@ firing marks l = fold beginning (record l { triggers = unmarked marks l.triggers
 abbrev pub delaying : ℕ → Ident → Ident → Layer → Layer
 delaying number procedure variable l = adding_trigger procedure variable (with_frames number (λ stack. drop 1 stack) l)
 
--- the layer at a place, changed
-abbrev pub at_place : ℕ → (Layer → Layer) → List Layer → List Layer
+-- the item at a place, changed
+abbrev pub at_place : {A : Type 0} → ℕ → (A → A) → List A → List A
 at_place n change [] = []
-at_place zero change (l ∷ ls) = change l ∷ ls
-at_place (suc n) change (l ∷ ls) = l ∷ at_place n change ls
+at_place zero change (x ∷ xs) = change x ∷ xs
+at_place (suc n) change (x ∷ xs) = x ∷ at_place n change xs

@@ -13,6 +13,7 @@ pub mod Ending
 pub mod Fates
 pub mod Advances
 pub mod Firing
+pub mod Propagators
 pub mod SpaceEdits
 pub mod Anew
 pub mod Renamed

@@ -31,6 +31,7 @@ shown l =
       tells = drop l.told_from l.store;
       threads = l.threads.list;
       triggers = l.triggers;
+      propagators = l.propagators;
       cells = l.objects.cells;
       ports = l.objects.ports;
       next = next_of l;

@@ -4,10 +4,10 @@ use Rattle.std.specs.List.{list_all, list_any}
 use Rattle.oz_base.specs.Lists.{iff}
 use Rattle.oz_base.specs.declared.names.Ident.{Ident}
 use Rattle.oz_semantics.specs.Names.{is_below}
-use Rattle.oz_semantics.specs.Store.{same, value_of, named_by}
-use Rattle.oz_semantics.specs.Spaces.{values_eq}
+use Rattle.oz_semantics.specs.Store.{same, named_by}
 use Rattle.oz_semantics.specs.declared.value.Tell.{Tell}
 use Rattle.oz_semantics.specs.declared.configuration.Layer.{Layer}
+use Rattle.view_laws.specs.Touched.{alike_at}
 use Rattle.space_core.specs.Shown.{is_outer}
 use Rattle.space_core.specs.declared.level.Level.{Level}
 
@@ -18,7 +18,7 @@ equal_alike layers space one other x y = not (is_outer layers space y) || iff (s
 -- of a variable of a space above: both views have the same of it, by these
 abbrev pub variable_alike : List Layer → List ℕ → List Tell → List Tell → List Ident → Ident → Bool
 variable_alike layers space one other names x =
-    not (is_outer layers space x) || (values_eq (value_of one x) (value_of other x) && list_all (equal_alike layers space one other x) names)
+    not (is_outer layers space x) || (alike_at one other x && list_all (equal_alike layers space one other x) names)
 
 -- a variable of a space above to which x is equal
 abbrev pub holds_variable : List Layer → List ℕ → List Tell → Ident → Ident → Bool
@@ -30,7 +30,7 @@ tell_equal layers space one other x t = list_all (equal_alike layers space one o
 
 unfoldable pub told_alike : List Layer → List ℕ → List Tell → List Tell → Ident → Bool
 told_alike layers space one other x =
-    not (is_outer layers space x) || (values_eq (value_of one x) (value_of other x) && list_all (tell_equal layers space one other x) one)
+    not (is_outer layers space x) || (alike_at one other x && list_all (tell_equal layers space one other x) one)
 
 abbrev pub tell_alike : List Layer → List ℕ → List Tell → List Tell → Tell → Bool
 tell_alike layers space one other t = list_all (told_alike layers space one other) (named_by t)

@@ -35,6 +35,7 @@ pub record IsMarked (home : Bool) (ts : List Tell) (noted : List Ident) (old new
   pub told_from : new.told_from ≡ old.told_from
   pub threads : new.threads ≡ old.threads
   pub triggers : new.triggers ≡ old.triggers
+  pub propagators : new.propagators ≡ old.propagators
   pub objects : new.objects ≡ old.objects
   pub numbers : new.numbers ≡ old.numbers
   pub traced : new.traced ≡ true → (old.traced ≡ true) × (home ≡ true)
@@ -51,6 +52,7 @@ pub record IsToldMore (home : Bool) (ts : List Tell) (old new : Level) : Type 0 
   pub told_from : new.told_from ≡ old.told_from
   pub threads : new.threads ≡ old.threads
   pub triggers : new.triggers ≡ old.triggers
+  pub propagators : new.propagators ≡ old.propagators
   pub objects : new.objects ≡ old.objects
   pub numbers : new.numbers ≡ old.numbers
   pub traced : new.traced ≡ true → (old.traced ≡ true) × (home ≡ true)

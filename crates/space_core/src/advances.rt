@@ -26,17 +26,19 @@ pub fn tell_at(
     ensures told { IfOk result (IsToldAt place tells.now given.now levels.old.items levels.new.items) }
     ensures err { OnErr result (levels.new.items ≡ levels.old.items) }
 {
-    let before = levels[place].numbers;
+    let level = &levels[place];
+    let before = level.numbers;
+    let posted = level.propagators.len();
     let objects = give(alloc, &mut levels[place], given)?;
     let home = all_home(levels.as_slice(), &levels[place].space, tells);
     match tell_through(alloc, levels, place, home, tells) {
         Ok(true) => Ok(true),
         Ok(false) => {
-            set_back(&mut levels[place], before, objects);
+            set_back(alloc, &mut levels[place], before, objects, posted);
             Ok(false)
         }
         Err(refused) => {
-            set_back(&mut levels[place], before, objects);
+            set_back(alloc, &mut levels[place], before, objects, posted);
             Err(refused)
         }
     }

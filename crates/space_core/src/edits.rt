@@ -1,5 +1,5 @@
 //! Edits of what is kept of one space, which tell nothing.
-ghost use Rattle.std.specs.Prelude.{◌≡◌, ◌++◌, [], ◌+◌, ◌≤◌, drop, length, unwrap_or, IfOk, OnOk, OnErr, MatchOption};
+ghost use Rattle.std.specs.Prelude.{◌≡◌, ◌++◌, [], ◌+◌, ◌≤◌, drop, take, length, unwrap_or, IfOk, OnOk, OnErr, MatchOption};
 ghost use Rattle.oz_base.specs.Lists.{first};
 ghost use Rattle.oz_semantics.specs.Configurations.{thread_at, frames_in, with_frames, without_terminated, spawning, giving_out};
 ghost use Rattle.space_core.specs.Firing.{delaying};
@@ -12,6 +12,7 @@ ghost use Rattle.space_core.specs.Unwinding.{IsLevelCaught};
 use crate::declarations::number_after;
 use crate::given::Given;
 use crate::level::{Level, Numbers};
+use crate::posting::{keep_first, post};
 use crate::stacks::Landing;
 use cells_ports::Objects;
 use oz_base::{Copies, Ident};
@@ -69,7 +70,11 @@ fn numbers_after(numbers: Numbers, given: &Given) -> Result<Numbers, AllocError>
     ensures { IfOk result (λ after. after ≡ numbers_after given.now numbers) }
 {
     match given {
-        Given::Nothing | Given::Cell(_) | Given::Content { .. } | Given::Port(_) => Ok(numbers),
+        Given::Nothing
+        | Given::Cell(_)
+        | Given::Content { .. }
+        | Given::Port(_)
+        | Given::Propagator { .. } => Ok(numbers),
         Given::Variables(count) => Ok(Numbers {
             variable: numbers.variable.checked_add(*count).ok_or(AllocError)?,
             procedure: numbers.procedure,
@@ -103,7 +108,11 @@ fn change_objects(alloc: Global, objects: &mut Objects, given: &Given) -> Result
     ensures err { OnErr result (objects.new ≡ objects.old) }
 {
     match given {
-        Given::Nothing | Given::Variables(_) | Given::Procedure | Given::Name => Ok(()),
+        Given::Nothing
+        | Given::Variables(_)
+        | Given::Procedure
+        | Given::Name
+        | Given::Propagator { .. } => Ok(()),
         Given::Cell(content) => objects.add_cell(alloc, content.copied(alloc)?),
         Given::Content { cell, content } => objects.assign(alloc, *cell, content.copied(alloc)?),
         Given::Port(stream) => objects.add_port(alloc, stream.copied(alloc)?),
@@ -120,14 +129,19 @@ fn objects_before(
     ensures { IfOk result (λ before. MatchOption before (objects_after given.now objects.now ≡ objects.now) (λ same. same ≡ objects.now)) }
 {
     match given {
-        Given::Nothing | Given::Variables(_) | Given::Procedure | Given::Name => Ok(None),
+        Given::Nothing
+        | Given::Variables(_)
+        | Given::Procedure
+        | Given::Name
+        | Given::Propagator { .. } => Ok(None),
         Given::Cell(_) | Given::Content { .. } | Given::Port(_) | Given::End { .. } => {
             Ok(Some(objects.copied(alloc)?))
         }
     }
 }
 
-/// The space gives out what comes with a tell, and its cells and ports change by it. What these were, where they change.
+/// The space gives out what comes with a tell, and its cells, ports and propagators change by it. What the cells and ports were, where
+/// they change.
 pub fn give(alloc: Global, level: &mut Level, given: &Given) -> Result<Option<Objects>, AllocError>
     ensures ok { OnOk result (level.new ≡ after_giving given.now level.old) }
     ensures before { IfOk result (λ before. MatchOption before (objects_after given.now level.old.objects ≡ level.old.objects) (λ same. same ≡ level.old.objects)) }
@@ -136,18 +150,26 @@ pub fn give(alloc: Global, level: &mut Level, given: &Given) -> Result<Option<Ob
     let numbers = numbers_after(level.numbers, given)?;
     let before = objects_before(alloc, &level.objects, given)?;
     change_objects(alloc, &mut level.objects, given)?;
+    post(alloc, &mut level.propagators, given)?;
     level.numbers = numbers;
     Ok(before)
 }
 
-/// Sets back what a space gave out: its numbers, and where its cells and ports were changed, these too.
-pub fn set_back(level: &mut Level, numbers: Numbers, objects: Option<Objects>)
-    ensures { level.new ≡ record level.old { numbers = numbers; objects = unwrap_or objects level.old.objects } }
+/// Sets back what a space gave out: its numbers, where its cells and ports were changed these too, and so many propagators are left.
+pub fn set_back(
+    alloc: Global,
+    level: &mut Level,
+    numbers: Numbers,
+    objects: Option<Objects>,
+    propagators: usize,
+)
+    ensures { level.new ≡ record level.old { numbers = numbers; objects = unwrap_or objects level.old.objects; propagators = take propagators level.old.propagators } }
 {
     level.numbers = numbers;
     if let Some(objects) = objects {
         level.objects = objects;
     }
+    keep_first(alloc, &mut level.propagators, propagators);
 }
 
 /// A new thread with these statements, the first of them uppermost.

@@ -125,6 +125,7 @@ fn names_home(levels: &[Level], space: &SpaceName, tell: &Tell) -> bool
         Tell::Is { variable, value } => {
             is_home(levels, space, variable) && are_home(levels, space, fields_of(value))
         }
+        Tell::Within { variable, .. } => is_home(levels, space, variable),
     }
 }
 

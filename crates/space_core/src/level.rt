@@ -6,7 +6,7 @@ ghost use Rattle.space_core.specs.Shown.{next_of};
 use crate::threads::Threads;
 use cells_ports::Objects;
 use oz_base::{Copies, Ident, Sequence, SpaceName};
-use oz_semantics::{Next, Status, Trigger};
+use oz_semantics::{Next, Propagator, Status, Trigger};
 use std::alloc::{AllocError, Global};
 use term_store::Store;
 
@@ -34,6 +34,8 @@ pub struct Level {
     pub threads: Threads,
     /// By-need computations that have not begun, in the order in which they came.
     pub triggers: Sequence<Trigger>,
+    /// Propagators, in the order in which they came.
+    pub propagators: Sequence<Propagator>,
     pub objects: Objects,
     pub numbers: Numbers,
     /// Whether all variables that were told of are those of the space and of spaces above it, and all of other spaces that is touched
@@ -71,6 +73,7 @@ impl Copies for Level {
             touched: self.touched.copied(alloc)?,
             threads: self.threads.copied(alloc)?,
             triggers: self.triggers.copied(alloc)?,
+            propagators: self.propagators.copied(alloc)?,
             objects: self.objects.copied(alloc)?,
             numbers: self.numbers,
             traced: self.traced,
@@ -92,6 +95,7 @@ pub fn top_level(alloc: Global) -> Level
         touched: Sequence::new(alloc),
         threads: Threads::new(alloc),
         triggers: Sequence::new(alloc),
+        propagators: Sequence::new(alloc),
         objects: Objects::new(),
         numbers: Numbers {
             variable: 1,

@@ -3,7 +3,9 @@ ghost use Rattle.std.specs.Prelude.{◌≡◌, ◌<◌, ◌∷◌, [], Some, tru
 ghost use Rattle.oz_base.specs.Lists.{first};
 ghost use Rattle.oz_semantics.specs.Names.{parent_of};
 ghost use Rattle.oz_semantics.specs.Configurations.{is_of, layer_at, layer_of, view, ancestor_variables, stack_of, new_layer, next_child, in_layer, with_frames, without_terminated, giving_out, spawning, failed, raised_by, ending};
+ghost use Rattle.oz_semantics.specs.Propagation.{is_due, noting};
 ghost use Rattle.oz_semantics.specs.Spaces.{alike_on, is_held};
+ghost use Rattle.oz_semantics.specs.Store.{View};
 ghost use Rattle.oz_semantics.specs.Edits.{created};
 ghost use Rattle.oz_semantics.specs.Settling.{inconsistent_spaces};
 ghost use Rattle.oz_semantics.specs.Changes.{Pushes, Spawns, GivesOut, Holds, AddsTrigger, changed_all};
@@ -20,6 +22,7 @@ ghost use Rattle.view_laws.specs.Spaceless.{has_spaces};
 ghost use Rattle.view_laws.specs.Trees.{IsTree};
 ghost use Rattle.space_core.specs.Advances.{given_out, IsAdvanced, IsCaught, IsRaised};
 ghost use Rattle.space_core.specs.Firing.{firing, at_place};
+ghost use Rattle.space_core.specs.Propagators.{has_propagators, noting_at};
 
 use crate::advances::{tell_at, tell_under};
 use crate::copying::{count_told, next_name};
@@ -30,6 +33,7 @@ use crate::level::{Level, top_level};
 use crate::looking::{changed_place, level_place, level_position};
 use crate::merging::{join_told, merge_away, merge_tells, merging};
 use crate::plain::{are_plain, has_spaces};
+use crate::posting::{has_propagators, note_run};
 use crate::remaking::{remake, tell_through};
 use crate::renaming::add_all_renamed;
 use crate::sights::store_of;
@@ -37,9 +41,9 @@ use crate::spaces::space_tell;
 use crate::stacks::Landing;
 use crate::tree::{self, add_level, child_count, child_of, drop_below, is_child};
 use crate::{edits, silence};
-use oz_base::{Copies, Ident, SpaceName, copies_of};
+use oz_base::{Copies, Ident, Interval, Sequence, SpaceName, copies_of};
 use oz_language::Identifier;
-use oz_semantics::{Frame, Next, Status, Tell, Thread, Trigger};
+use oz_semantics::{Frame, Next, Propagator, Status, Tell, Thread, Trigger};
 use renamings::Renaming;
 use std::alloc::{AllocError, Global};
 use std::marker::Model;
@@ -170,8 +174,8 @@ impl Levels {
         self.levels[place].threads.top_frame(id.number)
     }
 
-    /// Whether the space at a place tells its ancestors nothing: it sees the same values and equalities of their variables as its
-    /// parent does.
+    /// Whether the space at a place tells its ancestors nothing: it sees the same values, domains and equalities of their variables as
+    /// its parent does.
     pub fn is_silent(&self, place: usize) -> bool
         requires { place < length self.now }
         ensures { OfLayer self.now place (λ l. result ≡ alike_on (ancestor_variables self.now l.space) (view self.now l.space) (view self.now (parent_of l.space))) }
@@ -463,8 +467,32 @@ impl Levels {
         fire(alloc, &mut self.levels[place], marks)
     }
 
-    /// The statement on top of a thread's stack is taken off, its space is told this and gives out what comes with it, its cells and
-    /// ports change by that, and each space below fails that then sees what is inconsistent. False exactly where it is inconsistent with
+    /// Whether a space has propagators.
+    pub fn has_propagators(&self) -> bool
+        ensures { result ≡ has_propagators self.now }
+    {
+        has_propagators(self.levels.as_slice())
+    }
+
+    /// The propagators of the space at a place, in the order in which they came.
+    pub fn propagators_at(&self, place: usize) -> &[Propagator]
+        requires { place < length self.now }
+        ensures { OfLayer self.now place (λ l. result.now ≡ l.propagators) }
+    {
+        self.levels[place].propagators.as_slice()
+    }
+
+    /// The last run of the propagator at an index of the space at a place saw these domains. It takes no memory.
+    pub fn note_run(&mut self, place: usize, index: usize, seen: Sequence<Sequence<Interval>>)
+        requires { place < length self.old }
+        ensures noted { self.new ≡ at_place place (noting_at index seen) self.old }
+        ensures first { (view : View) → OfLayer self.old place (λ l. position (is_due view) l.propagators ≡ Some index → self.new ≡ in_layer l.space (noting view seen) self.old) }
+    {
+        note_run(&mut self.levels[place], index, seen);
+    }
+
+    /// The statement on top of a thread's stack is taken off, its space is told this and gives out what comes with it, its cells, ports
+    /// and propagators change by that, and each space below fails that then sees what is inconsistent. False exactly where it is inconsistent with
     /// what the space sees: then nothing changes. It refuses for want of memory, where the space gave out 2^64 - 1 of a kind, and as `tell`
     /// does a space that has ended.
     pub fn tell_by(

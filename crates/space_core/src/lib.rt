@@ -5,6 +5,7 @@
 mod advances;
 mod copying;
 mod declarations;
+mod domains;
 mod edits;
 mod fates;
 mod firing;
@@ -15,6 +16,7 @@ mod levels;
 mod looking;
 mod merging;
 mod plain;
+mod posting;
 mod remaking;
 mod renaming;
 mod sights;

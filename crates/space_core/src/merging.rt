@@ -157,8 +157,10 @@ fn join(
     drop_top(level, number);
     let objects = renamed_objects(alloc, by, &child.objects)?;
     let triggers = child.triggers.renamed(alloc, by)?;
+    let propagators = child.propagators.renamed(alloc, by)?;
     level.threads.join(alloc, by, &child.threads)?;
     level.triggers.append(triggers.into_vec())?;
+    level.propagators.append(propagators.into_vec())?;
     add_cells(alloc, &mut level.objects, &objects)?;
     add_ports(alloc, &mut level.objects, &objects)?;
     level.numbers = numbers_with(level.numbers, child.numbers)?;
@@ -195,6 +197,7 @@ pub fn merge_away(alloc: Global, level: &mut Level)
     level.touched = Sequence::new(alloc);
     level.threads = Threads::new(alloc);
     level.triggers = Sequence::new(alloc);
+    level.propagators = Sequence::new(alloc);
     level.objects = Objects::new();
     level.numbers = Numbers {
         variable: 1,

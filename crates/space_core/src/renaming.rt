@@ -111,6 +111,7 @@ fn renamed_level(alloc: Global, by: &Renaming, level: &Level) -> Result<Level, A
         touched: Sequence::new(alloc),
         threads: level.threads.renamed(alloc, by)?,
         triggers: level.triggers.renamed(alloc, by)?,
+        propagators: level.propagators.renamed(alloc, by)?,
         objects: renamed_objects(alloc, by, &level.objects)?,
         numbers: level.numbers,
         traced: false,

@@ -2,15 +2,17 @@
 ghost use Rattle.std.specs.Prelude.{◌≡◌, ◌&&◌, ◌||◌, not, option_copied, Contains};
 ghost use Rattle.std.specs.List.{list_all, list_any};
 ghost use Rattle.oz_base.specs.Lists.{iff};
-ghost use Rattle.oz_semantics.specs.Store.{same, value_of, named_by};
+ghost use Rattle.oz_semantics.specs.Store.{same, value_of, domain_of, named_by};
 ghost use Rattle.oz_semantics.specs.Names.{parent_of};
 ghost use Rattle.oz_semantics.specs.Configurations.{view, ancestor_variables};
-ghost use Rattle.oz_semantics.specs.Spaces.{values_eq, alike_on, is_held};
+ghost use Rattle.oz_semantics.specs.Spaces.{values_eq, domains_eq, alike_on, is_held};
+ghost use Rattle.view_laws.specs.Touched.{alike_at};
 ghost use Rattle.std.specs.Prelude.{slice_get};
 ghost use Rattle.space_core.specs.Shown.{shown_all, is_outer, IsSound};
 ghost use Rattle.space_core.specs.Silence.{equal_alike, variable_alike, holds_variable, tell_equal, told_alike, tell_alike, tell_holds, passes, meets, is_traced};
 ghost use Rattle.space_core.specs.declared.level.Level.{Level};
 
+use crate::domains::domains_eq;
 use crate::homes::is_outer;
 use crate::level::Level;
 use crate::sights::store_of;
@@ -33,6 +35,19 @@ fn same_value(one: &Store, other: &Store, variable: &Ident) -> bool
     ensures { result ≡ values_eq (value_of one.now variable.now) (value_of other.now variable.now) }
 {
     values_eq(one.value(variable), other.value(variable))
+}
+
+fn same_domain(one: &Store, other: &Store, variable: &Ident) -> bool
+    ensures { result ≡ domains_eq (domain_of one.now variable.now) (domain_of other.now variable.now) }
+{
+    domains_eq(one.domain(variable), other.domain(variable))
+}
+
+/// Whether a variable has the same value and the same domain in both.
+fn is_alike(one: &Store, other: &Store, variable: &Ident) -> bool
+    ensures { result ≡ alike_at one.now other.now variable.now }
+{
+    same_value(one, other, variable) && same_domain(one, other, variable)
 }
 
 fn iff(left: bool, right: bool) -> bool
@@ -84,7 +99,7 @@ fn variable_alike(
     ensures { result ≡ variable_alike (shown_all levels.now) space.now one.now other.now names.now variable.now }
 {
     !is_outer(levels, space, variable)
-        || (same_value(one, other, variable)
+        || (is_alike(one, other, variable)
             && all_equal_alike(levels, space, one, other, variable, names))
 }
 
@@ -120,6 +135,7 @@ fn tell_equal(
             equal_alike(levels, space, one, other, left, variable)
                 && all_equal_alike(levels, space, one, other, left, fields_of(value))
         }
+        Tell::Within { variable, .. } => equal_alike(levels, space, one, other, left, variable),
     }
 }
 
@@ -161,7 +177,7 @@ fn told_alike(
     ensures { result ≡ told_alike (shown_all levels.now) space.now one.now other.now variable.now }
 {
     !is_outer(levels, space, variable)
-        || (same_value(one, other, variable) && told_equal(levels, space, one, other, variable))
+        || (is_alike(one, other, variable) && told_equal(levels, space, one, other, variable))
 }
 
 fn all_told_alike(
@@ -190,6 +206,7 @@ fn tell_alike(levels: &[Level], space: &SpaceName, one: &Store, other: &Store, t
             told_alike(levels, space, one, other, variable)
                 && all_told_alike(levels, space, one, other, fields_of(value))
         }
+        Tell::Within { variable, .. } => told_alike(levels, space, one, other, variable),
     }
 }
 
@@ -260,6 +277,7 @@ fn tell_holds(
             holds_variable(levels, space, store, variable, told)
                 || any_holds(levels, space, store, variable, fields_of(value))
         }
+        Tell::Within { variable: told, .. } => holds_variable(levels, space, store, variable, told),
     }
 }
 

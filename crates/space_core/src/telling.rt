@@ -30,7 +30,7 @@ fn gives_space(tell: &Tell) -> bool
 {
     match tell {
         Tell::Is { variable: _, value } => matches!(value, Value::Space(_)),
-        Tell::Equal { .. } => false,
+        Tell::Equal { .. } | Tell::Within { .. } => false,
     }
 }
 

@@ -82,6 +82,7 @@ pub fn fail(alloc: Global, level: &mut Level)
     level.touched = Sequence::new(alloc);
     level.threads.stop_all(alloc);
     level.triggers = Sequence::new(alloc);
+    level.propagators = Sequence::new(alloc);
     level.objects = Objects::new();
     level.traced = true;
     level.knows_space = false;
@@ -95,6 +96,7 @@ pub fn raise(alloc: Global, level: &mut Level, exception: Ident)
     level.status = Status::Raised(exception);
     level.threads.stop_all(alloc);
     level.triggers = Sequence::new(alloc);
+    level.propagators = Sequence::new(alloc);
 }
 
 /// `{P X}` of the procedure and the space's root variable.
@@ -149,6 +151,7 @@ fn child_level(
         touched: Sequence::new(alloc),
         threads,
         triggers: Sequence::new(alloc),
+        propagators: Sequence::new(alloc),
         objects: Objects::new(),
         numbers: Numbers {
             variable: 1,

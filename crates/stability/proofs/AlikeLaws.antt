@@ -1,5 +1,5 @@
 -- What goes by states goes by what threads answer by them.
-use Rattle.std.proofs.Common.{◌≡◌, ℕ, suc, ◌+◌, ◌-◌, ◌<◌, ◌≤◌, ◌++◌, append_assoc, ap₂, add-one, get_or, take, length, Bool, true, false, cond, if◌then◌else◌, List, [], ◌∷◌, map, filter, drop, Option, Some, None, refl, sym, ap, ◌∙◌, arith}
+use Rattle.std.proofs.Common.{◌≡◌, ℕ, suc, ◌+◌, ◌-◌, ◌<◌, ◌≤◌, ◌++◌, ◌||◌, append_assoc, ap₂, add-one, get_or, take, length, Bool, true, false, cond, if◌then◌else◌, List, [], ◌∷◌, map, filter, drop, Option, Some, None, refl, sym, ap, ◌∙◌, arith}
 use Rattle.std.specs.Prelude.{slice_get, position, option_map}
 use Rattle.std.specs.List.{list_any, flat_map, find, filter_map}
 use Rattle.std.proofs.lemmas.List.{take_more, take_all, take-append-drop, map-append, drop_all, append-nil}
@@ -13,7 +13,7 @@ use Rattle.oz_semantics.specs.Configurations.{is_of, is_open, view, ancestor_var
 use Rattle.oz_semantics.specs.Sights.{States, state_in, Readiness, can_step, waits_of, offer_of}
 use Rattle.oz_semantics.specs.Answers.{Answer}
 use Rattle.oz_semantics.specs.Readiness.{answer_ready}
-use Rattle.oz_semantics.specs.Spaces.{answer_in, ready_in, readinesses, layers_below, subtree_goes_on, is_held, waits_outside, offer_in, state_by, states_behind, state, goes_on}
+use Rattle.oz_semantics.specs.Spaces.{answer_in, ready_in, readinesses, layers_below, subtree_goes_on, is_held, waits_outside, offer_in, state_by, states_behind, state, goes_on, has_due, undecided_in}
 use Rattle.oz_semantics.specs.declared.configuration.Frame.{Frame}
 use Rattle.oz_semantics.specs.declared.configuration.Thread.{Thread}
 use Rattle.oz_semantics.specs.declared.configuration.Status.{Status}
@@ -58,11 +58,11 @@ module _ (statements : List Statement) (layers : List Layer) (one other : States
   ready_alike space t = ap answer_ready (serves space t.frames)
 
   pub goes_alike : (space : List ℕ) → subtree_goes_on statements layers one space ≡ subtree_goes_on statements layers other space
-  goes_alike space = ap (λ (r : Layer → List Readiness). list_any (λ (l : Layer). list_any can_step (r l)) (layers_below layers space)) readies
+  goes_alike space = ap (λ (r : Layer → List Readiness). list_any (λ (l : Layer). list_any can_step (r l) || has_due (view layers l.space) l) (layers_below layers space)) readies
 
   pub waits_alike : (space : List ℕ) → waits_outside statements layers one space ≡ waits_outside statements layers other space
   waits_alike space =
-      ap (λ (r : Layer → List Readiness). list_any (λ (l : Layer). list_any (is_held (view layers l.space) (ancestor_variables layers space)) (flat_map waits_of (r l))) (layers_below layers space)) readies
+      ap (λ (r : Layer → List Readiness). list_any (λ (l : Layer). list_any (is_held (view layers l.space) (ancestor_variables layers space)) (flat_map waits_of (r l) ++ undecided_in (view layers l.space) l)) (layers_below layers space)) readies
 
   pub offer_alike : (l : Layer) → offer_in statements layers one l ≡ offer_in statements layers other l
   offer_alike l = ap (λ (r : Layer → List Readiness). first (filter_map offer_of (r l))) readies

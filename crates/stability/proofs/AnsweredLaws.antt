@@ -77,6 +77,7 @@ is_operation (said.Acts act) = false
 is_operation (said.Edits edit) = false
 is_operation (said.RaisesKind kind) = false
 is_operation (said.RaisesTerm x) = false
+is_operation (said.Widens ts) = false
 is_operation said.Rests = false
 
 pub no_operation : (layers : List Layer) (s : Sight) (states : States) (defined : answers.Answer) (a : Answer) → IsAnswer defined a → is_operation a ≡ false → by_state layers s states defined ≡ defined
@@ -85,11 +86,13 @@ no_operation layers s states (answers.Operates op space x) (said.Acts act) h e =
 no_operation layers s states (answers.Operates op space x) (said.Edits edit) h e = cc
 no_operation layers s states (answers.Operates op space x) (said.RaisesKind kind) h e = cc
 no_operation layers s states (answers.Operates op space x) (said.RaisesTerm y) h e = cc
+no_operation layers s states (answers.Operates op space x) (said.Widens ts) h e = cc
 no_operation layers s states (answers.Operates op space x) said.Rests (ready, h) e = cc
 no_operation layers s states (answers.Acts act) a h e = refl
 no_operation layers s states (answers.Edits edit) a h e = refl
 no_operation layers s states (answers.RaisesKind kind) a h e = refl
 no_operation layers s states (answers.RaisesTerm x) a h e = refl
+no_operation layers s states (answers.Widens ts) a h e = refl
 no_operation layers s states (answers.Rests ready) a h e = refl
 
 module _ (statements : List Statement) (layers : List Layer) (states : States) (space : List ℕ) (t : Thread) (r : Readiness) where

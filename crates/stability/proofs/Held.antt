@@ -1,22 +1,17 @@
 -- Whether a wait is for variables that are held depends on the classes of what is waited for alone.
-use Rattle.std.proofs.Common.{◌≡◌, ◌&&◌, Bool, true, false, not, List, [], ◌∷◌, Option, refl, sym, ap, ap₂, ◌∙◌}
+use Rattle.std.proofs.Common.{◌≡◌, ◌&&◌, Bool, true, false, not, List, refl, sym, ap, ap₂, ◌∙◌}
 use Rattle.std.specs.Prelude.{is_some}
 use Rattle.std.specs.List.{list_any}
 use Rattle.std.proofs.lemmas.List.Folds.{Any-from_list_any, list_any-from_Any}
-use Rattle.oz_base.specs.Lists.{given_or, first_given}
 use Rattle.oz_base.specs.declared.names.Ident.{Ident}
-use Rattle.oz_semantics.specs.Store.{View, Same, itself, reversed, joined, same, value_given, is_determined}
+use Rattle.oz_semantics.specs.Store.{View, Same, itself, reversed, joined, same, is_determined}
 use Rattle.oz_semantics.specs.Spaces.{is_held}
 use Rattle.oz_laws.proofs.SameLaws.{tests_same}
-use Rattle.oz_laws.proofs.StoreLaws.{given_row}
+use Rattle.oz_laws.proofs.StoreLaws.{value_row}
 use Rattle.tree_equal.specs.Answers.{SameClasses}
 
-first_same : {A B : Type 0} (f g : A → Option B) → ((x : A) → f x ≡ g x) → (xs : List A) → first_given f xs ≡ first_given g xs
-first_same f g h [] = refl
-first_same f g h (x ∷ xs) = ap₂ given_or (h x) (first_same f g h xs)
-
 determined_same : (view : View) (x y : Ident) → Same view x y → is_determined view x ≡ is_determined view y
-determined_same view x y s = ap is_some (first_same (value_given (λ z. same view z x)) (value_given (λ z. same view z y)) (given_row view x y s) view)
+determined_same view x y s = ap is_some (value_row view x y s)
 
 -- two tests of which each passes where the other does
 alike_bools : (a b : Bool) → (a ≡ true → b ≡ true) → (b ≡ true → a ≡ true) → a ≡ b

@@ -9,3 +9,5 @@ pub mod PartLaws
 pub mod KnownLaws
 pub mod AlikeLaws
 pub mod AnsweredLaws
+pub mod Commits
+pub mod DueLaws

@@ -1,6 +1,8 @@
 -- What a commitment comes to.
-use Rattle.std.proofs.Common.{◌≡◌, ℕ, ℤ, pos, negsuc, ◌&&◌, Bool, true, false, if◌then◌else◌, List, [], ◌∷◌, ◌++◌, map, drop, get_or, Option, Some, None, refl, sym, ap, ◌∙◌, subst}
-use Rattle.std.specs.Prelude.{is_some, position, nat_le}
+use Rattle.std.proofs.Common.{◌≡◌, ℕ, ℤ, pos, negsuc, ◌&&◌, Bool, true, false, if◌then◌else◌, List, [], ◌∷◌, map, get_or, Option, Some, None, MatchOption, Result, refl, sym, ap, ◌∙◌, subst}
+use Rattle.std.specs.Prelude.{is_some, position, nat_le, IfOk}
+use Rattle.std.specs.declared.alloc.AllocError.{AllocError}
+use Rattle.std.proofs.lemmas.Result.{IfOk-weaker}
 use Rattle.std.specs.List.{filter_map, cons_option}
 use Rattle.std.proofs.lemmas.Option.{get_or_from_slice_get}
 use Rattle.std.proofs.lemmas.Bool.{false≢true}
@@ -10,14 +12,15 @@ use Rattle.oz_base.specs.declared.names.Ident.{Ident}
 use Rattle.oz_language.specs.declared.kernel.Statement.{Statement}
 use Rattle.oz_semantics.specs.Values.{integer_in, is_procedure}
 use Rattle.oz_semantics.specs.Store.{View, value_of}
-use Rattle.oz_semantics.specs.Configurations.{is_of, is_numbered, view, in_thread, in_layer, with_frames}
+use Rattle.oz_semantics.specs.Configurations.{is_of, is_numbered, view, layer_at}
 use Rattle.oz_semantics.specs.Sights.{Sight, States, state_in, Offer, Readiness, offer_of}
-use Rattle.oz_semantics.specs.Answers.{Answer, Acts, Edits, RaisesKind, RaisesTerm, Operates, Rests, Edit, Commits, Copies, TakesIn, GivesTerm, given, of_kind}
+use Rattle.oz_semantics.specs.Answers.{Answer, Acts, Edits, RaisesKind, RaisesTerm, Operates, Widens, Rests, Edit, Commits, Copies, TakesIn, GivesTerm, given, of_kind}
 use Rattle.oz_semantics.specs.Operations.{once_decided, unless_merged, state_term, alternative_of, committed_in, unless_ended, injected_in, injects, operated, with_state, by_state}
 use Rattle.oz_semantics.specs.Readiness.{answer_ready}
 use Rattle.oz_semantics.specs.Statements.{stack_answer}
 use Rattle.oz_semantics.specs.Spaces.{sight, ready_in, offer_in}
-use Rattle.oz_semantics.specs.Edits.{chosen, choosing, committing}
+use Rattle.oz_semantics.specs.Edits.{chosen, chosen_tells}
+use Rattle.oz_semantics.specs.declared.value.Tell.{Tell}
 use Rattle.oz_semantics.specs.declared.value.SpaceOperation.{SpaceOperation}
 use Rattle.oz_semantics.specs.declared.value.SpaceOperation.TheVariants as operation
 use Rattle.oz_semantics.specs.declared.value.Value.{Value}
@@ -31,52 +34,69 @@ use Rattle.oz_semantics.specs.declared.configuration.Layer.{Layer}
 use Rattle.view_laws.specs.Spaceless.{plain_ready}
 use Rattle.space_core.specs.Levels.{replacing}
 use Rattle.stability.specs.Places.{IsFirst}
-use Rattle.stability.specs.Offers.{offers, committing_in, IsChoice, Commits as CommitsTo}
+use Rattle.stability.specs.Offers.{offers, IsOffered, GoesOnAs, IsChoice, Commits as CommitsTo}
 use Rattle.stability.specs.declared.offers.Choice.{Choice}
-use Rattle.stability.proofs.Firsts.{found_at, edits_agree, edit_same}
+use Rattle.stability.specs.declared.offers.Choice.TheVariants as choices
 use Rattle.stability.proofs.ReadyLaws.{open_readinesses}
 
--- the thread that offers, with its alternative
-chosen_by : (i : ℕ) (t : Thread) (frames : List Frame) (o : Option Offer) → is_some o ≡ true → ((offer : Offer) → o ≡ Some offer → frames ++ drop 1 t.frames ≡ chosen i t.frames offer)
-    → choosing i t o ≡ record t { frames = replacing frames t.frames }
-chosen_by i t frames None e says = absurd (false≢true e)
-chosen_by i t frames (Some offer) e says = ap (λ (fs : List Frame). record t { frames = fs }) (sym (says offer refl))
+-- what a thread offers that offers something
+pub some_of : {A : Type 0} (o : Option A) → is_some o ≡ true → (x : A) × (o ≡ Some x)
+some_of None e = absurd (false≢true e)
+some_of (Some x) e = (x, refl)
 
-pub commits_thread : (s : Sight) (i : ℕ) (threads : List Thread) (p : ℕ) (t : Thread) (frames : List Frame) → IsFirst (offers s) threads p t → position (is_numbered t.number) threads ≡ Some p
-    → ((offer : Offer) → offer_of (plain_ready s t) ≡ Some offer → frames ++ drop 1 t.frames ≡ chosen i t.frames offer)
-    → committing_in s i threads ≡ in_thread t.number (λ t. record t { frames = replacing frames t.frames }) threads
-commits_thread s i threads p t frames h e says =
-    let numbered = found_at (is_numbered t.number) threads (Some p) (sym e) in
-    edits_agree (offers s) (is_numbered t.number) (λ t. choosing i t (offer_of (plain_ready s t))) (λ t. record t { frames = replacing frames t.frames }) threads p t numbered.0 h numbered.1
-    (chosen_by i t frames (offer_of (plain_ready s t)) h.passes says)
+-- The first thread that offers, with what is chosen
 
--- what is read at the place, and what is made of it
-pub commits_choice : (s : Sight) (i : ℕ) (threads : List Thread) (p : ℕ) (t x : Thread) (choice : Choice) → IsFirst (offers s) threads p t → x ≡ get_or threads p x
-    → position (is_numbered t.number) threads ≡ Some p → choice.thread.space ≡ s.space → choice.thread.number ≡ x.number
-    → ((offer : Offer) → offer_of (plain_ready s x) ≡ Some offer → choice.frames.items ++ drop 1 x.frames ≡ chosen i x.frames offer) → IsChoice s i threads (Some choice)
-commits_choice s i threads p t x choice h read first space number says =
-    let same : x ≡ t = read ∙ get_or_from_slice_get threads p t x h.item in (
-      space,
-      commits_thread s i threads p t choice.frames.items h first
-          (subst (λ (y : Thread). (offer : Offer) → offer_of (plain_ready s y) ≡ Some offer → choice.frames.items ++ drop 1 y.frames ≡ chosen i y.frames offer) same says)
-          ∙ ap (λ n. in_thread n (λ t. record t { frames = replacing choice.frames.items t.frames }) threads) (sym (number ∙ ap (λ (y : Thread). y.number) same)),
-    )
+pub is_offered : (s : Sight) (threads : List Thread) (p : ℕ) (t : Thread) → IsFirst (offers s) threads p t → (offer : Offer) × IsOffered s threads p t offer
+is_offered s threads p t h = let found = some_of (offer_of (plain_ready s t)) h.passes in (found.0, record { first = h; offered = found.1 })
+
+-- what is said of the offer of the thread that is read at its place
+chosen_there : (s : Sight) (threads : List Thread) (p : ℕ) (t x : Thread) (offer : Offer) (says : List Frame → Offer → Type 0) → IsOffered s threads p t offer → x ≡ get_or threads p x
+    → ((offer : Offer) → offer_of (plain_ready s x) ≡ Some offer → says x.frames offer) → says t.frames offer
+chosen_there s threads p t x offer says h read said =
+    subst (λ (y : Thread). (offer : Offer) → offer_of (plain_ready s y) ≡ Some offer → says y.frames offer) (read ∙ get_or_from_slice_get threads p t x h.first.item) said offer h.offered
+
+-- it goes on with these frames
+going_by : (s : Sight) (i : ℕ) (threads : List Thread) (p : ℕ) (t : Thread) (offer : Offer) (fs : List Frame) → IsOffered s threads p t offer → replacing fs t.frames ≡ chosen i t.frames offer
+    → chosen_tells i (Some offer) ≡ [] → (choice : Choice) → GoesOnAs s.space t (position (is_numbered t.number) threads ≡ Some p) fs choice → IsChoice s i threads choice
+going_by s i threads p t offer fs h stack silent choices.Nothing as_so = absurd as_so
+going_by s i threads p t offer fs h stack silent (choices.GoesOn thread frames) as_so = record {
+  place = p;
+  t = t;
+  offer = offer;
+  offered = h;
+  named = as_so.0;
+  numbered = as_so.2;
+  stack = ap (λ (xs : List Frame). replacing xs t.frames) as_so.1 ∙ stack;
+  silent = silent;
+}
+going_by s i threads p t offer fs h stack silent (choices.Tells tell) as_so = absurd as_so
+
+pub goes_choice : (s : Sight) (i : ℕ) (threads : List Thread) (p : ℕ) (t x : Thread) (fs : List Frame) → IsFirst (offers s) threads p t → x ≡ get_or threads p x
+    → ((offer : Offer) → offer_of (plain_ready s x) ≡ Some offer → (replacing fs x.frames ≡ chosen i x.frames offer) × (chosen_tells i (Some offer) ≡ []))
+    → (r : Result Choice AllocError) → IfOk r (GoesOnAs s.space t (position (is_numbered t.number) threads ≡ Some p) fs) → IfOk r (IsChoice s i threads)
+goes_choice s i threads p t x fs h read says r goes =
+    let found = is_offered s threads p t h in
+    let so = chosen_there s threads p t x found.0 (λ stack offer. (replacing fs stack ≡ chosen i stack offer) × (chosen_tells i (Some offer) ≡ [])) found.1 read says in
+    IfOk-weaker r _ _ (λ choice as_so. going_by s i threads p t found.0 fs found.1 so.0 so.1 choice as_so) goes
+
+pub tells_choice : (s : Sight) (i : ℕ) (threads : List Thread) (p : ℕ) (t x : Thread) (tell : Tell) → IsFirst (offers s) threads p t → x ≡ get_or threads p x
+    → ((offer : Offer) → offer_of (plain_ready s x) ≡ Some offer → (x.frames ≡ chosen i x.frames offer) × (chosen_tells i (Some offer) ≡ tell ∷ [])) → IsChoice s i threads (choices.Tells tell)
+tells_choice s i threads p t x tell h read says =
+    let found = is_offered s threads p t h in
+    let so = chosen_there s threads p t x found.0 (λ stack offer. (stack ≡ chosen i stack offer) × (chosen_tells i (Some offer) ≡ tell ∷ [])) found.1 read says in
+    record { place = p; t = t; offer = found.0; offered = found.1; stack = sym so.0; told = so.1 }
 
 -- a choice of the threads of the first layer of a space is one of the space
 pub commits_space : (statements : List Statement) (layers : List Layer) (space : List ℕ) (i p : ℕ) (l : Layer) → IsFirst (is_of space) layers p l
-    → (found : Option Choice) → IsChoice (sight statements layers l.space) i l.threads found → CommitsTo statements layers space i found
-commits_space statements layers space i p l h found choice =
-    by found (subst (λ (s : List ℕ). IsChoice (sight statements layers s) i l.threads found) same choice)
-  where
-    same : l.space ≡ space
-    same = (list_eq-decides l.space space).0 h.passes
+    → (choice : Choice) → IsChoice (sight statements layers l.space) i l.threads choice → CommitsTo statements layers space i choice
+commits_space statements layers space i p l h choice is =
+    subst (λ (o : Option Layer). MatchOption o (choice ≡ choices.Nothing) (λ (l : Layer). IsChoice (sight statements layers space) i l.threads choice)) (sym h.found)
+    (subst (λ (s : List ℕ). IsChoice (sight statements layers s) i l.threads choice) ((list_eq-decides l.space space).0 h.passes) is)
 
-    by : (found : Option Choice) → IsChoice (sight statements layers space) i l.threads found → CommitsTo statements layers space i found
-    by None c = edit_same (is_of space) (committing (sight statements layers space) i) layers p l h (ap (λ (ts : List Thread). record l { threads = ts }) c)
-    by (Some choice) c =
-        edits_agree (is_of space) (is_of space) (committing (sight statements layers space) i) (with_frames choice.thread.number (replacing choice.frames.items)) layers p l l h h
-        (ap (λ (ts : List Thread). record l { threads = ts }) c.1)
-        ∙ ap (λ (s : List ℕ). in_layer s (with_frames choice.thread.number (replacing choice.frames.items)) layers) (sym c.0)
+-- of a space that is not there there is none
+pub commits_nothing : (statements : List Statement) (layers : List Layer) (space : List ℕ) (i : ℕ) → layer_at layers space ≡ None → CommitsTo statements layers space i choices.Nothing
+commits_nothing statements layers space i e =
+    subst (λ (o : Option Layer). MatchOption o (choices.Nothing ≡ choices.Nothing) (λ (l : Layer). IsChoice (sight statements layers space) i l.threads choices.Nothing)) (sym e) refl
 
 -- What is offered does not go by the states of spaces: no operation on a space offers anything
 
@@ -176,6 +196,7 @@ offers_alone layers s known (Acts act) = refl
 offers_alone layers s known (Edits edit) = refl
 offers_alone layers s known (RaisesKind kind) = refl
 offers_alone layers s known (RaisesTerm x) = refl
+offers_alone layers s known (Widens ts) = refl
 offers_alone layers s known (Rests ready) = refl
 
 offered : {A B C : Type 0} (f : B → Option C) (g : A → B) (xs : List A) → filter_map f (map g xs) ≡ filter_map (λ x. f (g x)) xs

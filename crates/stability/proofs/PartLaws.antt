@@ -1,5 +1,5 @@
 -- In the order of names all that is below a space stands right behind it, and nothing else between.
-use Rattle.std.proofs.Common.{◌≡◌, inl, inr, ℕ, zero, suc, ◌+◌, ◌-◌, ◌<◌, ◌≤◌, nat_eq, Bool, true, false, cond, List, [], ◌∷◌, Contains, drop, take, length, length-append, filter, Some, None, refl, sym, ap, subst, ◌∙◌, arith}
+use Rattle.std.proofs.Common.{◌≡◌, inl, inr, ℕ, zero, suc, ◌+◌, ◌-◌, ◌<◌, ◌≤◌, nat_eq, Bool, true, false, cond, List, [], ◌∷◌, Contains, drop, take, length, length-append, Some, None, refl, sym, ap, subst, ◌∙◌, arith}
 use Rattle.std.specs.Prelude.{slice_get}
 use Rattle.std.specs.List.{list_all, find}
 use Rattle.std.proofs.lemmas.Bool.Decides.{nat_tests}
@@ -12,7 +12,7 @@ use Rattle.oz_semantics.specs.Spaces.{layers_below}
 use Rattle.oz_semantics.specs.declared.configuration.Layer.{Layer}
 use Rattle.oz_laws.proofs.SameLaws.{In, In-from_contains, contains-from_In, and-right, eq-true}
 use Rattle.view_laws.specs.Trees.{is_ascending, names_of, IsTree}
-use Rattle.view_laws.proofs.Members.{decide, not_both, each}
+use Rattle.view_laws.proofs.Members.{decide, not_both}
 use Rattle.view_laws.proofs.ListLaws.{filter_none}
 use Rattle.view_laws.proofs.NameLaws.{below_itself, above_parent}
 use Rattle.view_laws.proofs.TreeLaws.{above_not_less}

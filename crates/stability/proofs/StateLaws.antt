@@ -1,10 +1,16 @@
 -- What the state of an open space rests on.
-use Rattle.std.proofs.Common.{◌≡◌, ◌&&◌, Bool, true, false, not, if◌then◌else◌, List, Option, refl, ap, ◌∙◌}
+use Rattle.std.proofs.Common.{◌≡◌, ◌==◌, ◌+◌, add-one, arith, length, [], ◌∷◌, ◌&&◌, ◌||◌, Bool, true, false, not, if◌then◌else◌, List, Option, refl, sym, ap, ◌∙◌}
+use Rattle.std.specs.List.{list_any}
+use Rattle.std.proofs.lemmas.Bool.{eqb-true}
+use Rattle.oz_base.specs.Lists.{is_empty}
+use Rattle.oz_semantics.specs.Store.{View}
+use Rattle.oz_semantics.specs.Propagation.{is_undecided}
+use Rattle.oz_semantics.specs.declared.configuration.Thread.{Thread}
 use Rattle.oz_language.specs.declared.kernel.Statement.{Statement}
 use Rattle.oz_semantics.specs.Names.{parent_of}
 use Rattle.oz_semantics.specs.Configurations.{view, ancestor_variables}
 use Rattle.oz_semantics.specs.Sights.{States, Offer}
-use Rattle.oz_semantics.specs.Spaces.{subtree_goes_on, waits_outside, alike_on, offer_in, stable_state, open_state}
+use Rattle.oz_semantics.specs.Spaces.{subtree_goes_on, waits_outside, alike_on, offer_in, is_left, stable_state, open_state}
 use Rattle.oz_semantics.specs.declared.configuration.Layer.{Layer}
 use Rattle.oz_semantics.specs.declared.outcome.State.{State}
 use Rattle.oz_semantics.specs.declared.outcome.State.TheVariants.{Running, Suspended}
@@ -41,7 +47,7 @@ abbrev pub silent : List Layer → Layer → Bool
 silent layers l = alike_on (ancestor_variables layers l.space) (view layers l.space) (view layers (parent_of l.space))
 
 abbrev stable : List Statement → List Layer → States → Layer → State
-stable statements layers states l = stable_state (offer_in statements layers states l) l.threads
+stable statements layers states l = stable_state (offer_in statements layers states l) (is_left (view layers l.space) l)
 
 module _ (statements : List Statement) (layers : List Layer) (states : States) (l : Layer) where
   pub running : going statements layers states l ≡ true → Running ≡ open_state statements layers states l
@@ -64,4 +70,23 @@ pub open_same : (statements : List Statement) (layers : List Layer) (one other :
 open_same statements layers one other l g w o =
     ap (λ (b : Bool). by_tests b (waiting statements layers one l) (silent layers l) (stable statements layers one l)) g
     ∙ ap (λ (b : Bool). by_tests (going statements layers other l) b (silent layers l) (stable statements layers one l)) w
-    ∙ ap (λ (offer : Option Offer). by_tests (going statements layers other l) (waiting statements layers other l) (silent layers l) (stable_state offer l.threads)) o
+    ∙ ap (λ (offer : Option Offer). by_tests (going statements layers other l) (waiting statements layers other l) (silent layers l) (stable_state offer (is_left (view layers l.space) l))) o
+
+-- What is left
+
+pub empty_length : {A : Type 0} (xs : List A) → (length xs == 0) ≡ is_empty xs
+empty_length [] = refl
+empty_length (x ∷ xs) = by (length (x ∷ xs) == 0) refl
+  where
+    by : (b : Bool) → (length (x ∷ xs) == 0) ≡ b → (length (x ∷ xs) == 0) ≡ false
+    by true e =
+        let same : length (x ∷ xs) ≡ 0 = eqb-true (length (x ∷ xs)) 0 e in
+        let long : length (x ∷ xs) ≡ length xs + 1 = sym (add-one (length xs)) in
+        absurd (omega (arith, same, long))
+    by false e = e
+
+pub left_threads : (view : View) (l : Layer) (ts : List Thread) → ts ≡ l.threads → is_empty ts ≡ false → true ≡ is_left view l
+left_threads view l ts e some = sym (ap (λ (b : Bool). not b || list_any (is_undecided view) l.propagators) (ap is_empty (sym e) ∙ some))
+
+pub left_propagators : (view : View) (l : Layer) (ts : List Thread) → ts ≡ l.threads → is_empty ts ≡ true → list_any (is_undecided view) l.propagators ≡ is_left view l
+left_propagators view l ts e none = sym (ap (λ (b : Bool). not b || list_any (is_undecided view) l.propagators) (ap is_empty (sym e) ∙ none))

@@ -75,6 +75,7 @@ fn resolved(
         Answer::Edits(edit) => Ok(Outcome::Answers(Answer::Edits(edit))),
         Answer::RaisesKind(kind) => Ok(Outcome::Answers(Answer::RaisesKind(kind))),
         Answer::RaisesTerm(exception) => Ok(Outcome::Answers(Answer::RaisesTerm(exception))),
+        Answer::Widens(tells) => Ok(Outcome::Answers(Answer::Widens(tells))),
         Answer::Rests => Ok(Outcome::Answers(Answer::Rests)),
     }
 }

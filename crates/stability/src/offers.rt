@@ -1,6 +1,6 @@
 //! Which thread of a space offers alternatives, and what a commitment of the space comes to (CTM 12.5; Schulte 4). What is offered does not
 //! go by the states of spaces.
-ghost use Rattle.std.specs.Prelude.{ℕ, ◌≡◌, ◌<◌, ◌++◌, List, Some, slice_get, length, drop, is_some, position, option_map, IsTrue, IfOk, MatchOption};
+ghost use Rattle.std.specs.Prelude.{ℕ, ◌≡◌, ◌↔◌, ◌<◌, List, Some, slice_get, length, position, option_map, IsTrue, IfOk, MatchOption};
 ghost use Rattle.std.specs.List.{filter_map, find};
 ghost use Rattle.oz_base.specs.Lists.{first};
 ghost use Rattle.oz_semantics.specs.Names.{named};
@@ -10,22 +10,22 @@ ghost use Rattle.oz_semantics.specs.Sights as sights;
 ghost use Rattle.oz_semantics.specs.Sights.{Offer, count_of, offer_of};
 ghost use Rattle.view_laws.specs.Spaceless.{plain_ready};
 ghost use Rattle.oz_semantics.specs.Spaces.{sight};
-ghost use Rattle.oz_semantics.specs.Edits.{chosen};
 ghost use Rattle.oz_semantics.specs.declared.configuration.Thread as running;
 ghost use Rattle.builtins.specs.Answers.{IsReady};
 ghost use Rattle.oz_threads.specs.Sights.{sight_of};
 ghost use Rattle.space_core.specs.Levels.{OfLayer};
 ghost use Rattle.stability.specs.Places.{IsAbsent, IsFirst};
-ghost use Rattle.stability.specs.Offers.{offers, IsChoice, Commits};
+ghost use Rattle.statements.specs.Offers.{IsChosen};
+ghost use Rattle.stability.specs.Offers.{offers, IsChoice, GoesOnAs, Commits};
 
 use crate::places::place_of;
 use builtins::Readiness;
 use oz_base::{Copies, Ident, SpaceName};
 use oz_language::Statement;
-use oz_semantics::{Frame, Thread};
+use oz_semantics::{Frame, Tell, Thread};
 use oz_threads::ready_where;
 use space_core::Levels;
-use statements::alternative;
+use statements::{Chosen, alternative};
 use std::alloc::{AllocError, Global};
 use term_store::Store;
 
@@ -34,7 +34,7 @@ fn offer_size(ready: &Readiness) -> Option<u64>
     ensures { (view : View) (defined : sights.Readiness) → IsReady view defined ready.now → result ≡ option_map count_of (offer_of defined) }
 {
     match ready {
-        Readiness::Offers(size) => Some(*size),
+        Readiness::Offers { count, .. } => Some(*count),
         Readiness::Steps | Readiness::Waits(_) | Readiness::WaitsForState(_) => None,
     }
 }
@@ -149,52 +149,32 @@ pub fn first_offer(
     first_offer_where(alloc, statements, space, store, levels.threads_at(place))
 }
 
-/// What a commitment of a space changes: other statements come in the place of the one on top of this thread's stack.
+/// What a commitment of a space comes to.
 #[derive(Drop)]
-pub struct Choice {
-    pub thread: Ident,
-    pub frames: Vec<Frame>,
+pub enum Choice {
+    /// No thread of it offers anything.
+    Nothing,
+    /// Other statements come in the place of the one on top of this thread's stack.
+    GoesOn { thread: Ident, frames: Vec<Frame> },
+    /// The space is told this.
+    Tells { tell: Tell },
 }
 
-/// The statements of an alternative that a thread offers, by its number from 1.
+/// What a commitment to an alternative that a thread offers does, by its number from 1.
 fn alternative_of(
     alloc: Global,
     statements: &[Statement],
     store: &Store,
     thread: &Thread,
     index: u64,
-) -> Result<Vec<Frame>, AllocError>
-    ensures { IfOk result (λ body. (space : List ℕ) (offer : Offer) → offer_of (plain_ready (sight_of statements.now space store.now) thread.now) ≡ Some offer
-        → body.items ++ drop 1 thread.now.frames ≡ chosen index thread.now.frames offer) }
+) -> Result<Chosen, AllocError>
+    ensures { IfOk result (λ what. (space : List ℕ) (offer : Offer) → offer_of (plain_ready (sight_of statements.now space store.now) thread.now) ≡ Some offer
+        → IsChosen index thread.now.frames offer what) }
 {
     match thread.frames.top() {
         Some(frame) => alternative(alloc, statements, store, frame, index),
-        None => Ok(Vec::new(alloc)),
+        None => Ok(Chosen::GoesOn(Vec::new(alloc))),
     }
-}
-
-/// The choice of an alternative that a thread of the space offers.
-fn choice_of(
-    alloc: Global,
-    statements: &[Statement],
-    space: &SpaceName,
-    store: &Store,
-    thread: &Thread,
-    index: u64,
-) -> Result<Choice, AllocError>
-    ensures space { IfOk result (λ choice. choice.thread.space ≡ space.now) }
-    ensures number { IfOk result (λ choice. choice.thread.number ≡ thread.now.number) }
-    ensures body { IfOk result (λ choice. (offer : Offer) → offer_of (plain_ready (sight_of statements.now space.now store.now) thread.now) ≡ Some offer
-        → choice.frames.items ++ drop 1 thread.now.frames ≡ chosen index thread.now.frames offer) }
-{
-    let frames = alternative_of(alloc, statements, store, thread, index)?;
-    Ok(Choice {
-        thread: Ident {
-            space: space.copied(alloc)?,
-            number: thread.number,
-        },
-        frames,
-    })
 }
 
 fn numbered(threads: &[Thread], number: u64) -> Option<usize>
@@ -206,11 +186,52 @@ fn numbered(threads: &[Thread], number: u64) -> Option<usize>
 /// Whether the thread at a place is the first of its number.
 fn is_first_numbered(threads: &[Thread], place: usize) -> bool
     requires { place < length threads.now }
-    ensures { (t : running.Thread) → slice_get threads.now place ≡ Some t → IsTrue result → position (is_numbered t.number) threads.now ≡ Some place }
+    ensures { (t : running.Thread) → slice_get threads.now place ≡ Some t → (IsTrue result ↔ (position (is_numbered t.number) threads.now ≡ Some place)) }
 {
     match numbered(threads, threads[place].number) {
         Some(first) => first == place,
         None => false,
+    }
+}
+
+/// The choice that the thread at a place, which is the first that offers, goes on with these statements. It refuses where an earlier thread
+/// has its number.
+fn going_on(
+    alloc: Global,
+    space: &SpaceName,
+    threads: &[Thread],
+    place: usize,
+    frames: Vec<Frame>,
+) -> Result<Choice, AllocError>
+    requires { place < length threads.now }
+    ensures { (t : running.Thread) → slice_get threads.now place ≡ Some t → IfOk result (GoesOnAs space.now t (position (is_numbered t.number) threads.now ≡ Some place) frames.items) }
+{
+    if !is_first_numbered(threads, place) {
+        return Err(AllocError);
+    }
+    let number = threads[place].number;
+    let space = space.copied(alloc)?;
+    let thread = Ident { space, number };
+    Ok(Choice::GoesOn { thread, frames })
+}
+
+/// The choice of an alternative that the thread at a place offers, the first that offers.
+fn choice_at(
+    alloc: Global,
+    statements: &[Statement],
+    space: &SpaceName,
+    store: &Store,
+    threads: &[Thread],
+    place: usize,
+    index: u64,
+) -> Result<Choice, AllocError>
+    requires { place < length threads.now }
+    ensures { (t : running.Thread) → IsFirst (offers (sight_of statements.now space.now store.now)) threads.now place t → IfOk result (IsChoice (sight_of statements.now space.now store.now) index threads.now) }
+{
+    let what = alternative_of(alloc, statements, store, &threads[place], index)?;
+    match what {
+        Chosen::GoesOn(frames) => going_on(alloc, space, threads, place, frames),
+        Chosen::Tells(tell) => Ok(Choice::Tells { tell }),
     }
 }
 
@@ -221,32 +242,28 @@ fn choice_where(
     store: &Store,
     threads: &[Thread],
     index: u64,
-) -> Result<Option<Choice>, AllocError>
+) -> Result<Choice, AllocError>
     ensures { IfOk result (IsChoice (sight_of statements.now space.now store.now) index threads.now) }
 {
     let Some(place) = first_offering(alloc, statements, space, store, threads)? else {
-        return Ok(None);
+        return Ok(Choice::Nothing);
     };
-    if !is_first_numbered(threads, place) {
-        return Err(AllocError);
-    }
-    let choice = choice_of(alloc, statements, space, store, &threads[place], index)?;
-    Ok(Some(choice))
+    choice_at(alloc, statements, space, store, threads, place, index)
 }
 
-/// What committing a space to its alternative of this index, from 1, comes to; none where it offers nothing. Besides for want of
-/// memory it refuses where an earlier thread of the space has the number of the one that offers: a machine gives no number twice.
+/// What committing a space to its alternative of this index, from 1, comes to; nothing where it offers none. Besides for want of
+/// memory it refuses where an earlier thread of the space has the number of the one that goes on: a machine gives no number twice.
 pub fn chosen(
     alloc: Global,
     statements: &[Statement],
     levels: &Levels,
     space: &SpaceName,
     index: u64,
-) -> Result<Option<Choice>, AllocError>
+) -> Result<Choice, AllocError>
     ensures { IfOk result (Commits statements.now levels.now space.now index) }
 {
     let Some(place) = place_of(levels, space) else {
-        return Ok(None);
+        return Ok(Choice::Nothing);
     };
     let space = levels.space_at(place);
     let store = levels.store_at(place);

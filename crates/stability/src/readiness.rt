@@ -57,7 +57,7 @@ fn waits_for_state(ready: &Readiness) -> bool
 {
     match ready {
         Readiness::WaitsForState(_) => true,
-        Readiness::Steps | Readiness::Waits(_) | Readiness::Offers(_) => false,
+        Readiness::Steps | Readiness::Waits(_) | Readiness::Offers { .. } => false,
     }
 }
 
@@ -90,6 +90,7 @@ fn resolved(
         Answer::Edits(_) => Ok(ready),
         Answer::RaisesKind(_) => Ok(ready),
         Answer::RaisesTerm(_) => Ok(ready),
+        Answer::Widens(_) => Ok(ready),
         Answer::Rests => Ok(ready),
     }
 }

@@ -5,10 +5,12 @@ ghost use Rattle.oz_semantics.specs.Configurations.{view, ancestor_variables};
 ghost use Rattle.oz_semantics.specs.Sights as sights;
 ghost use Rattle.oz_semantics.specs.Sights.{waits_of};
 ghost use Rattle.oz_semantics.specs.Spaces.{ready_in, is_held, layer_waits, waits_outside};
+ghost use Rattle.oz_semantics.specs.declared.configuration.Status.TheVariants as status;
 ghost use Rattle.builtins.specs.Answers.{IsReady};
 ghost use Rattle.space_core.specs.Levels.{OfLayer};
 ghost use Rattle.stability.specs.Known.{known};
 ghost use Rattle.stability.specs.Parts.{part};
+ghost use Rattle.stability.specs.Waits.{undecided_waits};
 
 use crate::known::States;
 use crate::parts::end_of;
@@ -16,7 +18,8 @@ use crate::readiness::ready_in;
 use builtins::Readiness;
 use oz_base::{Ident, SpaceName};
 use oz_language::Statement;
-use oz_semantics::{Status, Thread};
+use oz_semantics::{Propagator, Status, Thread};
+use propagation::is_undecided;
 use space_core::Levels;
 use std::alloc::{AllocError, Global};
 
@@ -41,7 +44,8 @@ fn waits_held(levels: &Levels, place: usize, space: &SpaceName, ready: &Readines
 {
     match ready {
         Readiness::Waits(waits) => any_held(levels, place, space, waits.as_slice()),
-        Readiness::Steps | Readiness::WaitsForState(_) | Readiness::Offers(_) => false,
+        Readiness::Offers { waits, .. } => any_held(levels, place, space, waits.as_slice()),
+        Readiness::Steps | Readiness::WaitsForState(_) => false,
     }
 }
 
@@ -84,6 +88,60 @@ fn any_waits(
     Ok(false)
 }
 
+/// Whether a propagator of the space at a place is not decided, and one of its variables is held by the proper ancestors of the other
+/// space.
+fn propagator_waits(
+    levels: &Levels,
+    place: usize,
+    space: &SpaceName,
+    propagator: &Propagator,
+) -> bool
+    requires { place < length levels.now }
+    ensures { OfLayer levels.now place (λ l. result ≡ undecided_waits (view levels.now l.space) (ancestor_variables levels.now space.now) propagator.now) }
+{
+    if !is_undecided(levels.store_at(place), propagator) {
+        return false;
+    }
+    any_held(levels, place, space, propagator.variables.as_slice())
+}
+
+fn any_propagator_waits(
+    levels: &Levels,
+    place: usize,
+    space: &SpaceName,
+    propagators: &[Propagator],
+) -> bool
+    requires { place < length levels.now }
+    ensures { OfLayer levels.now place (λ l. result ≡ list_any (undecided_waits (view levels.now l.space) (ancestor_variables levels.now space.now)) propagators.now) }
+{
+    for propagator in propagators {
+        if propagator_waits(levels, place, space, propagator) {
+            return true;
+        }
+    }
+    false
+}
+
+/// Whether a thread or a propagator of the space at a place, which is open, waits for a variable of the proper ancestors of the other space.
+fn open_waits(
+    alloc: Global,
+    statements: &[Statement],
+    levels: &Levels,
+    states: &States,
+    place: usize,
+    space: &SpaceName,
+) -> Result<bool, AllocError>
+    requires { place < length levels.now }
+    ensures { OfLayer levels.now place (λ l. l.status ≡ status.Open → IfOk result (λ waits. waits ≡ layer_waits statements.now levels.now (known levels.now states.now) (ancestor_variables levels.now space.now) l)) }
+{
+    let threads = levels.threads_at(place);
+    if any_waits(alloc, statements, levels, states, place, space, threads)? {
+        return Ok(true);
+    }
+    let propagators = levels.propagators_at(place);
+    Ok(any_propagator_waits(levels, place, space, propagators))
+}
+
 fn layer_waits(
     alloc: Global,
     statements: &[Statement],
@@ -96,15 +154,7 @@ fn layer_waits(
     ensures { OfLayer levels.now place (λ l. IfOk result (λ waits. waits ≡ layer_waits statements.now levels.now (known levels.now states.now) (ancestor_variables levels.now space.now) l)) }
 {
     match levels.status_at(place) {
-        Status::Open => any_waits(
-            alloc,
-            statements,
-            levels,
-            states,
-            place,
-            space,
-            levels.threads_at(place),
-        ),
+        Status::Open => open_waits(alloc, statements, levels, states, place, space),
         Status::Failed | Status::Raised(_) | Status::Merged => Ok(false),
     }
 }

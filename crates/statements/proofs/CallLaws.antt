@@ -20,6 +20,7 @@ said_as a (said.Edits b) e = sym (ap erased e)
 said_as a (said.RaisesKind kind) e = sym (ap erased e)
 said_as a (said.RaisesTerm x) e = sym (ap erased e)
 said_as a (said.Operates op space x) e = sym (ap erased e)
+said_as a (said.Widens ts) e = sym (ap erased e)
 said_as a said.Rests (ready, e) = sym (ap erased e)
 
 -- and what says the same is the answer
@@ -29,6 +30,7 @@ is_answer (answers.Edits b) (said.Edits c) e = sym e
 is_answer (answers.RaisesKind k) (said.RaisesKind l) e = sym e
 is_answer (answers.RaisesTerm x) (said.RaisesTerm y) e = sym e
 is_answer (answers.Operates op space x) (said.Operates other child y) e = sym e
+is_answer (answers.Widens ts) (said.Widens us) e = sym e
 is_answer (answers.Rests ready) said.Rests e = (ready, refl)
 is_answer a r e = cc
 

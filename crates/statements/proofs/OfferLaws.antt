@@ -1,5 +1,5 @@
--- Choices and calls of `Choose` alone offer alternatives.
-use Rattle.std.proofs.Common.{◌≡◌, ◌∷◌, [], ◌-◌, ◌++◌, drop, ℕ, ℤ, refl, sym, ap, ◌∙◌, Bool, true, false, Option, Some, None, Result, Ok, Err, List, length, map, if◌then◌else◌, pos, negsuc, ◌&&◌}
+-- Choices, and calls of `Choose` and of `FD.distribute`, alone offer alternatives.
+use Rattle.std.proofs.Common.{◌≡◌, ◌∷◌, [], ◌-◌, ◌++◌, drop, ℕ, ℤ, refl, sym, ap, ◌∙◌, Bool, true, false, Option, Some, None, Result, Ok, Err, List, length, map, if◌then◌else◌, eq-eqb, pos, negsuc, ◌&&◌}
 use Rattle.std.specs.Prelude.{◌==◌, nat_le, slice_get, unwrap_or, option_map}
 use Rattle.std.specs.Option.{option_and_then}
 use Rattle.std.proofs.lemmas.Option.{slice_get-map}
@@ -17,10 +17,14 @@ use Rattle.oz_semantics.specs.Names.{is_top, is_child_of}
 use Rattle.oz_semantics.specs.Values.{fields_of, constant_in, integer_in, cell_in, port_in, space_in, is_procedure}
 use Rattle.oz_semantics.specs.Store.{View, value_of}
 use Rattle.oz_semantics.specs.Entailment.{Equality, Entailed, Contradicted, Undecided, equality}
-use Rattle.oz_semantics.specs.Sights.{Sight, Offer, Bodies, Number, Offers, offer_of}
-use Rattle.oz_semantics.specs.Edits.{chosen}
-use Rattle.oz_semantics.specs.Answers.{Act, Creates, Answer, Acts, Edits, RaisesKind, Operates, Rests, Reads, Writes, Exchanges, Sends, Delays, Shows, gives_constant, argument, given, with_value, of_kind}
-use Rattle.oz_semantics.specs.Builtins.{arguments_of, gives_number, gives_field, field_at, of_equality, label_in, arity_in, own_act, on_cell, on_port, delays, creates, choice_limit, offered, operates, of_operation, answer, call_answer}
+use Rattle.oz_semantics.specs.Sights.{Sight, Offer, Bodies, Number, Parts, Offers, offer_of}
+use Rattle.oz_base.specs.declared.relation.Relation.TheVariants.{Distinct}
+use Rattle.oz_semantics.specs.Inputs.{Input, Known, Unknown, OtherKind, both}
+use Rattle.oz_semantics.specs.Vectors.{vector}
+use Rattle.oz_semantics.specs.Constraints.{bounds, refusal_of}
+use Rattle.oz_semantics.specs.Distributors.{Distribution, Widens, Finished, Splits, distribution}
+use Rattle.oz_semantics.specs.Answers.{Act, Creates, Answer, Acts, Edits, RaisesKind, Operates, Rests, Reads, Writes, Exchanges, Sends, Delays, Shows, Confines, gives_constant, argument, given, with_value, of_kind}
+use Rattle.oz_semantics.specs.Builtins.{arguments_of, gives_number, gives_field, field_at, of_equality, label_in, arity_in, own_act, on_cell, on_port, delays, creates, choice_limit, offered, operates, of_input, unless_refused, interval_news, confines, posts, distributes, of_operation, answer, call_answer}
 use Rattle.oz_semantics.specs.Configurations.{frames_of}
 use Rattle.oz_semantics.specs.Matching.{Match, Matches, Differs, MatchWaits, matched}
 use Rattle.oz_semantics.specs.Statements.{value_called, called, branch, clause, numbered_answer}
@@ -33,8 +37,11 @@ use Rattle.oz_semantics.specs.declared.value.Builtin.{Builtin}
 use Rattle.oz_semantics.specs.declared.value.Builtin.TheVariants as builtin
 use Rattle.oz_semantics.specs.declared.outcome.RaiseKind.{RaiseKind}
 use Rattle.oz_semantics.specs.declared.outcome.RaiseKind.TheVariants as raise
-use Rattle.builtins.specs.Choices.{size_in, choice_in, choice_of}
-use Rattle.statements.specs.Offers.{alternative_in, alternative_of, is_choose, number_offer, chosen_offer, called_offer}
+use Rattle.oz_semantics.specs.declared.value.Tell.{Tell}
+use Rattle.builtins.specs.Choices.{size_in, choice_in, choice_of, part_in, part_of}
+use Rattle.statements.specs.Offers.{Alternative, Frames, Part, number_frame, alternative_in, alternative_of, number_offer, chosen_offer, parts_in, parts_offer, value_offer, called_offer, of_chosen, IsChosen}
+use Rattle.statements.specs.declared.alternatives.Chosen.{Chosen}
+use Rattle.statements.specs.declared.alternatives.Chosen.TheVariants.{GoesOn, Tells}
 use Rattle.statements.proofs.ReadyLaws.{procedure_steps, branch_steps}
 
 -- an answer offers nothing
@@ -73,6 +80,18 @@ integers_quiet : (view : View) (x y : Ident) (go : ℤ → ℤ → Answer) → (
 integers_quiet view x y go h =
     given_quiet x (value_of view x) _ (λ v. given_quiet y (value_of view y) _ (λ w. kind_quiet (integer_in v) _ (λ i. kind_quiet (integer_in w) (go i) (h i))))
 
+input_quiet : {A : Type 0} (i : Input A) (go : A → Answer) → ((a : A) → IsQuiet (go a)) → IsQuiet (of_input i go)
+input_quiet (Known a) go h = h a
+input_quiet (Unknown x) go h = refl
+input_quiet OtherKind go h = refl
+
+refusal_quiet : (o : Option RaiseKind) (a : Answer) → IsQuiet a → IsQuiet (unless_refused o a)
+refusal_quiet None a h = h
+refusal_quiet (Some kind) a h = refl
+
+confines_quiet : (view : View) (xs : List Ident) (b : ℤ × ℤ) → IsQuiet (confines view xs b)
+confines_quiet view xs b = refusal_quiet (refusal_of b.0 b.1) (Acts (Confines (interval_news view xs (record { low = b.0; high = b.1 })))) refl
+
 operation_quiet : (view : View) (op : Operation) (x y z : Ident) → IsQuiet (of_operation view op x y z)
 operation_quiet view operation.Same x y z = equality_quiet z true (equality view x y)
 operation_quiet view operation.Differs x y z = equality_quiet z false (equality view x y)
@@ -88,8 +107,9 @@ operation_quiet view operation.Mod x y z = integers_quiet view x y _ (λ i j. nu
 operation_quiet view operation.Select x y z =
     given_quiet x (value_of view x) _
     (λ v. given_quiet y (value_of view y) _ (λ w. kind_quiet (arity_in v) _ (λ features. kind_quiet (constant_in w) _ (λ f. field_quiet z (field_at features (fields_of v) f)))))
-operation_quiet view operation.Bound x y z = refl
-operation_quiet view operation.BoundEach x y z = refl
+operation_quiet view operation.Bound x y z = input_quiet (bounds view y) (confines view (x ∷ [])) (confines_quiet view (x ∷ []))
+operation_quiet view operation.BoundEach x y z =
+    input_quiet (both (vector view x) (bounds view y)) (λ (i : List Ident × (ℤ × ℤ)). confines view i.0 i.1) (λ (i : List Ident × (ℤ × ℤ)). confines_quiet view i.0 i.1)
 
 own_quiet : (s : Sight) (global : RaiseKind) (act : ℕ → Act) (owner : Ident) → IsQuiet (own_act s global act owner)
 own_quiet s global act owner = if_quiet (list_eq owner.space s.space) (Acts (act owner.number)) (RaisesKind global) refl refl
@@ -125,9 +145,18 @@ given_offers : (x y : Ident) (o : Option Value) → offer_of (answer_ready (give
 given_offers x y None = refl
 given_offers x y (Some v) = kind_offers x (integer_in v)
 
+-- the parts of a domain
+distribution_offers : (view : View) (i : Input Distribution) → offer_of (answer_ready (of_input i (distributes view))) ≡ parts_in i
+distribution_offers view (Known (Widens xs)) = refl
+distribution_offers view (Known Finished) = refl
+distribution_offers view (Known (Splits one other xs)) = refl
+distribution_offers view (Unknown x) = refl
+distribution_offers view OtherKind = refl
+
 -- what a built-in offers of its arguments
 abbrev builtin_offer : View → Builtin → (ℕ → Ident) → Option Offer
 builtin_offer view builtin.Choose f = number_offer (f 1) (choice_of view (f 0))
+builtin_offer view builtin.Distribute f = parts_in (distribution view (f 0) (f 1))
 builtin_offer view b f = None
 
 builtin_offers : (s : Sight) (b : Builtin) (f : ℕ → Ident) → offer_of (answer_ready (answer s b f)) ≡ builtin_offer s.view b f
@@ -147,6 +176,8 @@ builtin_offers s builtin.ByNeed f = given_quiet (f 0) (value_of s.view (f 0)) (d
 builtin_offers s builtin.Show f = if_quiet (is_top s.space) (Acts (Shows (f 0))) (RaisesKind raise.GlobalIo) refl refl
 builtin_offers s builtin.NewSpace f = given_quiet (f 0) (value_of s.view (f 0)) (creates (f 0) (f 1)) (creates_quiet (f 0) (f 1))
 builtin_offers s builtin.Choose f = given_offers (f 1) (f 0) (value_of s.view (f 0))
+builtin_offers s builtin.Distinct f = input_quiet (vector s.view (f 0)) (posts s.view Distinct) (λ xs. refl)
+builtin_offers s builtin.Distribute f = distribution_offers s.view (distribution s.view (f 0) (f 1))
 builtin_offers s (builtin.OnSpace op) f =
     given_quiet (f 0) (value_of s.view (f 0)) _ (λ v. kind_quiet (space_in v) (operates s op (f 1)) (operates_quiet s op (f 1)))
 
@@ -166,18 +197,18 @@ either_none false = refl
 operate_quiet : (s : Sight) (op : Operation) (xs : List Ident) → IsQuiet (call_answer s (builtin.Operation op) xs)
 operate_quiet s op xs = call_offers s (builtin.Operation op) xs ∙ either_none (length xs == arguments_of (builtin.Operation op))
 
--- of built-ins `Choose` alone
-choose_alone : (view : View) (b : Builtin) (xs : List Ident)
-    → (if length xs == arguments_of b then builtin_offer view b (argument xs) else None) ≡ (if is_choose (Some (value.Builtin b)) then chosen_offer view xs else None)
-choose_alone view builtin.Choose xs = refl
-choose_alone view b xs = either_none (length xs == arguments_of b)
+-- of built-ins these two alone
+two_alone : (view : View) (b : Builtin) (xs : List Ident) → (if length xs == arguments_of b then builtin_offer view b (argument xs) else None) ≡ value_offer view xs (Some (value.Builtin b))
+two_alone view builtin.Choose xs = refl
+two_alone view builtin.Distribute xs = refl
+two_alone view b xs = either_none (length xs == arguments_of b)
 
 -- Calls
 
-value_offers : (s : Sight) (x : Ident) (xs : List Ident) (o : Option Value) → offer_of (answer_ready (given x o (value_called s xs))) ≡ (if is_choose o then chosen_offer s.view xs else None)
+value_offers : (s : Sight) (x : Ident) (xs : List Ident) (o : Option Value) → offer_of (answer_ready (given x o (value_called s xs))) ≡ value_offer s.view xs o
 value_offers s x xs None = refl
 value_offers s x xs (Some (value.Procedure q)) = ap offer_of (procedure_steps q xs)
-value_offers s x xs (Some (value.Builtin b)) = call_offers s b xs ∙ choose_alone s.view b xs
+value_offers s x xs (Some (value.Builtin b)) = call_offers s b xs ∙ two_alone s.view b xs
 value_offers s x xs (Some (value.Constant c)) = refl
 value_offers s x xs (Some (value.Record r)) = refl
 value_offers s x xs (Some (value.Name n)) = refl
@@ -205,7 +236,7 @@ unwrapped e (Some body) = refl
 -- what a statement offers
 pub numbered_offers : (s : Sight) (e : Environment) (i : ℕ) (o : Option Statement) → alternative_of s.view e i o ≡ alternative_in i (offer_of (answer_ready (numbered_answer s e o)))
 numbered_offers s e i (Some (statement.Choice bodies)) =
-    sym (ap (λ (o : Option (List Frame)). unwrap_or o []) (slice_get-map (frames_of e) bodies (i - 1)) ∙ unwrapped e (slice_get bodies (i - 1)))
+    sym (ap (λ (o : Option (List Frame)). Frames (unwrap_or o [])) (slice_get-map (frames_of e) bodies (i - 1)) ∙ ap (λ fs. Frames fs) (unwrapped e (slice_get bodies (i - 1))))
 numbered_offers s e i (Some (statement.Call procedure arguments)) = sym (ap (alternative_in i) (called_offers s (bound e procedure) (map (bound e) arguments)))
 numbered_offers s e i (Some (statement.Operate op arguments)) = sym (ap (alternative_in i) (operate_quiet s op (map (bound e) arguments)))
 numbered_offers s e i (Some (statement.If condition accepted otherwise)) = sym (ap (alternative_in i) (test_quiet s (bound e condition) e accepted otherwise))
@@ -213,7 +244,54 @@ numbered_offers s e i (Some (statement.Case subject pattern accepted otherwise))
     sym (ap (alternative_in i) (clause_quiet e accepted otherwise (matched s.view pattern (bound e subject ∷ []) e)))
 numbered_offers s e i o = refl
 
--- and what of it goes on where it is chosen
-pub chosen_of : (i : ℕ) (frames : List Frame) (o : Option Offer) (offer : Offer) (stack : List Frame) → frames ≡ alternative_in i o → o ≡ Some offer → frames ++ drop 1 stack ≡ chosen i stack offer
-chosen_of i frames o (Bodies bodies) stack e h = ap (λ fs. fs ++ drop 1 stack) (e ∙ ap (alternative_in i) h)
-chosen_of i frames o (Number n x) stack e h = ap (λ fs. fs ++ drop 1 stack) (e ∙ ap (alternative_in i) h)
+-- The number that is chosen
+
+pub number_taken : (view : View) (i : ℕ) (xs : List Ident) (n : ℕ) (x : Ident) (frames : List Frame) → length xs ≡ 2 → Some n ≡ choice_of view (argument xs 0) → x ≡ argument xs 1 → frames ≡ number_frame x i ∷ []
+    → Frames frames ≡ alternative_in i (chosen_offer view xs)
+number_taken view i xs n x frames e h k f =
+    ap (λ fs. Frames fs) f ∙ ap (λ y. Frames (number_frame y i ∷ [])) k ∙ ap (λ (o : Option ℕ). alternative_in i (number_offer (argument xs 1) o)) h
+    ∙ sym (ap (λ b. alternative_in i (if b then number_offer (argument xs 1) (choice_of view (argument xs 0)) else None)) (eq-eqb (length xs) 2 e))
+
+-- The part that is told
+
+parts_none : (i : ℕ) (d : Input Distribution) → None ≡ part_in i d → Frames [] ≡ alternative_in i (parts_in d)
+parts_none i (Known (Widens xs)) e = refl
+parts_none i (Known Finished) e = refl
+parts_none i (Known (Splits one other xs)) e = cc
+parts_none i (Unknown x) e = refl
+parts_none i OtherKind e = refl
+
+parts_some : (i : ℕ) (d : Input Distribution) (t : Tell) → Some t ≡ part_in i d → Part t ≡ alternative_in i (parts_in d)
+parts_some i (Known (Widens xs)) t e = cc
+parts_some i (Known Finished) t e = cc
+parts_some i (Known (Splits one other xs)) t e = ap (λ (o : Option Tell). Part (unwrap_or o t)) e
+parts_some i (Unknown x) t e = cc
+parts_some i OtherKind t e = cc
+
+with_two : (view : View) (i : ℕ) (xs : List Ident) → length xs ≡ 2 → alternative_in i (parts_in (distribution view (argument xs 0) (argument xs 1))) ≡ alternative_in i (parts_offer view xs)
+with_two view i xs e = sym (ap (λ b. alternative_in i (if b then parts_in (distribution view (argument xs 0) (argument xs 1)) else None)) (eq-eqb (length xs) 2 e))
+
+pub no_part : (view : View) (i : ℕ) (xs : List Ident) → length xs ≡ 2 → None ≡ part_of view i (argument xs 0) (argument xs 1) → Frames [] ≡ alternative_in i (parts_offer view xs)
+no_part view i xs e h = parts_none i (distribution view (argument xs 0) (argument xs 1)) h ∙ with_two view i xs e
+
+pub part_taken : (view : View) (i : ℕ) (xs : List Ident) (t : Tell) → length xs ≡ 2 → Some t ≡ part_of view i (argument xs 0) (argument xs 1) → Part t ≡ alternative_in i (parts_offer view xs)
+part_taken view i xs t e h = parts_some i (distribution view (argument xs 0) (argument xs 1)) t h ∙ with_two view i xs e
+
+-- What is chosen
+
+abbrev frames_in : Alternative → List Frame
+frames_in (Frames frames) = frames
+frames_in (Part t) = []
+
+abbrev part_or : Tell → Alternative → Tell
+part_or u (Frames frames) = u
+part_or u (Part t) = t
+
+is_chosen : (i : ℕ) (a : Chosen) (offer : Offer) (stack : List Frame) → of_chosen a ≡ alternative_in i (Some offer) → IsChosen i stack offer a
+is_chosen i (GoesOn frames) (Bodies bodies) stack e = (ap (λ fs. fs ++ drop 1 stack) (ap frames_in e), refl)
+is_chosen i (GoesOn frames) (Number n x) stack e = (ap (λ fs. fs ++ drop 1 stack) (ap frames_in e), refl)
+is_chosen i (Tells t) (Parts one other) stack e = (refl, ap (λ u. u ∷ []) (sym (ap (part_or t) e)))
+is_chosen i a offer stack e = cc
+
+pub chosen_of : (i : ℕ) (a : Chosen) (o : Option Offer) (offer : Offer) (stack : List Frame) → of_chosen a ≡ alternative_in i o → o ≡ Some offer → IsChosen i stack offer a
+chosen_of i a o offer stack e h = is_chosen i a offer stack (e ∙ ap (alternative_in i) h)

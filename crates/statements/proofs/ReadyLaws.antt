@@ -1,12 +1,13 @@
 -- What calls, tests and matches wait for.
-use Rattle.std.proofs.Common.{◌≡◌, ◌<◌, [], ℕ, refl, sym, ap, ◌∙◌, Bool, true, false, Option, Some, None, List, length, map, subst, if◌then◌else◌, arith}
+use Rattle.std.proofs.Common.{◌≡◌, ◌<◌, [], ℕ, refl, sym, ap, ◌∙◌, Bool, true, false, Option, Some, None, List, length, map, subst, if◌then◌else◌}
 use Rattle.std.specs.Prelude.{◌==◌}
+use Rattle.std.specs.List.{list_any}
 use Rattle.std.proofs.lemmas.List.{length-map}
 use Rattle.oz_base.specs.declared.names.Ident.{Ident}
 use Rattle.environments.specs.Environments.{Environment, binding_all}
 use Rattle.oz_language.specs.declared.token.Literal.TheVariants as literal
 use Rattle.oz_language.specs.declared.kernel.Constant.TheVariants as constant
-use Rattle.oz_semantics.specs.Store.{View, value_of}
+use Rattle.oz_semantics.specs.Store.{View, value_of, same}
 use Rattle.oz_semantics.specs.Sights.{Readiness, Steps, Offers, Bodies}
 use Rattle.oz_semantics.specs.Answers.{Answer, RaisesKind, argument, given, with_value}
 use Rattle.oz_semantics.specs.Builtins.{arguments_of}
@@ -65,7 +66,7 @@ match_waits e accepted otherwise (MatchWaits x) = refl
 pub inputs_at : (b : Builtin) (xs : List Ident) (x y : Ident) (count i : ℕ) → count ≡ arguments_of b → x ≡ argument xs 0 → (1 < count → i ≡ 1) → y ≡ argument xs i → Inputs b x y (argument xs)
 inputs_at b xs x y count i e f h g = record {
   first = sym f;
-  second = λ m. let k : 1 < count = omega arith in sym (g ∙ ap (argument xs) (h k));
+  second = λ m. sym (g ∙ ap (argument xs) (h (subst (λ n. 1 < n) (sym e) m)));
 }
 
 -- a thread can do this, by another word for it
@@ -73,5 +74,7 @@ pub ready_along : (view : View) (p q : Readiness) (r : said.Readiness) → p ≡
 ready_along view p q r e h = subst (λ w. IsReady view w r) e h
 
 -- an offer of so many
-pub offers_all : (view : View) (ready : Readiness) (e : Environment) (alternatives : List (List ℕ)) (n : ℕ) → ready ≡ Offers (Bodies (map (frames_of e) alternatives)) [] → n ≡ length alternatives → IsReady view ready (kinds.Offers n)
-offers_all view ready e alternatives n h k = (Bodies (map (frames_of e) alternatives), h, k ∙ sym (length-map alternatives (frames_of e)))
+pub offers_all : (view : View) (ready : Readiness) (e : Environment) (alternatives : List (List ℕ)) (n : ℕ) (waits : List Ident) → ready ≡ Offers (Bodies (map (frames_of e) alternatives)) [] → n ≡ length alternatives → waits ≡ []
+    → IsReady view ready (kinds.Offers n waits)
+offers_all view ready e alternatives n waits h k l =
+    (Bodies (map (frames_of e) alternatives), [], h, k ∙ sym (length-map alternatives (frames_of e)), λ z. ap (list_any (same view z)) l)

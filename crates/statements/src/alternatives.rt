@@ -1,25 +1,40 @@
-//! The alternatives that are offered: the bodies of a choice, and the numbers of a `Choose`.
-ghost use Rattle.std.specs.Prelude.{◌≡◌, ◌-◌, ◌∷◌, ◌++◌, [], ℕ, List, Some, map, drop, unwrap_or, IfOk, option_copied, slice_get};
+//! The alternatives that are offered: the bodies of a choice, the numbers of a `Choose`, and the parts of a domain.
+ghost use Rattle.std.specs.Prelude.{◌≡◌, ◌-◌, ◌∷◌, [], ℕ, List, Some, map, unwrap_or, IfOk, option_copied, slice_get};
 ghost use Rattle.environments.specs.Environments.{bound};
 ghost use Rattle.oz_semantics.specs.Configurations.{frames_of};
 ghost use Rattle.oz_semantics.specs.Sights.{Offer, offer_of};
-ghost use Rattle.oz_semantics.specs.Edits.{chosen};
 ghost use Rattle.oz_semantics.specs.declared.configuration.Frame as stacked;
 ghost use Rattle.oz_semantics.specs.Statements.{code_answer};
 ghost use Rattle.oz_semantics.specs.Readiness.{answer_ready};
-ghost use Rattle.statements.specs.Offers.{alternative_in, alternative_of, alternative_at, is_choose, chosen_offer, called_offer, number_frame};
+ghost use Rattle.statements.specs.Offers.{Frames, alternative_in, alternative_of, alternative_at, is_choose, is_distribute, chosen_offer, parts_offer, called_offer, number_frame, of_chosen, IsChosen};
 ghost use Rattle.statements.specs.Variables.{variables_of};
 
 use crate::frames::frames_of;
 use crate::statement::statement_at;
 use crate::variables::{Arguments, look};
-use builtins::choice_of;
+use builtins::{choice_of, part_of};
 use environments::Environment;
 use oz_base::{Ident, Sequence};
 use oz_language::{Identifier, Statement};
-use oz_semantics::{Builtin, Code, Frame, Value};
+use oz_semantics::{Builtin, Code, Frame, Tell, Value};
 use std::alloc::{AllocError, Global};
 use term_store::Store;
+
+/// What a commitment to an alternative does.
+#[derive(Drop)]
+pub enum Chosen {
+    /// These go on in the place of the statement.
+    GoesOn(Vec<Frame>),
+    /// This is told, and the statement stays.
+    Tells(Tell),
+}
+
+/// No statement goes on.
+fn nothing(alloc: Global) -> Chosen
+    ensures { of_chosen result ≡ Frames [] }
+{
+    Chosen::GoesOn(Vec::new(alloc))
+}
 
 /// A body, from 1.
 fn body_at(bodies: &[Sequence<u32>], index: u64) -> Option<&Sequence<u32>>
@@ -75,22 +90,54 @@ fn is_choose(value: Option<&Value>) -> bool
     }
 }
 
-/// An alternative of a call of `Choose` with these arguments.
+fn is_distribute(value: Option<&Value>) -> bool
+    ensures { result ≡ is_distribute (option_copied value.entry) }
+{
+    match value {
+        Some(Value::Builtin(Builtin::Distribute)) => true,
+        _ => false,
+    }
+}
+
+/// The alternative of this number of a call of `Choose` with these arguments.
 fn alternative_chosen(
     alloc: Global,
     store: &Store,
     arguments: &Arguments<'_>,
     index: u64,
-) -> Result<Vec<Frame>, AllocError>
-    ensures { IfOk result (λ frames. frames.items ≡ alternative_in index (chosen_offer store.now (variables_of arguments.now))) }
+) -> Result<Chosen, AllocError>
+    ensures { IfOk result (λ a. of_chosen a ≡ alternative_in index (chosen_offer store.now (variables_of arguments.now))) }
 {
     if arguments.len() != 2 {
-        return Ok(Vec::new(alloc));
+        return Ok(nothing(alloc));
     }
     let number = arguments.at(alloc, 0)?;
     match choice_of(store, number.variable()) {
-        None => Ok(Vec::new(alloc)),
-        Some(_) => frames_of_number(alloc, arguments.copy_at(alloc, 1)?, index),
+        None => Ok(nothing(alloc)),
+        Some(_) => {
+            let frames = frames_of_number(alloc, arguments.copy_at(alloc, 1)?, index)?;
+            Ok(Chosen::GoesOn(frames))
+        }
+    }
+}
+
+/// The alternative of this number of a distributor with these arguments.
+fn alternative_part(
+    alloc: Global,
+    store: &Store,
+    arguments: &Arguments<'_>,
+    index: u64,
+) -> Result<Chosen, AllocError>
+    ensures { IfOk result (λ a. of_chosen a ≡ alternative_in index (parts_offer store.now (variables_of arguments.now))) }
+{
+    if arguments.len() != 2 {
+        return Ok(nothing(alloc));
+    }
+    let rule = arguments.at(alloc, 0)?;
+    let elements = arguments.at(alloc, 1)?;
+    match part_of(alloc, store, index, rule.variable(), elements.variable())? {
+        None => Ok(nothing(alloc)),
+        Some(part) => Ok(Chosen::Tells(part)),
     }
 }
 
@@ -101,14 +148,17 @@ fn alternative_called(
     procedure: &Ident,
     arguments: &Arguments<'_>,
     index: u64,
-) -> Result<Vec<Frame>, AllocError>
-    ensures { IfOk result (λ frames. frames.items ≡ alternative_in index (called_offer store.now procedure.now (variables_of arguments.now))) }
+) -> Result<Chosen, AllocError>
+    ensures { IfOk result (λ a. of_chosen a ≡ alternative_in index (called_offer store.now procedure.now (variables_of arguments.now))) }
 {
-    if is_choose(store.value(procedure)) {
-        alternative_chosen(alloc, store, arguments, index)
-    } else {
-        Ok(Vec::new(alloc))
+    let value = store.value(procedure);
+    if is_choose(value) {
+        return alternative_chosen(alloc, store, arguments, index);
     }
+    if is_distribute(value) {
+        return alternative_part(alloc, store, arguments, index);
+    }
+    Ok(nothing(alloc))
 }
 
 /// An alternative of `{P X ..}`.
@@ -119,8 +169,8 @@ fn alternative_of_call(
     procedure: Identifier,
     names: &[Identifier],
     index: u64,
-) -> Result<Vec<Frame>, AllocError>
-    ensures { IfOk result (λ frames. frames.items ≡ alternative_in index (called_offer store.now (bound environment.now procedure) (map (bound environment.now) names.now))) }
+) -> Result<Chosen, AllocError>
+    ensures { IfOk result (λ a. of_chosen a ≡ alternative_in index (called_offer store.now (bound environment.now procedure) (map (bound environment.now) names.now))) }
 {
     let procedure = look(alloc, environment, procedure)?;
     let arguments = Arguments::Names { environment, names };
@@ -134,12 +184,13 @@ fn alternative_of(
     environment: &Environment,
     statement: Option<&Statement>,
     index: u64,
-) -> Result<Vec<Frame>, AllocError>
-    ensures { IfOk result (λ frames. frames.items ≡ alternative_of store.now environment.now index (option_copied statement.entry)) }
+) -> Result<Chosen, AllocError>
+    ensures { IfOk result (λ a. of_chosen a ≡ alternative_of store.now environment.now index (option_copied statement.entry)) }
 {
     match statement {
         Some(Statement::Choice { alternatives }) => {
-            alternative_at(alloc, environment, alternatives, index)
+            let frames = alternative_at(alloc, environment, alternatives, index)?;
+            Ok(Chosen::GoesOn(frames))
         }
         Some(
             Statement::Call {
@@ -154,7 +205,7 @@ fn alternative_of(
             arguments.as_slice(),
             index,
         ),
-        _ => Ok(Vec::new(alloc)),
+        _ => Ok(nothing(alloc)),
     }
 }
 
@@ -165,8 +216,8 @@ fn alternative_of_frame(
     store: &Store,
     frame: &Frame,
     index: u64,
-) -> Result<Vec<Frame>, AllocError>
-    ensures { IfOk result (λ frames. (space : List ℕ) → frames.items ≡ alternative_in index (offer_of (answer_ready (code_answer (record { statements = statements.now; space = space; view = store.now }) frame.now.environment frame.now.code)))) }
+) -> Result<Chosen, AllocError>
+    ensures { IfOk result (λ a. (space : List ℕ) → of_chosen a ≡ alternative_in index (offer_of (answer_ready (code_answer (record { statements = statements.now; space = space; view = store.now }) frame.now.environment frame.now.code)))) }
 {
     match &frame.code {
         Code::Statement(number) => alternative_of(
@@ -180,23 +231,23 @@ fn alternative_of_frame(
             procedure,
             argument,
         } => alternative_called(alloc, store, procedure, &Arguments::One(argument), index),
-        Code::Bind { .. } => Ok(Vec::new(alloc)),
-        Code::Mark { .. } => Ok(Vec::new(alloc)),
+        Code::Bind { .. } => Ok(nothing(alloc)),
+        Code::Mark { .. } => Ok(nothing(alloc)),
     }
 }
 
-/// The statements of an alternative, from 1, that is offered on top of a thread's stack, in a space that sees this: the body of a
-/// choice, or what makes the variable of a `Choose` that number. None where nothing is offered there, or no such alternative. It
-/// refuses where there is no memory.
+/// The alternative of this number, from 1, that is offered on top of a thread's stack, in a space that sees this: the body of a choice,
+/// what makes the variable of a `Choose` that number, or a part of a domain. No statement goes on where nothing is offered there, or no
+/// such alternative. It refuses where there is no memory.
 pub fn alternative(
     alloc: Global,
     statements: &[Statement],
     store: &Store,
     frame: &Frame,
     index: u64,
-) -> Result<Vec<Frame>, AllocError>
-    ensures exact { IfOk result (λ frames. (space : List ℕ) → frames.items ≡ alternative_in index (offer_of (answer_ready (code_answer (record { statements = statements.now; space = space; view = store.now }) frame.now.environment frame.now.code)))) }
-    ensures chosen { IfOk result (λ frames. (space : List ℕ) (offer : Offer) (stack : List stacked.Frame) → offer_of (answer_ready (code_answer (record { statements = statements.now; space = space; view = store.now }) frame.now.environment frame.now.code)) ≡ Some offer → frames.items ++ drop 1 stack ≡ chosen index stack offer) }
+) -> Result<Chosen, AllocError>
+    ensures exact { IfOk result (λ a. (space : List ℕ) → of_chosen a ≡ alternative_in index (offer_of (answer_ready (code_answer (record { statements = statements.now; space = space; view = store.now }) frame.now.environment frame.now.code)))) }
+    ensures chosen { IfOk result (λ a. (space : List ℕ) (offer : Offer) (stack : List stacked.Frame) → offer_of (answer_ready (code_answer (record { statements = statements.now; space = space; view = store.now }) frame.now.environment frame.now.code)) ≡ Some offer → IsChosen index stack offer a) }
 {
     alternative_of_frame(alloc, statements, store, frame, index)
 }

@@ -8,11 +8,12 @@ mod alternatives;
 mod branches;
 mod calls;
 mod frames;
+mod posting;
 mod readiness;
 mod statement;
 mod variables;
 
-pub use alternatives::alternative;
+pub use alternatives::{Chosen, alternative};
 pub use frames::frames_of;
 pub use readiness::ready;
 pub use statement::answer;

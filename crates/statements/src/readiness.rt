@@ -192,16 +192,16 @@ fn ready_statement(
             operation,
             arguments,
         } => ready_operation(alloc, store, space, environment, *operation, arguments),
-        Statement::Choice { alternatives } => Ok(Readiness::Offers(alternatives.len() as u64)),
+        Statement::Choice { alternatives } => Ok(Readiness::Offers {
+            count: alternatives.len() as u64,
+            waits: Sequence::new(alloc),
+        }),
         Statement::If { condition, .. } => ready_test(alloc, store, environment, *condition),
         Statement::Case {
             subject,
             pattern,
             ..
         } => ready_match(alloc, store, environment, *subject, pattern),
-        // Nothing lets these step.
-        Statement::Post { .. } => Ok(Readiness::Waits(Sequence::new(alloc))),
-        Statement::PostTimes { .. } => Ok(Readiness::Waits(Sequence::new(alloc))),
         Statement::Skip
         | Statement::Fail
         | Statement::Local { .. }
@@ -212,7 +212,9 @@ fn ready_statement(
         | Statement::NoMatch
         | Statement::Thread { .. }
         | Statement::Try { .. }
-        | Statement::Raise { .. } => Ok(Readiness::Steps),
+        | Statement::Raise { .. }
+        | Statement::Post { .. }
+        | Statement::PostTimes { .. } => Ok(Readiness::Steps),
     }
 }
 
@@ -257,7 +259,7 @@ fn ready_code(
 
 /// Whether the statement on top of a thread's stack can step, in a space that sees this. An operation on a child space waits for the
 /// state of that: what it comes to where the state is known, its answer has to say. It refuses where there is no memory, which it
-/// needs for tests of equality, for matches and for what it waits for alone.
+/// needs for tests of equality, for matches, for domains and for what it waits for alone.
 pub fn ready(
     alloc: Global,
     statements: &[Statement],

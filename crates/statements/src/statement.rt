@@ -14,6 +14,7 @@ ghost use Rattle.builtins.specs.Exact.{answer_of, erased};
 use crate::branches::{match_pattern, test};
 use crate::calls::{builtin_called, called};
 use crate::frames::{frames_of, guard};
+use crate::posting::{posts_sum, posts_times};
 use crate::variables::{Arguments, all_bound, bound, look};
 use builtins::{Act, Answer, Closure, Declaration};
 use environments::Environment;
@@ -292,9 +293,23 @@ fn answer_statement(
             handler,
         } => { guard(alloc, environment, body, *exception, handler) }
         Statement::Raise { name } => Ok(Answer::RaisesTerm(bound(alloc, environment, *name)?)),
-        // Nothing lets these step.
-        Statement::Post { .. } => Ok(Answer::Rests),
-        Statement::PostTimes { .. } => Ok(Answer::Rests),
+        Statement::Post {
+            sign,
+            constant,
+            terms,
+        } => posts_sum(
+            alloc,
+            store,
+            environment,
+            *sign,
+            *constant,
+            terms.as_slice(),
+        ),
+        Statement::PostTimes {
+            left,
+            right,
+            product,
+        } => posts_times(alloc, store, environment, *left, *right, *product),
     }
 }
 

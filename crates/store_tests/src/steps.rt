@@ -4,7 +4,7 @@ use environments::Environment;
 use oz_base::{Sequence, SpaceName};
 use oz_language::Statement;
 use oz_semantics::{Code, Frame};
-use statements::{alternative, answer, ready};
+use statements::{Chosen, alternative, answer, ready};
 use std::alloc::{AllocError, Global};
 use std::test::Fail;
 use term_store::Store;
@@ -37,8 +37,11 @@ fn a_statement_steps_or_offers(rt: HostRuntime) -> Result<(), Fail> {
     let steps = ready(alloc, statements, &top, &store, &frame(0))?;
     assert!(rt; matches!(&steps, Readiness::Steps));
     let offers = ready(alloc, statements, &top, &store, &frame(1))?;
-    assert!(rt; matches!(&offers, Readiness::Offers(2)));
-    let second = alternative(alloc, statements, &store, &frame(1), 2)?;
-    assert_eq!(rt; second.len(), 2);
+    assert!(rt; matches!(&offers, Readiness::Offers { count: 2, .. }));
+    let frames = match alternative(alloc, statements, &store, &frame(1), 2)? {
+        Chosen::GoesOn(frames) => frames.len(),
+        Chosen::Tells(_) => 0,
+    };
+    assert_eq!(rt; frames, 2);
     Ok(())
 }

@@ -5,7 +5,9 @@ use Rattle.ident_map.specs.Entries.{entry}
 use Rattle.oz_base.specs.IdentLaws.{ident_eq-equal, ident_eq-itself}
 use Rattle.oz_base.specs.Names.{ident_eq}
 use Rattle.oz_base.specs.declared.names.Ident.{Ident}
-use Rattle.term_store.specs.Classes.{Table, link_of, rank_of, first_of, link_in, rank_in, first_in, Ranked, follow, climbed, root_in, IsTop, Likewise, Marks, instead, Unites}
+use Rattle.oz_domains.specs.Domains.{IntSet}
+use Rattle.term_store.specs.Classes.{Table, link_of, rank_of, kept_of, nothing, is_free, is_nothing, link_in, rank_in, kept_in, Ranked, follow, climbed, root_in, IsTop, Likewise, Marks, instead, Unites}
+use Rattle.term_store.specs.declared.cell.Kept.{Kept}
 use Rattle.term_store.specs.declared.cell.Cell.{Cell}
 use Rattle.term_store.specs.declared.cell.Cell.TheVariants.{Below, Root}
 
@@ -128,28 +130,28 @@ module _ (t t' : Table) (r : Ident) (c : Cell) (w : Written t t' r c) where
     | two ne ↦ ap f (there x ne)
   ]
 
-module _ (t t' : Table) (r : Ident) (rank : ℕ) (first : Option ℕ) (w : Written t t' r (Root rank first)) (top : IsTop t r) where
+module _ (t t' : Table) (r : Ident) (rank : ℕ) (content : Kept) (w : Written t t' r (Root rank content)) (top : IsTop t r) where
   top_links : (x : Ident) → link_in t' x ≡ link_in t x
-  top_links = kept t t' r (Root rank first) w link_of (sym top)
+  top_links = kept t t' r (Root rank content) w link_of (sym top)
 
   pub mark_ranked : Ranked t → rank ≡ rank_in t r → Ranked t'
-  mark_ranked k e = ranked_same t t' top_links k (kept t t' r (Root rank first) w rank_of e)
+  mark_ranked k e = ranked_same t t' top_links k (kept t t' r (Root rank content) w rank_of e)
 
-  pub mark_marks : (place : ℕ) → first ≡ Some place → Marks t t' r place
-  mark_marks place e = record {
+  pub mark_marks : Marks t t' r content
+  mark_marks = record {
     links = top_links;
-    first = ap first_of (here t t' r (Root rank first) w) ∙ e;
-    others = λ x ne. ap first_of (there t t' r (Root rank first) w x ne);
+    here = ap kept_of (here t t' r (Root rank content) w);
+    others = λ x ne. ap kept_of (there t t' r (Root rank content) w x ne);
   }
 
-  pub raise_likewise : first ≡ first_in t r → Likewise t t'
-  raise_likewise e = record { links = top_links; firsts = kept t t' r (Root rank first) w first_of e }
+  pub raise_likewise : content ≡ kept_in t r → Likewise t t'
+  raise_likewise e = record { links = top_links; kept = kept t t' r (Root rank content) w kept_of e }
 
   pub raise_rank : rank_in t' r ≡ rank
-  raise_rank = ap rank_of (here t t' r (Root rank first) w)
+  raise_rank = ap rank_of (here t t' r (Root rank content) w)
 
   pub raise_others : (x : Ident) → ident_eq x r ≡ false → rank_in t' x ≡ rank_in t x
-  raise_others x e = ap rank_of (there t t' r (Root rank first) w x (other_than x r e))
+  raise_others x e = ap rank_of (there t t' r (Root rank content) w x (other_than x r e))
 
   pub raise_ranked : Ranked t → rank_in t r < rank → rank < 256 → Ranked t'
   raise_ranked k more low = record {
@@ -226,32 +228,42 @@ module _ (t t' : Table) (u o : Ident) (rank : ℕ) (w : Written t t' u (Below o 
   unfolding root_in
   united_root x = united 256 x (omega arith)
 
-  pub link_unites : Unites t t' u o (first_in t o)
+  pub link_unites : Unites t t' u o (kept_in t o)
   link_unites = record {
     top = over_top;
     roots = united_root;
-    first = ap first_of (there t t' u (Below o rank) w o apart);
-    others = λ x ne _. ap first_of (there t t' u (Below o rank) w x ne);
+    here = ap kept_of (there t t' u (Below o rank) w o apart);
+    others = λ x ne _. ap kept_of (there t t' u (Below o rank) w x ne);
   }
 
 -- After a change of ranks alone
 
 pub likewise_itself : (t : Table) → Likewise t t
-likewise_itself t = record { links = λ x. refl; firsts = λ x. refl }
+likewise_itself t = record { links = λ x. refl; kept = λ x. refl }
 
-pub likewise_unites : (t t' t'' : Table) (u o : Ident) → Likewise t t' → Unites t' t'' u o (first_in t' o) → Unites t t'' u o (first_in t o)
+pub likewise_unites : (t t' t'' : Table) (u o : Ident) → Likewise t t' → Unites t' t'' u o (kept_in t' o) → Unites t t'' u o (kept_in t o)
 likewise_unites t t' t'' u o l n = record {
   top = n.top;
   roots = λ x. n.roots x ∙ ap (instead u o) (root_same t t' l.links x);
-  first = n.first ∙ l.firsts o;
-  others = λ x nu no. n.others x nu no ∙ l.firsts x;
+  here = n.here ∙ l.kept o;
+  others = λ x nu no. n.others x nu no ∙ l.kept x;
 }
 
--- The place of the first value is written after two classes were united
-pub unites_marks : (t t' t'' : Table) (u o : Ident) (first : Option ℕ) (place : ℕ) → Unites t t' u o first → Marks t' t'' o place → Unites t t'' u o (Some place)
-unites_marks t t' t'' u o first place n m = record {
+-- What is kept is written after two classes were united
+pub unites_marks : (t t' t'' : Table) (u o : Ident) (was content : Kept) → Unites t t' u o was → Marks t' t'' o content → Unites t t'' u o content
+unites_marks t t' t'' u o was content n m = record {
   top = m.links o ∙ n.top;
   roots = λ x. root_same t' t'' m.links x ∙ n.roots x;
-  first = m.first;
+  here = m.here;
   others = λ x nu no. m.others x no ∙ n.others x nu no;
 }
+
+-- Nothing is kept of a class
+
+pub nothing_is : (content : Kept) → is_nothing content ≡ true → content ≡ nothing
+nothing_is content e = by content.first content.domain e
+  where
+    by : (first : Option ℕ) (domain : Option IntSet) → is_free first domain ≡ true → record { first = first; domain = domain } ≡ nothing
+    by None None k = refl
+    by None (Some s) k = absurd (false≢true k)
+    by (Some p) domain k = absurd (false≢true k)

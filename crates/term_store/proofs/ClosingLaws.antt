@@ -5,6 +5,7 @@ use Rattle.std.specs.List.{zip}
 use Rattle.std.proofs.lemmas.Bool.{false≢true}
 use Rattle.std.proofs.lemmas.List.Elements.{Contains-append_left, Contains-append_right, Contains-push, Contains-push_cases}
 use Rattle.std.proofs.lemmas.Option.{slice_get-get_or, slice_get_within, get_or_from_slice_get}
+use Rattle.oz_base.specs.declared.interval.Interval.{Interval}
 use Rattle.oz_base.specs.declared.names.Ident.{Ident}
 use Rattle.oz_laws.proofs.SameLaws.{and-right, eq-true, tests_same}
 use Rattle.oz_laws.proofs.AlikeLaws.{alike-refl, alike-sym, alike-trans}
@@ -14,7 +15,7 @@ use Rattle.oz_semantics.specs.Values.{is_like, fields_of}
 use Rattle.oz_semantics.specs.declared.value.Value.{Value}
 use Rattle.oz_semantics.specs.declared.value.Value.TheVariants as value
 use Rattle.oz_semantics.specs.declared.value.Tell.{Tell}
-use Rattle.oz_semantics.specs.declared.value.Tell.TheVariants.{Equal, Is}
+use Rattle.oz_semantics.specs.declared.value.Tell.TheVariants.{Equal, Is, Within}
 use Rattle.term_store.specs.Closing.{Joins, ToldAt, Stands, Closing}
 use Rattle.term_store.specs.Places.{value_told, value_at, gives_value, value_place}
 use Rattle.term_store.proofs.ClassLaws.{one, two, decided}
@@ -118,6 +119,7 @@ if_value b v = if b then Some v else None
 value_is : (o : Option Tell) (v : Value) → value_told o ≡ Some v → (y : Ident) × (o ≡ Some (Is y v))
 value_is None v e = absurd (cc)
 value_is (Some (Equal a b)) v e = absurd (cc)
+value_is (Some (Within a is)) v e = absurd (cc)
 value_is (Some (Is y w)) v e = (y, let k : w ≡ v = cc in ap (λ u. Some (Is y u)) k)
 
 -- More tells make more variables equal
@@ -136,7 +138,11 @@ Same-prefix ts us s = Same-more ts (ts ++ us) (λ t c. Contains-append_left ts u
 pub consistent_prefix : (ts us : List Tell) → is_consistent (ts ++ us) ≡ true → is_consistent ts ≡ true
 consistent_prefix ts us e =
     let c = (tests_consistent (ts ++ us)).0 e in
-    (tests_consistent ts).1 (record { agree = λ a b v w s d f. c.agree a b v w (Same-prefix ts us s) (Contains-append_left ts us (Is a v) d) (Contains-append_left ts us (Is b w) f) })
+    (tests_consistent ts).1 (record {
+      agree = λ a b v w s d f. c.agree a b v w (Same-prefix ts us s) (Contains-append_left ts us (Is a v) d) (Contains-append_left ts us (Is b w) f);
+      inhabited = λ a is d. let n = c.inhabited a is (Contains-append_left ts us (Within a is) d) in (n.0, λ b js s f. n.1 b js (Same-prefix ts us s) (Contains-append_left ts us (Within b js) f));
+      inside = λ a b v is s d f. c.inside a b v is (Same-prefix ts us s) (Contains-append_left ts us (Is a v) d) (Contains-append_left ts us (Within b is) f);
+    })
 
 pub inconsistent_more : (ts us : List Tell) → is_consistent ts ≡ false → is_consistent (ts ++ us) ≡ false
 inconsistent_more ts us e = by (is_consistent (ts ++ us)) refl
@@ -205,7 +211,7 @@ module _ (ts : List Tell) (g : Ident → Ident) (f : Ident → Option ℕ) where
     one_value : (j k : ℕ) (y z : Ident) (v w : Value) (s : Stands ts g f [] j y v) (t : Stands ts g f [] k z w) → g y ≡ g z → s.value ≡ t.value
     one_value j k y z v w s t e = some_is s.value t.value (sym s.told ∙ ap (value_at ts) (place_one y z s.place t.place s.found t.found e) ∙ t.told)
 
-    at_place : (y : Ident) (v : Value) (d : Contains ts (Is y v)) → Stands ts g f [] (place_in ts (Is y v) d).0 y v
+    pub at_place : (y : Ident) (v : Value) (d : Contains ts (Is y v)) → Stands ts g f [] (place_in ts (Is y v) d).0 y v
     at_place y v d = let p = place_in ts (Is y v) d in c.stands p.0 y v p.1
 
     pub whole : {a b : Ident} → Same ts a b → g a ≡ g b
@@ -223,15 +229,12 @@ module _ (ts : List Tell) (g : Ident → Ident) (f : Ident → Option ℕ) where
     pub one_class : (a b : Ident) → g a ≡ g b → Same ts a b
     one_class a b e = joined (c.sound a) (subst (λ z. Same ts z b) (sym e) (reversed (c.sound b)))
 
-    agreeing : (a b : Ident) (v w : Value) → Same ts a b → Contains ts (Is a v) → Contains ts (Is b w) → is_like v w ≡ true
+    pub agreeing : (a b : Ident) (v w : Value) → Same ts a b → Contains ts (Is a v) → Contains ts (Is b w) → is_like v w ≡ true
     agreeing a b v w s d e =
         let sv = at_place a v d in
         let sw = at_place b w e in
         let is = one_value _ _ a b v w sv sw (whole s) in
         alike-trans v sv.value w (alike-sym sv.value v sv.like) (subst (λ u. is_like u w ≡ true) (sym is) sw.like)
-
-    pub consistent : is_consistent ts ≡ true
-    consistent = (tests_consistent ts).1 (record { agree = agreeing })
 
     -- The place of the first value of a class
 
@@ -241,6 +244,7 @@ module _ (ts : List Tell) (g : Ident → Ident) (f : Ident → Option ℕ) where
 
     earlier : (x : Ident) (p k : ℕ) (t : Tell) → f (g x) ≡ Some p → slice_get ts k ≡ Some t → gives_value ts x t ≡ true → p ≤ k
     earlier x p k (Equal a b) e d h = absurd (false≢true h)
+    earlier x p k (Within a is) e d h = absurd (false≢true h)
     earlier x p k (Is y w) e d h =
         let s = c.stands k y w d in
         let y_x = (tests_same ts y x).0 (if_given (same ts y x) w h) in
@@ -256,6 +260,7 @@ module _ (ts : List Tell) (g : Ident → Ident) (f : Ident → Option ℕ) where
 
     never : (x : Ident) (k : ℕ) (t : Tell) → f (g x) ≡ None → slice_get ts k ≡ Some t → gives_value ts x t ≡ false
     never x k (Equal a b) e d = refl
+    never x k (Within a is) e d = refl
     never x k (Is y w) e d = by (same ts y x) refl
       where
         by : (b : Bool) → same ts y x ≡ b → is_some (if_value b w) ≡ false
@@ -283,7 +288,7 @@ module _ (ts : List Tell) (g : Ident → Ident) (f : Ident → Option ℕ) (c : 
       let a = c.firsts r p e k in
       record { variable = a.variable; value = a.value; told = more_at ts (t ∷ []) p (Is a.variable a.value) a.told; class = a.class }
 
-  more_value : (t : Tell) (p : ℕ) (v : Value) → value_at ts p ≡ Some v → value_at (ts ++ t ∷ []) p ≡ Some v
+  pub more_value : (t : Tell) (p : ℕ) (v : Value) → value_at ts p ≡ Some v → value_at (ts ++ t ∷ []) p ≡ Some v
   more_value t p v e = let k = value_is (slice_get ts p) v e in ap value_told (more_at ts (t ∷ []) p (Is k.0 v) k.1)
 
   more_stands : (t : Tell) (ps : List (Ident × Ident)) (k : ℕ) (y : Ident) (w : Value) → Stands ts g f [] k y w → Stands (ts ++ t ∷ []) g f ps k y w
@@ -316,6 +321,30 @@ module _ (ts : List Tell) (g : Ident → Ident) (f : Ident → Option ℕ) (c : 
       | inr d ↦ absurd (cc)
     ];
   }
+
+  -- a domain
+  pub more_within : (x : Ident) (is : List Interval) → Closing (ts ++ Within x is ∷ []) g f []
+  more_within x is = record {
+    idem = c.idem;
+    sound = more_sound (Within x is);
+    due = λ a b d. none_in (a, b) d;
+    equal = λ a b d h co j. elim (Contains-push_cases ts (Within x is) (Equal a b) d) [
+      | inl o ↦ c.equal a b o h co j
+      | inr e ↦ absurd (cc)
+    ];
+    firsts = more_firsts (Within x is);
+    stands = λ k z w e. elim (push_at ts (Within x is) k (Is z w) e) [
+      | inl d ↦ more_stands (Within x is) [] k z w (c.stands k z w d)
+      | inr d ↦ absurd (cc)
+    ];
+  }
+
+  -- what a class had before it still has
+  pub value_before : (t : Tell) (r : Ident) (p : ℕ) (v : Value) → g r ≡ r → f r ≡ Some p → value_at (ts ++ t ∷ []) p ≡ Some v → value_at ts p ≡ Some v
+  value_before t r p v e k q =
+      let a = c.firsts r p e k in
+      let was : value_at ts p ≡ Some a.value = ap value_told a.told in
+      was ∙ sym (more_value t p a.value was) ∙ q
 
   more_told : (x : Ident) (v : Value) (a b : Ident) → Contains (ts ++ Is x v ∷ []) (Equal a b) → g a ≡ g b
   more_told x v a b d = elim (Contains-push_cases ts (Is x v) (Equal a b) d) [ inl o ↦ whole ts g f c (told o) | inr e ↦ absurd (cc) ]

@@ -10,3 +10,9 @@ pub mod Pairs
 pub mod ToldLaws
 pub mod LogLaws
 pub mod TellingLaws
+pub mod AnswerLaws
+pub mod SequenceLaws
+pub mod BoundLaws
+pub mod ConsistencyLaws
+pub mod CutLaws
+pub mod FittingLaws

@@ -9,10 +9,10 @@ use Rattle.std.proofs.lemmas.Option.{slice_get-get_or, slice_get_within, get_or_
 use Rattle.oz_base.specs.Lists.{first_given, given_or}
 use Rattle.oz_base.specs.declared.names.Ident.{Ident}
 use Rattle.oz_laws.proofs.StoreLaws.{given_row}
-use Rattle.oz_semantics.specs.Store.{reversed, joined, same, value_given, value_of, TestsSame}
+use Rattle.oz_semantics.specs.Store.{reversed, joined, same, value_given, told_value, TestsSame}
 use Rattle.oz_semantics.specs.declared.value.Value.{Value}
 use Rattle.oz_semantics.specs.declared.value.Tell.{Tell}
-use Rattle.oz_semantics.specs.declared.value.Tell.TheVariants.{Equal, Is}
+use Rattle.oz_semantics.specs.declared.value.Tell.TheVariants.{Equal, Is, Within}
 use Rattle.term_store.specs.Places.{value_told, gives_value, value_place, PlacesTellApart, PlacesTellValues}
 
 -- The first place that passes a test
@@ -63,6 +63,7 @@ module _ (f : Tell → Option Value) (read : (t : Tell) (v : Value) → f t ≡ 
 
 read_given : (ts : List Tell) (x : Ident) (t : Tell) (v : Value) → value_given (λ y. same ts y x) t ≡ Some v → value_told (Some t) ≡ Some v
 read_given ts x (Equal a b) v e = cc
+read_given ts x (Within a is) v e = cc
 read_given ts x (Is y w) v e = by (same ts y x) e
   where
     by : (b : Bool) → (if b then Some w else None) ≡ Some v → Some w ≡ Some v
@@ -73,7 +74,7 @@ pub places_tell_values : PlacesTellValues
 places_tell_values ts x = given_at (value_given (λ y. same ts y x)) (read_given ts x) ts
 
 -- the value by what is known of the place
-pub value_at_place : (ts : List Tell) (x : Ident) (o : Option ℕ) → o ≡ value_place ts x → option_and_then (λ p. value_told (slice_get ts p)) o ≡ value_of ts x
+pub value_at_place : (ts : List Tell) (x : Ident) (o : Option ℕ) → o ≡ value_place ts x → option_and_then (λ p. value_told (slice_get ts p)) o ≡ told_value ts x
 value_at_place ts x o e = ap (option_and_then (λ p. value_told (slice_get ts p))) e ∙ sym (places_tell_values ts x)
 
 -- Places and classes
@@ -87,6 +88,7 @@ same_given ts x y v e = by (same ts y x) refl e
 
 both_given : TestsSame → (ts : List Tell) (x y : Ident) (t : Tell) → gives_value ts x t ≡ true → gives_value ts y t ≡ true → same ts x y ≡ true
 both_given law ts x y (Equal a b) e f = cc
+both_given law ts x y (Within a is) e f = cc
 both_given law ts x y (Is z v) e f = (law ts x y).1 (joined (reversed ((law ts z x).0 (same_given ts x z v e))) ((law ts z y).0 (same_given ts y z v f)))
 
 one_place : (o : Option ℕ) (p q : ℕ) → o ≡ Some p → o ≡ Some q → p ≡ q

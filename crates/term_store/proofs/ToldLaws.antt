@@ -3,19 +3,10 @@ use Rattle.std.proofs.Common.{◌≡◌, ◌∙◌, zero, suc, Bool, true, false
 use Rattle.oz_base.specs.Lists.{given_or, first_given}
 use Rattle.oz_base.specs.declared.names.Ident.{Ident}
 use Rattle.oz_laws.proofs.SameLaws.{tests_same}
-use Rattle.oz_laws.proofs.StoreLaws.{given_row}
-use Rattle.oz_semantics.specs.Store.{Same, itself, same, value_given, value_of}
+use Rattle.oz_semantics.specs.Store.{Same, itself, same, value_given, told_value}
 use Rattle.oz_semantics.specs.declared.value.Value.{Value}
 use Rattle.oz_semantics.specs.declared.value.Tell.{Tell}
-use Rattle.oz_semantics.specs.declared.value.Tell.TheVariants.{Equal, Is}
-
-first_same : {A B : Type 0} (f g : A → Option B) → ((x : A) → f x ≡ g x) → (xs : List A) → first_given f xs ≡ first_given g xs
-first_same f g h [] = refl
-first_same f g h (x ∷ xs) = ap (λ o. given_or o (first_given f xs)) (h x) ∙ ap (given_or (g x)) (first_same f g h xs)
-
--- equal variables have one value
-pub value_same : (ts : List Tell) (x y : Ident) → Same ts x y → value_of ts x ≡ value_of ts y
-value_same ts x y s = first_same (value_given (λ z. same ts z x)) (value_given (λ z. same ts z y)) (given_row ts x y s) ts
+use Rattle.oz_semantics.specs.declared.value.Tell.TheVariants.{Equal, Is, Within}
 
 given_some : (f : Tell → Option Value) (ts : List Tell) (t : Tell) (v : Value) → Contains ts t → f t ≡ Some v → (u : Value) × (first_given f ts ≡ Some u)
 given_some f [] t v (k, l, q) e = absurd (omega (arith, l))
@@ -27,10 +18,10 @@ given_some f (s ∷ ts) t v (suc k, l, q) e = by (f s) (given_some f ts t v (k, 
     by (Some w) rest = (w, refl)
 
 -- what is told of a variable gives it a value
-pub value_told : (ts : List Tell) (x : Ident) (v : Value) → Contains ts (Is x v) → (u : Value) × (value_of ts x ≡ Some u)
-value_told ts x v c = given_some (value_given (λ y. same ts y x)) ts (Is x v) v c (ap (λ (b : Bool). if b then Some v else None) ((tests_same ts x x).1 itself))
+pub some_told : (ts : List Tell) (x : Ident) (v : Value) → Contains ts (Is x v) → (u : Value) × (told_value ts x ≡ Some u)
+some_told ts x v c = given_some (value_given (λ y. same ts y x)) ts (Is x v) v c (ap (λ (b : Bool). if b then Some v else None) ((tests_same ts x x).1 itself))
 
-given_by : (f : Tell → Option Value) (ts : List Tell) (u : Value) → first_given f ts ≡ Some u → (t : Tell) × Contains ts t × (f t ≡ Some u)
+pub given_by : (f : Tell → Option Value) (ts : List Tell) (u : Value) → first_given f ts ≡ Some u → (t : Tell) × Contains ts t × (f t ≡ Some u)
 given_by f [] u e = cc
 given_by f (s ∷ ts) u e = by (f s) refl e (given_by f ts u)
   where
@@ -45,11 +36,12 @@ pub record Gives (ts : List Tell) (x : Ident) (v : Value) : Type 0 where
   pub class : Same ts variable x
 
 -- the value of a variable was told of one that is equal to it
-pub value_from : (ts : List Tell) (x : Ident) (v : Value) → value_of ts x ≡ Some v → Gives ts x v
+pub value_from : (ts : List Tell) (x : Ident) (v : Value) → told_value ts x ≡ Some v → Gives ts x v
 value_from ts x v e = let h = given_by (value_given (λ y. same ts y x)) ts v e in by h.0 h.1 h.2
   where
     by : (t : Tell) → Contains ts t → value_given (λ y. same ts y x) t ≡ Some v → Gives ts x v
     by (Equal a b) c q = cc
+    by (Within a is) c q = cc
     by (Is y w) c q = by_test (same ts y x) refl q
       where
         by_test : (b : Bool) → same ts y x ≡ b → (if b then Some w else None) ≡ Some v → Gives ts x v

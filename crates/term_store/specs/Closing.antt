@@ -1,7 +1,7 @@
 -- What is kept of what was told, also while pairs wait to be joined: g is the variable that stands for the class of each, and f the
 -- place at which the first value of a class was told, by the variable that stands for it.
-use Rattle.std.specs.Prelude.{ℕ, ◌≡◌, ◌+◌, ◌≤◌, ◌⊎◌, Bool, true, false, IsTrue, if◌then◌else◌, List, [], ◌∷◌, ◌++◌, length, map, min, Contains, Option, Some, None, slice_get}
-use Rattle.std.specs.List.{flat_map, zip}
+use Rattle.std.specs.Prelude.{ℕ, ◌≡◌, ◌+◌, ◌≤◌, ◌⊎◌, Bool, true, false, IsTrue, if◌then◌else◌, List, [], ◌∷◌, length, map, Contains, Option, Some, None, slice_get}
+use Rattle.std.specs.List.{flat_map}
 use Rattle.std.specs.Option.{option_and_then}
 use Rattle.oz_base.specs.Names.{ident_eq}
 use Rattle.oz_base.specs.declared.names.Ident.{Ident}
@@ -11,7 +11,8 @@ use Rattle.oz_semantics.specs.Values.{is_like, fields_of}
 use Rattle.oz_semantics.specs.declared.value.Value.{Value}
 use Rattle.oz_semantics.specs.declared.value.Tell.{Tell}
 use Rattle.oz_semantics.specs.declared.value.Tell.TheVariants.{Equal, Is}
-use Rattle.term_store.specs.Classes.{Table, first_in, root_in, UnitesFree, UnitesAt}
+use Rattle.term_store.specs.Bounds.{Bounded}
+use Rattle.term_store.specs.Classes.{Table, first_in, domain_in, root_in}
 use Rattle.term_store.specs.Places.{value_at}
 
 -- h joins all that g joins
@@ -52,8 +53,9 @@ pub record Closing (ts : List Tell) (g : Ident → Ident) (f : Ident → Option 
   pub stands : (k : ℕ) (y : Ident) (w : Value) → slice_get ts k ≡ Some (Is y w) → Stands ts g f ps k y w
 
 -- a closing in course, over a table
-abbrev pub Going : List Tell → Table → List (Ident × Ident) → Type 0
-Going ts t ps = Closing ts (root_in t) (first_in t) ps
+pub record Going (ts : List Tell) (t : Table) (ps : List (Ident × Ident)) : Type 0 where
+  pub values : Closing ts (root_in t) (first_in t) ps
+  pub bounds : Bounded ts (root_in t) (first_in t) (domain_in t)
 
 -- What of one class was equal before, or the list meets both
 abbrev pub Tied : List Tell → List Ident → (Ident → Ident) → Type 0
@@ -95,14 +97,3 @@ Comes ts t t' ps ps' now now' false = is_consistent ts ≡ false
 abbrev pub Settles : List Tell → Table → Table → List Ident → List Ident → Bool → Type 0
 Settles ts t t' now now' true = Going ts t' [] × Follows now now' t t'
 Settles ts t t' now now' false = is_consistent ts ≡ false
-
--- the joining of two classes that have the values v and w, told at p and q
-abbrev pub TakesValues : Table → Table → Ident → Ident → ℕ → ℕ → Value → Value → List (Ident × Ident) → List (Ident × Ident) → Bool → Type 0
-TakesValues t t' x y p q v w ps ps' true = (is_like v w ≡ true) × UnitesAt t t' x y (min p q) × (ps' ≡ ps ++ zip (fields_of v) (fields_of w))
-TakesValues t t' x y p q v w ps ps' false = is_like v w ≡ false
-
--- the joining of two classes
-pub data Takes (ts : List Tell) (t t' : Table) (x y : Ident) (ps ps' : List (Ident × Ident)) (goes : Bool) : Type 0 where
-  free : goes ≡ true → UnitesFree t t' x y → ps' ≡ ps → Takes ts t t' x y ps ps' goes
-  valued : (p q : ℕ) → first_in t x ≡ Some p → first_in t y ≡ Some q
-      → ((v w : Value) → value_at ts p ≡ Some v → value_at ts q ≡ Some w → TakesValues t t' x y p q v w ps ps' goes) → Takes ts t t' x y ps ps' goes

@@ -2,15 +2,16 @@
 use Rattle.std.specs.Prelude.{ℕ, ◌≡◌, ◌↔◌, Bool, IsTrue, List, Option, Some, None, is_some, position, slice_get}
 use Rattle.std.specs.Option.{option_and_then}
 use Rattle.oz_base.specs.declared.names.Ident.{Ident}
-use Rattle.oz_semantics.specs.Store.{same, value_given, value_of}
+use Rattle.oz_semantics.specs.Store.{same, value_given, told_value}
 use Rattle.oz_semantics.specs.declared.value.Value.{Value}
 use Rattle.oz_semantics.specs.declared.value.Tell.{Tell}
-use Rattle.oz_semantics.specs.declared.value.Tell.TheVariants.{Equal, Is}
+use Rattle.oz_semantics.specs.declared.value.Tell.TheVariants.{Equal, Is, Within}
 
 abbrev pub value_told : Option Tell → Option Value
 value_told None = None
 value_told (Some (Equal x y)) = None
 value_told (Some (Is x v)) = Some v
+value_told (Some (Within x is)) = None
 
 -- the value that is told at a place
 abbrev pub value_at : List Tell → ℕ → Option Value
@@ -28,6 +29,6 @@ value_place ts x = position (gives_value ts x) ts
 abbrev pub PlacesTellApart : Type 0
 PlacesTellApart = (ts : List Tell) (x y : Ident) (p q : ℕ) → value_place ts x ≡ Some p → value_place ts y ≡ Some q → IsTrue (same ts x y) ↔ (p ≡ q)
 
--- the place of a variable's value, if it has one
+-- the value that was told of a variable's class is that at the place
 abbrev pub PlacesTellValues : Type 0
-PlacesTellValues = (ts : List Tell) (x : Ident) → value_of ts x ≡ option_and_then (λ p. value_told (slice_get ts p)) (value_place ts x)
+PlacesTellValues = (ts : List Tell) (x : Ident) → told_value ts x ≡ option_and_then (λ p. value_told (slice_get ts p)) (value_place ts x)

@@ -1,12 +1,13 @@
 //! Classes of variables: trees, each of whose roots stands for a class.
-ghost use Rattle.std.specs.Prelude.{◌≡◌, ◌<◌, ◌⊎◌, false, Some, None, OnOk, OnErr, option_copied};
+ghost use Rattle.std.specs.Prelude.{◌≡◌, ◌<◌, ◌⊎◌, true, false, None, IfOk, OnOk, OnErr, option_copied};
 ghost use Rattle.oz_base.specs.Names.{ident_eq};
 ghost use Rattle.ident_map.specs.Entries.{entry};
-ghost use Rattle.term_store.specs.Classes.{link_in, rank_of, first_of, rank_in, first_in, root_in, IsTop, Likewise, Marks, Unites, UnitesOne, UnitesFree, UnitesAt};
+ghost use Rattle.term_store.specs.Classes.{link_in, rank_of, first_of, domain_of, kept_of, rank_in, first_in, domain_in, kept_in, root_in, is_free, is_nothing, IsTop, Likewise, Marks, Unites, UnitesOne, UnitesFree, UnitesAny, UnitesWith};
 
-use crate::cell::Cell;
+use crate::cell::{Cell, Kept};
+use crate::class_domain::ClassDomain;
 use ident_map::IdentMap;
-use oz_base::{Copies, Ident, same_ident};
+use oz_base::{Copies, Ident, Shared, same_ident};
 use std::alloc::{AllocError, Global};
 use std::marker::Model;
 
@@ -17,6 +18,20 @@ pub struct Found<'a> {
     pub rank: u8,
     /// The place at which the first value of the class was told.
     pub first: Option<u64>,
+    /// The integers that all domains have which were told of the class.
+    pub domain: Option<&'a Shared<ClassDomain>>,
+}
+
+impl<'a> Found<'a> {
+    /// Whether the class has neither a value nor a domain.
+    pub fn has_nothing(&self) -> bool
+        ensures { result ≡ is_free self.now.first (option_copied self.now.domain) }
+    {
+        match (self.first, self.domain) {
+            (None, None) => true,
+            _ => false,
+        }
+    }
 }
 
 fn rank_of(cell: Option<&Cell>) -> u8
@@ -33,8 +48,26 @@ fn first_of(cell: Option<&Cell>) -> Option<u64>
     ensures { result ≡ first_of (option_copied cell.entry) }
 {
     match cell {
-        Some(Cell::Root { first, .. }) => *first,
+        Some(Cell::Root { kept, .. }) => kept.first,
         _ => None,
+    }
+}
+
+fn domain_of<'a>(cell: Option<&'a Cell>) -> Option<&'a Shared<ClassDomain>>
+    ensures { option_copied result ≡ domain_of (option_copied cell.entry) }
+{
+    match cell {
+        Some(Cell::Root { kept, .. }) => kept.domain.as_ref(),
+        _ => None,
+    }
+}
+
+fn kept_of(alloc: Global, cell: Option<&Cell>) -> Result<Kept, AllocError>
+    ensures { IfOk result (λ kept. kept ≡ kept_of (option_copied cell.entry)) }
+{
+    match cell {
+        Some(Cell::Root { kept, .. }) => kept.copied(alloc),
+        _ => Ok(Kept::nothing()),
     }
 }
 
@@ -83,12 +116,37 @@ impl Classes {
         first_of(self.cells.get(root))
     }
 
+    /// The integers that all domains have which were told of the class that a variable stands for.
+    pub fn domain(&self, root: &Ident) -> Option<&Shared<ClassDomain>>
+        ensures { option_copied result ≡ domain_in self.now root.now }
+    {
+        domain_of(self.cells.get(root))
+    }
+
+    /// A copy of what is kept of the class that a variable stands for.
+    fn kept(&self, alloc: Global, root: &Ident) -> Result<Kept, AllocError>
+        ensures { IfOk result (λ kept. kept ≡ kept_in self.now root.now) }
+    {
+        kept_of(alloc, self.cells.get(root))
+    }
+
+    /// Whether the class that a variable stands for has neither a value nor a domain.
+    pub fn has_nothing(&self, root: &Ident) -> bool
+        ensures { result ≡ is_nothing (kept_in self.now root.now) }
+    {
+        match (self.first(root), self.domain(root)) {
+            (None, None) => true,
+            _ => false,
+        }
+    }
+
     /// The variable that stands for the class of another, and what is kept of it. Each variable on the way is looked up once.
     pub fn find<'a>(&'a self, variable: &'a Ident) -> Found<'a>
         ensures root { result.root.now ≡ root_in self.now variable.now }
         ensures top { IsTop self.now result.root.now }
         ensures rank { result.rank ≡ rank_in self.now result.root.now }
         ensures first { result.first ≡ first_in self.now result.root.now }
+        ensures domain { option_copied result.domain ≡ domain_in self.now result.root.now }
     {
         let mut root = variable;
         let mut cell = self.cells.get(root);
@@ -100,6 +158,7 @@ impl Classes {
             root,
             rank: rank_of(cell),
             first: first_of(cell),
+            domain: domain_of(cell),
         }
     }
 
@@ -118,21 +177,20 @@ impl Classes {
         same_ident(self.root(left), self.root(right))
     }
 
-    /// The first value of the class that a variable of this rank stands for was told at this place. An error is for lack of memory.
+    /// This is kept from now on of the class that a variable of this rank stands for. An error is for lack of memory.
     pub fn mark(
         &mut self,
         alloc: Global,
         root: &Ident,
         rank: u8,
-        place: u64,
+        kept: Kept,
     ) -> Result<(), AllocError>
         requires top { IsTop self.old root.now }
         requires rank { rank ≡ rank_in self.old root.now }
-        ensures ok { OnOk result (Marks self.old self.new root.now place) }
+        ensures ok { OnOk result (Marks self.old self.new root.now kept) }
         ensures err { OnErr result (self.new ≡ self.old) }
     {
-        let first = Some(place);
-        self.cells.insert(alloc, root, Cell::Root { rank, first })?;
+        self.cells.insert(alloc, root, Cell::Root { rank, kept })?;
         Ok(())
     }
 
@@ -144,8 +202,8 @@ impl Classes {
         ensures ok { OnOk result (rank_in self.new root.now ≡ rank) }
         ensures others { (x : Ident) → ident_eq x root.now ≡ false → rank_in self.new x ≡ rank_in self.old x }
     {
-        let first = self.first(root);
-        self.cells.insert(alloc, root, Cell::Root { rank, first })?;
+        let kept = self.kept(alloc, root)?;
+        self.cells.insert(alloc, root, Cell::Root { rank, kept })?;
         Ok(())
     }
 
@@ -170,7 +228,7 @@ impl Classes {
         requires under { IsTop self.old under.now }
         requires over { IsTop self.old over.now }
         requires higher { rank_in self.old under.now < rank_in self.old over.now }
-        ensures ok { OnOk result (Unites self.old self.new under.now over.now (first_in self.old over.now)) }
+        ensures ok { OnOk result (Unites self.old self.new under.now over.now (kept_in self.old over.now)) }
         ensures err { OnErr result (self.new ≡ self.old) }
     {
         let rank = self.rank(under);
@@ -185,7 +243,7 @@ impl Classes {
         requires under { IsTop self.old under.now }
         requires over { IsTop self.old over.now }
         requires apart { ident_eq under.now over.now ≡ false }
-        ensures ok { OnOk result (Unites self.old self.new under.now over.now (first_in self.old over.now)) }
+        ensures ok { OnOk result (Unites self.old self.new under.now over.now (kept_in self.old over.now)) }
         ensures err { OnErr result (Likewise self.old self.new) }
     {
         let rank = self.rank(under);
@@ -207,59 +265,80 @@ impl Classes {
         self.put(alloc, right, left)
     }
 
-    /// Joins the classes that two variables stand for, one of which has no value: one that has a value stands for both. An error
-    /// is for lack of memory, and leaves the classes.
+    /// Joins the classes that two variables stand for, of one of which nothing is kept: one of which something is stands for both. An
+    /// error is for lack of memory, and leaves the classes.
     pub fn unite(&mut self, alloc: Global, left: &Ident, right: &Ident) -> Result<(), AllocError>
         requires left { IsTop self.old left.now }
         requires right { IsTop self.old right.now }
         requires apart { ident_eq left.now right.now ≡ false }
-        requires free { (first_in self.old left.now ≡ None) ⊎ (first_in self.old right.now ≡ None) }
+        requires free { (is_nothing (kept_in self.old left.now) ≡ true) ⊎ (is_nothing (kept_in self.old right.now) ≡ true) }
         ensures ok { OnOk result (UnitesFree self.old self.new left.now right.now) }
         ensures err { OnErr result (Likewise self.old self.new) }
     {
-        match (self.first(left), self.first(right)) {
-            (None, None) => self.put_lower(alloc, left, right),
-            (None, Some(_)) => self.put(alloc, left, right),
-            (Some(_), _) => self.put(alloc, right, left),
+        match (self.has_nothing(left), self.has_nothing(right)) {
+            (true, true) => self.put_lower(alloc, left, right),
+            (true, false) => self.put(alloc, left, right),
+            (false, _) => self.put(alloc, right, left),
         }
     }
 
-    /// Puts one that stands for a class below another, whose first value is that at the place from now on.
-    fn put_at(
+    /// Puts one that stands for a class below another, of which this is kept from now on.
+    fn put_with(
         &mut self,
         alloc: Global,
         under: &Ident,
         over: &Ident,
-        place: u64,
+        kept: Kept,
     ) -> Result<(), AllocError>
         requires under { IsTop self.old under.now }
         requires over { IsTop self.old over.now }
         requires apart { ident_eq under.now over.now ≡ false }
-        ensures { OnOk result (Unites self.old self.new under.now over.now (Some place)) }
+        ensures { OnOk result (Unites self.old self.new under.now over.now kept) }
     {
         self.put(alloc, under, over)?;
         let rank = self.rank(over);
-        self.mark(alloc, over, rank, place)?;
+        self.mark(alloc, over, rank, kept)?;
         Ok(())
     }
 
-    /// Joins the classes that two variables stand for, whose first value is that at the place.
-    pub fn unite_at(
+    /// Puts the lower tree of two below the other.
+    fn put_lower_with(
         &mut self,
         alloc: Global,
         left: &Ident,
         right: &Ident,
-        place: u64,
+        kept: Kept,
     ) -> Result<(), AllocError>
         requires left { IsTop self.old left.now }
         requires right { IsTop self.old right.now }
         requires apart { ident_eq left.now right.now ≡ false }
-        ensures { OnOk result (UnitesAt self.old self.new left.now right.now place) }
+        ensures { OnOk result (UnitesAny self.old self.new left.now right.now kept) }
     {
         if self.rank(left) < self.rank(right) {
-            return self.put_at(alloc, left, right, place);
+            return self.put_with(alloc, left, right, kept);
         }
-        self.put_at(alloc, right, left, place)
+        self.put_with(alloc, right, left, kept)
+    }
+
+    /// Joins the classes that two variables stand for, of which this is kept. Where one alone has a value, it stands for both.
+    pub fn unite_with(
+        &mut self,
+        alloc: Global,
+        left: &Ident,
+        right: &Ident,
+        kept: Kept,
+    ) -> Result<(), AllocError>
+        requires left { IsTop self.old left.now }
+        requires right { IsTop self.old right.now }
+        requires apart { ident_eq left.now right.now ≡ false }
+        ensures { OnOk result (UnitesWith self.old self.new left.now right.now kept) }
+    {
+        match (self.first(left), self.first(right)) {
+            (None, Some(_)) => self.put_with(alloc, left, right, kept),
+            (Some(_), None) => self.put_with(alloc, right, left, kept),
+            (None, None) => self.put_lower_with(alloc, left, right, kept),
+            (Some(_), Some(_)) => self.put_lower_with(alloc, left, right, kept),
+        }
     }
 }
 

@@ -3,14 +3,17 @@
 #![tactic(auto)]
 
 mod cell;
+mod class_domain;
 mod classes;
 mod closing;
 mod log;
 mod places;
 mod store;
 mod values;
+mod variable_domain;
 
 pub use classes::Classes;
 pub use places::place_law;
 pub use store::Store;
 pub use values::{fields_of, is_like};
+pub use variable_domain::VariableDomain;

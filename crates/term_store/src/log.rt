@@ -42,6 +42,7 @@ fn value_of(tell: &Tell) -> Option<&Value>
     match tell {
         Tell::Equal { .. } => None,
         Tell::Is { value, .. } => Some(value),
+        Tell::Within { .. } => None,
     }
 }
 

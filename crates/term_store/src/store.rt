@@ -1,30 +1,42 @@
 //! The store.
-ghost use Rattle.std.specs.Prelude.{◌≡◌, ◌∷◌, ◌++◌, ◌⊎◌, [], true, false, length, slice_get, Some, None, Contains, IfOk, OnOk, OnErr, option_copied};
+ghost use Rattle.std.specs.Prelude.{◌≡◌, ◌∷◌, ◌++◌, ◌⊎◌, [], List, true, false, length, slice_get, is_some, Some, Contains, IfOk, OnOk, OnErr, option_copied, option_map, option_and_then};
+ghost use Rattle.oz_base.specs.Lists.{holds_of};
 ghost use Rattle.oz_base.specs.Names.{ident_eq};
 ghost use Rattle.oz_base.specs.declared.names.Ident.{Ident};
-ghost use Rattle.oz_semantics.specs.Store.{same, value_of, is_determined, is_consistent};
-ghost use Rattle.oz_semantics.specs.declared.value.Tell.TheVariants.{Equal, Is};
+ghost use Rattle.oz_base.specs.declared.interval.Interval.{Interval};
+ghost use Rattle.oz_domains.specs.Domains.{union, among, is_within, only};
+ghost use Rattle.oz_semantics.specs.Store.{same, told_value, told_domain, value_of, domain_of, is_determined, is_consistent, is_news};
+ghost use Rattle.oz_semantics.specs.Values.{integer, integer_in};
+ghost use Rattle.oz_semantics.specs.declared.value.Tell.TheVariants.{Equal, Is, Within};
 ghost use Rattle.oz_semantics.specs.declared.value.Value.{Value};
-ghost use Rattle.term_store.specs.Classes.{Table, IsTop, IsPartition, Likewise, UnitesFree, first_in};
+ghost use Rattle.term_store.specs.Bounds.{admits, Keeps};
+ghost use Rattle.term_store.specs.Classes.{Table, IsTop, IsPartition, Likewise, Marks, UnitesFree, is_nothing, kept_in, rank_in};
 ghost use Rattle.term_store.specs.Closing.{Going};
 ghost use Rattle.term_store.specs.Logs.{told_in};
 ghost use Rattle.term_store.specs.Places.{value_place};
 ghost use Rattle.term_store.specs.Telling.{IsTold};
+ghost use Rattle.term_store.specs.VariableDomains.{set_of};
 
+use crate::cell::Kept;
+use crate::class_domain::ClassDomain;
 use crate::classes::Classes;
-use crate::closing::{Draft, zipped};
+use crate::closing::{Draft, kept_of_two, zipped};
 use crate::log::Log;
 use crate::values::{fields_of, is_like};
-use oz_base::{Copies, Ident, same_ident};
+use crate::variable_domain::{VariableDomain, of_told, of_value};
+use fd_domain::{Domain, any_has_integer};
+use oz_base::{Copies, Ident, Interval, Sequence, Shared, same_ident};
+use oz_language::Constant;
 use oz_semantics::{Tell, Value};
 use std::alloc::{AllocError, Global};
 use std::marker::Model;
 
 /// What a space sees. Contracts see the list of everything that it and its ancestors were told; this is always consistent.
 ///
-/// A look takes a time that grows with the logarithm of the number of variables alone. A value that is told of a class that has
-/// none, and an equation of two classes of which one has none, are written in place, where no copy shares what they change. All
-/// else is told to a copy, which then takes the place of the store.
+/// A look takes a time that grows with the logarithm of the number of variables alone. A value that is told of a class that has none, a
+/// domain, and an equation of two classes of which one has neither a value nor a domain, are written in place, where no copy shares what
+/// they change. All else is told to a copy, which then takes the place of the store. A domain takes the time and memory of the intervals
+/// of the class's domain besides.
 #[derive(Drop)]
 pub struct Store {
     log: Log,
@@ -94,9 +106,9 @@ impl Store {
         self.classes.find(variable).first
     }
 
-    /// The value of a variable, if it has one.
-    pub fn value(&self, variable: &Ident) -> Option<&Value>
-        ensures { option_copied result ≡ value_of self.now variable.now }
+    /// The value that was told of a variable's class, if one was.
+    pub fn told_value(&self, variable: &Ident) -> Option<&Value>
+        ensures { option_copied result ≡ told_value self.now variable.now }
     {
         match self.value_place(variable) {
             None => None,
@@ -104,11 +116,67 @@ impl Store {
         }
     }
 
+    /// The integers that all domains have which a variable's class was told, if it was told one.
+    pub fn told_domain(&self, variable: &Ident) -> Option<&Domain>
+        ensures { option_copied result ≡ told_domain self.now variable.now }
+    {
+        let root = self.classes.root(variable);
+        match self.classes.domain(root) {
+            None => None,
+            Some(domain) => Some(domain.get().domain()),
+        }
+    }
+
+    /// The value of a variable, if it has one: one that was told, or the one integer of its domain.
+    pub fn value(&self, variable: &Ident) -> Option<&Value>
+        ensures { option_copied result ≡ value_of self.now variable.now }
+    {
+        let found = self.classes.find(variable);
+        match found.first {
+            None => only_value(self.classes.domain(found.root)),
+            Some(place) => self.log.value(place),
+        }
+    }
+
+    /// The domain of a variable: the integer that it is determined to, or what is left of the domains that its class was told. None where
+    /// it has another value, and where its class was told neither a value nor a domain.
+    pub fn domain(&self, variable: &Ident) -> Option<VariableDomain<'_>>
+        ensures { option_map set_of result ≡ domain_of self.now variable.now }
+    {
+        match self.told_value(variable) {
+            Some(value) => of_value(value),
+            None => of_told(self.told_domain(variable)),
+        }
+    }
+
     pub fn is_determined(&self, variable: &Ident) -> bool
         ensures { result ≡ is_determined self.now variable.now }
     {
-        let _ = &self.classes;
-        self.value_place(variable).is_some()
+        self.value(variable).is_some()
+    }
+
+    /// Whether each integer that a variable may be is in one of these intervals; not where it may be more than integers.
+    fn keeps_to(&self, variable: &Ident, intervals: &[Interval]) -> bool
+        ensures { result ≡ holds_of (is_within intervals.now) (domain_of self.now variable.now) }
+    {
+        match self.told_value(variable) {
+            Some(value) => value_within(value, intervals),
+            None => domain_within(self.told_domain(variable), intervals),
+        }
+    }
+
+    /// Whether it is news to it: a domain is none where the variable's class keeps to it already.
+    pub fn is_news(&self, tell: &Tell) -> bool
+        ensures { result ≡ is_news self.now tell.now }
+    {
+        match tell {
+            Tell::Within {
+                variable,
+                intervals,
+            } => !self.keeps_to(variable, intervals.as_slice()),
+            Tell::Equal { .. } => true,
+            Tell::Is { .. } => true,
+        }
     }
 
     /// What it was told is consistent. Nothing: it holds a law.
@@ -127,7 +195,8 @@ impl Store {
         touched: &mut Vec<Ident>,
     ) -> Result<bool, AllocError>
         requires going { (t : Table) → Going self.old t [] → Going (self.old ++ tell ∷ []) t pending.items }
-        requires determined { (x : Ident) (v : Value) → Contains (tell ∷ []) (Is x v) → is_determined self.old x ≡ true }
+        requires valued { (x : Ident) (v : Value) → Contains (tell ∷ []) (Is x v) → is_some (told_value self.old x) ≡ true }
+        requires known { (x : Ident) (is : List Interval) → Contains (tell ∷ []) (Within x is) → is_news self.old (Within x is) ≡ false }
         ensures told { IfOk result (IsTold self.old (tell ∷ []) self.new touched.old.items touched.new.items) }
         ensures err { OnErr result (self.new ≡ self.old) }
     {
@@ -163,7 +232,7 @@ impl Store {
             self.log.push(alloc, equation(alloc, left, right)?)?;
             return Ok(true);
         }
-        if one.first.is_some() && other.first.is_some() {
+        if !one.has_nothing() && !other.has_nothing() {
             let pending = one_pair(alloc, left, right)?;
             return self.close(alloc, equation(alloc, left, right)?, pending, touched);
         }
@@ -217,14 +286,81 @@ impl Store {
         if let Some(place) = found.first {
             return self.tell_again(alloc, variable, value, place, touched);
         }
+        if !has_value(found.domain, value) {
+            return Ok(false);
+        }
         let root = found.root.copied(alloc)?;
         let rank = found.rank;
+        let kept = Kept {
+            first: Some(self.log.len()),
+            domain: domain_copy(alloc, found.domain)?,
+        };
         let tell = binding(alloc, variable, value)?;
         touched.push(variable.copied(alloc)?)?;
-        self.log.make_room(alloc)?;
-        self.classes.mark(alloc, &root, rank, self.log.len())?;
-        self.log.put(tell);
+        add_marked(
+            &mut self.log,
+            &mut self.classes,
+            alloc,
+            &root,
+            rank,
+            kept,
+            tell,
+        )?;
         Ok(true)
+    }
+
+    /// Tells it that a variable is in one of these intervals, which are those of the domain.
+    fn tell_domain(
+        &mut self,
+        alloc: Global,
+        variable: &Ident,
+        intervals: &[Interval],
+        domain: Domain,
+        touched: &mut Vec<Ident>,
+    ) -> Result<bool, AllocError>
+        requires { union intervals.now ≡ domain }
+        ensures told { IfOk result (IsTold self.old (Within variable.now intervals.now ∷ []) self.new touched.old.items touched.new.items) }
+        ensures err { OnErr result (self.new ≡ self.old) }
+    {
+        let found = self.classes.find(variable);
+        let kept = kept_besides(alloc, &self.log, found.first, found.domain, domain)?;
+        let Some(kept) = kept else {
+            return Ok(false);
+        };
+        let root = found.root.copied(alloc)?;
+        let rank = found.rank;
+        let tell = confinement(alloc, variable, intervals)?;
+        touched.push(variable.copied(alloc)?)?;
+        add_marked(
+            &mut self.log,
+            &mut self.classes,
+            alloc,
+            &root,
+            rank,
+            kept,
+            tell,
+        )?;
+        Ok(true)
+    }
+
+    /// Tells it that a variable is in one of these intervals.
+    fn tell_within(
+        &mut self,
+        alloc: Global,
+        variable: &Ident,
+        intervals: &[Interval],
+        touched: &mut Vec<Ident>,
+    ) -> Result<bool, AllocError>
+        ensures told { IfOk result (IsTold self.old (Within variable.now intervals.now ∷ []) self.new touched.old.items touched.new.items) }
+        ensures err { OnErr result (self.new ≡ self.old) }
+    {
+        if intervals.is_empty() {
+            return Ok(false);
+        }
+        match Domain::from_intervals(alloc, intervals)? {
+            None => Err(AllocError),
+            Some(domain) => self.tell_domain(alloc, variable, intervals, domain, touched),
+        }
     }
 
     fn tell_one(
@@ -239,6 +375,10 @@ impl Store {
         match tell {
             Tell::Equal { left, right } => self.tell_equal(alloc, left, right, touched),
             Tell::Is { variable, value } => self.tell_value(alloc, variable, value, touched),
+            Tell::Within {
+                variable,
+                intervals,
+            } => self.tell_within(alloc, variable, intervals.as_slice(), touched),
         }
     }
 
@@ -263,9 +403,10 @@ impl Store {
         Ok(true)
     }
 
-    /// Tells it all of this, and notes variables of the classes that are joined, or told a value and had none. False exactly where
-    /// it is inconsistent with what was told before: then the store is as it was. An error is for lack of memory, and leaves it as
-    /// it was too.
+    /// Tells it all of this, and notes variables of the classes that are joined, or told a value and had none, or a domain. False exactly
+    /// where it is inconsistent with what was told before: then the store is as it was. An error is for lack of memory, or where the
+    /// intervals of a domain do not ascend, with gaps between them, or have other integers than domain values; it leaves the store as it
+    /// was too.
     pub fn tell(
         &mut self,
         alloc: Global,
@@ -286,7 +427,106 @@ impl Store {
     }
 }
 
-/// Adds a tell, and joins the classes that two variables stand for, one of which has no value.
+/// The one integer of the domain, if there is one, and it has no other.
+fn only_value(domain: Option<&Shared<ClassDomain>>) -> Option<&Value>
+    ensures { option_copied result ≡ option_map integer (option_and_then only (option_copied domain.entry)) }
+{
+    match domain {
+        None => None,
+        Some(domain) => domain.get().value(),
+    }
+}
+
+/// Whether the value is an integer of one of these intervals.
+fn value_within(value: &Value, intervals: &[Interval]) -> bool
+    ensures { result ≡ holds_of (among intervals.now) (integer_in value.now) }
+{
+    match value {
+        Value::Constant(Constant::Int(integer)) => any_has_integer(intervals, *integer),
+        _ => false,
+    }
+}
+
+/// Whether each integer of the domain, if there is one, is in one of these intervals.
+fn domain_within(domain: Option<&Domain>, intervals: &[Interval]) -> bool
+    ensures { result ≡ holds_of (is_within intervals.now) (option_copied domain.entry) }
+{
+    match domain {
+        None => false,
+        Some(domain) => domain.is_within(intervals),
+    }
+}
+
+/// Whether the value is an integer of the domain, if there is one.
+fn has_value(domain: Option<&Shared<ClassDomain>>, value: &Value) -> bool
+    ensures { result ≡ admits (option_copied domain.entry) value.now }
+{
+    match domain {
+        None => true,
+        Some(domain) => domain.get().has(value),
+    }
+}
+
+fn domain_copy(
+    alloc: Global,
+    domain: Option<&Shared<ClassDomain>>,
+) -> Result<Option<Shared<ClassDomain>>, AllocError>
+    ensures { IfOk result (λ copy. copy ≡ option_copied domain.entry) }
+{
+    match domain {
+        None => Ok(None),
+        Some(domain) => Ok(Some(domain.copied(alloc)?)),
+    }
+}
+
+fn confinement(alloc: Global, variable: &Ident, intervals: &[Interval]) -> Result<Tell, AllocError>
+    ensures { IfOk result (λ tell. tell ≡ Within variable.now intervals.now) }
+{
+    Ok(Tell::Within {
+        variable: variable.copied(alloc)?,
+        intervals: Sequence::from_vec(Vec::from_slice(alloc, intervals)?),
+    })
+}
+
+/// What is kept of a class whose first value is at the place, and that is told a domain besides the one that it has: nothing where no
+/// integer is left, or the value is none that is.
+fn kept_besides(
+    alloc: Global,
+    log: &Log,
+    first: Option<u64>,
+    one: Option<&Shared<ClassDomain>>,
+    domain: Domain,
+) -> Result<Option<Kept>, AllocError>
+    ensures { IfOk result (Keeps (told_in log.now) first (option_copied one.entry) (Some domain)) }
+{
+    let more = Shared::new(alloc, ClassDomain::new(domain))?;
+    kept_of_two(alloc, log, first, one, Some(&more))
+}
+
+/// Adds a tell, where this is kept from now on of the class that a variable of this rank stands for.
+fn add_marked(
+    log: &mut Log,
+    classes: &mut Classes,
+    alloc: Global,
+    root: &Ident,
+    rank: u8,
+    kept: Kept,
+    tell: Tell,
+) -> Result<(), AllocError>
+    requires top { IsTop classes.old root.now }
+    requires rank { rank ≡ rank_in classes.old root.now }
+    ensures told { OnOk result (told_in log.new ≡ told_in log.old ++ tell ∷ []) }
+    ensures ok { OnOk result (Marks classes.old classes.new root.now kept) }
+    ensures same { OnErr result (told_in log.new ≡ told_in log.old) }
+    ensures err { OnErr result (classes.new ≡ classes.old) }
+{
+    log.make_room(alloc)?;
+    classes.mark(alloc, root, rank, kept)?;
+    log.put(tell);
+    Ok(())
+}
+
+/// Adds a tell, and joins the classes that two variables stand for, of one of which nothing is kept.
 fn add_united(
     log: &mut Log,
     classes: &mut Classes,
@@ -298,7 +538,7 @@ fn add_united(
     requires left { IsTop classes.old left.now }
     requires right { IsTop classes.old right.now }
     requires apart { ident_eq left.now right.now ≡ false }
-    requires free { (first_in classes.old left.now ≡ None) ⊎ (first_in classes.old right.now ≡ None) }
+    requires free { (is_nothing (kept_in classes.old left.now) ≡ true) ⊎ (is_nothing (kept_in classes.old right.now) ≡ true) }
     ensures told { OnOk result (told_in log.new ≡ told_in log.old ++ tell ∷ []) }
     ensures ok { OnOk result (UnitesFree classes.old classes.new left.now right.now) }
     ensures kept { OnErr result (told_in log.new ≡ told_in log.old) }

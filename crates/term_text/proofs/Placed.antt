@@ -4,8 +4,11 @@ use Rattle.std.specs.List.{position_or_len}
 use Rattle.std.specs.Option.{IsSome, option_and_then}
 use Rattle.std.proofs.lemmas.Bool.Decides.{nat_tests}
 use Rattle.oz_base.specs.declared.names.Ident.{Ident}
-use Rattle.oz_semantics.specs.Store.{same, value_of}
+use Rattle.oz_semantics.specs.Store.{same, told_value, value_of}
+use Rattle.oz_laws.proofs.StoreLaws.{record_told}
+use Rattle.oz_semantics.specs.declared.value.Record.{Record}
 use Rattle.oz_semantics.specs.declared.value.Value.{Value}
+use Rattle.oz_semantics.specs.declared.value.Value.TheVariants as value
 use Rattle.oz_semantics.specs.declared.value.Tell.{Tell}
 use Rattle.term_store.specs.Places.{value_place, value_told, PlacesTellApart, PlacesTellValues}
 use Rattle.term_text.specs.Placing.{ArePlaced}
@@ -36,12 +39,15 @@ position_placed law view x p xs places e h =
     let f = first_placed law view x p e xs places h in
     rw (f.0, f.1) refl
 
--- a class with a value has a place
-pub value_placed : PlacesTellValues → (view : List Tell) (x : Ident) (v : Value) (o : Option ℕ) → value_of view x ≡ Some v → o ≡ value_place view x → IsSome o
+-- a class with a record has a place
+value_placed : PlacesTellValues → (view : List Tell) (x : Ident) (v : Value) (o : Option ℕ) → told_value view x ≡ Some v → o ≡ value_place view x → IsSome o
 value_placed law view x v None e k =
-    let none : value_of view x ≡ None = law view x ∙ ap (option_and_then (λ p. value_told (slice_get view p))) (sym k) in
+    let none : told_value view x ≡ None = law view x ∙ ap (option_and_then (λ p. value_told (slice_get view p))) (sym k) in
     absurd (cc)
 value_placed law view x v (Some p) e k = refl
+
+pub record_placed : PlacesTellValues → (view : List Tell) (x : Ident) (r : Record) (o : Option ℕ) → value_of view x ≡ Some (value.Record r) → o ≡ value_place view x → IsSome o
+record_placed law view x r o e k = value_placed law view x (value.Record r) o (record_told view x r e) k
 
 -- the innermost record is closed
 pub rest_placed : (view : List Tell) (x : Ident) (xs : List Ident) (places rest : List ℕ) → ArePlaced view (x ∷ xs) places → ((p : ℕ) (ps : List ℕ) → places ≡ p ∷ ps → rest ≡ ps) → ArePlaced view xs rest

@@ -1,17 +1,20 @@
 -- Facts on printing that the functions' proofs cite.
-use Rattle.std.proofs.Common.{◌≡◌, ◌∙◌, ℕ, zero, suc, ◌+◌, ◌≤◌, Bool, true, false, if◌then◌else◌, List, [], ◌∷◌, ◌++◌, Option, Some, None, Result, Ok, Err, IfOk, map, position, codes, pos, ap, ap₂, refl, sym, arith}
+use Rattle.std.proofs.Common.{◌≡◌, ◌∙◌, ℕ, zero, suc, ◌+◌, ◌≤◌, Bool, true, false, if◌then◌else◌, List, [], ◌∷◌, ◌++◌, Option, Some, None, Result, Ok, Err, IfOk, map, option_map, option_and_then, position, codes, pos, ap, ap₂, refl, sym, arith}
 use Rattle.std.specs.List.{zip}
 use Rattle.std.proofs.lemmas.List.{append_assoc}
+use Rattle.oz_base.specs.Lists.{given_or}
 use Rattle.oz_base.specs.declared.names.Ident.{Ident}
 use Rattle.oz_language.specs.Constants.{constant_eq}
-use Rattle.oz_semantics.specs.Store.{same, value_of}
+use Rattle.oz_domains.specs.Domains.{IntSet, only}
+use Rattle.oz_semantics.specs.Store.{same, told_value, told_domain, domain_by, domain_of, value_of}
 use Rattle.oz_language.specs.SimpleTexts.{text_as, bar_texts, hash_texts, enclosed, is_bars, is_chain, form_of, fields_text, gapped, joined, constant_text, literal_text}
-use Rattle.oz_semantics.specs.Texts.{Printed, printed, form_in, value_printed, record_or_up}
+use Rattle.oz_semantics.specs.Texts.{Printed, one_node, printed, undetermined_text, form_in, value_printed, record_or_up}
 use Rattle.oz_language.specs.declared.kernel.Constant.{Constant}
 use Rattle.oz_language.specs.declared.kernel.Constant.TheVariants as constant
 use Rattle.oz_language.specs.declared.text.Form.{Form}
 use Rattle.oz_language.specs.declared.text.Form.TheVariants as form
 use Rattle.oz_language.specs.declared.token.Literal.{Literal}
+use Rattle.oz_semantics.specs.Values.{integer}
 use Rattle.oz_semantics.specs.declared.value.Tell.{Tell}
 use Rattle.oz_semantics.specs.declared.value.Value.{Value}
 use Rattle.oz_semantics.specs.declared.value.Value.TheVariants as value
@@ -27,31 +30,43 @@ record_node : (words : List (List ℕ)) (forms : Ident → Form) (print : Ident 
 record_node words forms print t None = omega arith
 record_node words forms print t (Some k) = omega arith
 
-value_node : (words : List (List ℕ)) (forms : Ident → Form) (print : Ident → Printed) (up : Option ℕ) (v : Option Value) → 1 ≤ (value_printed words forms print up v).nodes
-value_node words forms print up None = omega arith
-value_node words forms print up (Some (value.Constant k)) = omega arith
-value_node words forms print up (Some (value.Record t)) = record_node words forms print t up
-value_node words forms print up (Some (value.Procedure p)) = omega arith
-value_node words forms print up (Some (value.Builtin b)) = omega arith
-value_node words forms print up (Some (value.Name n)) = omega arith
-value_node words forms print up (Some (value.Cell c)) = omega arith
-value_node words forms print up (Some (value.Port p)) = omega arith
-value_node words forms print up (Some (value.Space s)) = omega arith
+value_node : (words : List (List ℕ)) (forms : Ident → Form) (print : Ident → Printed) (up : Option ℕ) (domain : Option IntSet) (v : Option Value) → 1 ≤ (value_printed words forms print up domain v).nodes
+value_node words forms print up domain None = omega arith
+value_node words forms print up domain (Some (value.Constant k)) = omega arith
+value_node words forms print up domain (Some (value.Record t)) = record_node words forms print t up
+value_node words forms print up domain (Some (value.Procedure p)) = omega arith
+value_node words forms print up domain (Some (value.Builtin b)) = omega arith
+value_node words forms print up domain (Some (value.Name n)) = omega arith
+value_node words forms print up domain (Some (value.Cell c)) = omega arith
+value_node words forms print up domain (Some (value.Port p)) = omega arith
+value_node words forms print up domain (Some (value.Space s)) = omega arith
 
 pub term_node : (words : List (List ℕ)) (view : List Tell) (n : ℕ) (up : List Ident) (x : Ident) → 1 ≤ (printed words view n up x).nodes
 unfolding printed
 term_node words view zero up x = omega arith
-term_node words view (suc n) up x = value_node words (form_in words view (x ∷ up)) (printed words view n (x ∷ up)) (position (same view x) up) (value_of view x)
+term_node words view (suc n) up x = value_node words (form_in words view (x ∷ up)) (printed words view n (x ∷ up)) (position (same view x) up) (domain_of view x) (value_of view x)
 
 -- a term within a bound that is left, and at the end of the bound
 pub printed_suc : (words : List (List ℕ)) (view : List Tell) (m n : ℕ) (up : List Ident) (x : Ident) → m ≡ suc n
-    → printed words view m up x ≡ value_printed words (form_in words view (x ∷ up)) (printed words view n (x ∷ up)) (position (same view x) up) (value_of view x)
+    → printed words view m up x ≡ value_printed words (form_in words view (x ∷ up)) (printed words view n (x ∷ up)) (position (same view x) up) (domain_of view x) (value_of view x)
 unfolding printed
 printed_suc words view m n up x e = ap (λ k. printed words view k up x) e
 
 pub printed_zero : (words : List (List ℕ)) (view : List Tell) (m : ℕ) (up : List Ident) (x : Ident) → m ≡ 0 → printed words view m up x ≡ record { bytes = []; nodes = 1 }
 unfolding printed
 printed_zero words view m up x e = ap (λ k. printed words view k up x) e
+
+-- a variable that is not determined has the domain that its class was told
+pub undetermined_domain : (view : List Tell) (x : Ident) → value_of view x ≡ None → domain_of view x ≡ told_domain view x
+undetermined_domain view x e = by (told_value view x) e
+  where
+    by : (o : Option Value) → given_or o (option_map integer (option_and_then only (told_domain view x))) ≡ None → domain_by o (told_domain view x) ≡ told_domain view x
+    by None k = refl
+    by (Some v) k = cc
+
+pub undetermined_printed : (words : List (List ℕ)) (forms : Ident → Form) (print : Ident → Printed) (up : Option ℕ) (view : List Tell) (x : Ident) (s : Option IntSet)
+    → value_of view x ≡ None → s ≡ told_domain view x → value_printed words forms print up (domain_of view x) (value_of view x) ≡ one_node (undetermined_text s)
+undetermined_printed words forms print up view x s e k = ap₂ (value_printed words forms print up) (undetermined_domain view x e ∙ sym k) e
 
 -- Fields
 

@@ -1,7 +1,7 @@
 -- What is left to print while some records are open.
 use Rattle.std.specs.Prelude.{ℕ, ◌+◌, ◌≡◌, Bool, false, List, [], ◌∷◌, ◌++◌, Option, Some, None, map, position}
 use Rattle.oz_base.specs.declared.names.Ident.{Ident}
-use Rattle.oz_semantics.specs.Store.{same, value_of}
+use Rattle.oz_semantics.specs.Store.{same, domain_of, value_of}
 use Rattle.oz_language.specs.SimpleTexts.{fields_text}
 use Rattle.oz_semantics.specs.Texts.{Printed, no_text, printed, form_in, count_nodes, record_printed, record_or_up, value_printed}
 use Rattle.oz_language.specs.declared.kernel.Constant.{Constant}
@@ -70,7 +70,8 @@ abbrev pub with_value : List (List ℕ) → List Tell → List Open → Term →
 with_value words view os t =
     beside
     (closed t.owed
-    (value_printed words (form_in words view (t.variable.now ∷ variables_of os)) (printed words view t.bound (t.variable.now ∷ variables_of os)) (position (same view t.variable.now) (variables_of os)) (value_of view t.variable.now)))
+    (value_printed words (form_in words view (t.variable.now ∷ variables_of os)) (printed words view t.bound (t.variable.now ∷ variables_of os)) (position (same view t.variable.now) (variables_of os)) (domain_of view t.variable.now)
+    (value_of view t.variable.now)))
     (pending words view os)
 
 -- what is left after a node: the term that comes next, if it lies in the record that was opened last

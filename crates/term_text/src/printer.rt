@@ -1,19 +1,21 @@
 //! Printing a term node by node, with the records that are open on a stack of its own.
-ghost use Rattle.std.specs.Prelude.{◌≡◌, ℕ, suc, ◌∷◌, ◌++◌, List, [], Some, None, position, nat_eq, codes, OnOk, IfOk, MatchOption};
+ghost use Rattle.std.specs.Prelude.{◌≡◌, ℕ, suc, ◌∷◌, ◌++◌, List, [], Some, None, position, nat_eq, codes, option_copied, OnOk, IfOk, MatchOption};
 ghost use Rattle.std.specs.Fmt.{decimal};
 ghost use Rattle.oz_semantics.specs.Store.{same, value_of};
 ghost use Rattle.oz_language.specs.SimpleTexts.{simple_text};
-ghost use Rattle.oz_semantics.specs.Texts.{form_in};
+ghost use Rattle.oz_semantics.specs.Texts.{form_in, undetermined_text};
 ghost use Rattle.oz_semantics.specs.declared.value.Value.TheVariants as values;
 ghost use Rattle.term_store.specs.Places.{value_place};
 ghost use Rattle.term_text.specs.Operands.{ending, left_paren, right_paren, is_enclosed};
 ghost use Rattle.term_text.specs.Pending.{variables_of, pending, with_rest, with_term, with_fields, with_record, with_value, after_node, after_move, Prints};
 ghost use Rattle.term_text.specs.Placing.{ArePlaced};
 
+use crate::domains::add_undetermined;
 use crate::nesting::Nesting;
 use crate::operands::{
     add_first_key, add_opening, ending, gap_before, keyed, left_paren, right_paren,
 };
+use fd_domain::Domain;
 use oz_base::{Ident, Stack, Words};
 use oz_language::{Constant, Form};
 use oz_semantics::{Record, Value};
@@ -133,6 +135,21 @@ impl<'a> Printer<'a> {
         ensures nesting { self.new.nesting ≡ self.old.nesting }
     {
         add_simple(alloc, words, constant, &mut self.bytes)?;
+        self.bytes.extend_from_slice(right_paren(owed))
+    }
+
+    // A variable that is not determined, by its domain, if it has one, and `)` where it is owed.
+    fn print_undetermined(
+        &mut self,
+        alloc: Global,
+        domain: Option<&Domain>,
+        owed: bool,
+    ) -> Result<(), AllocError>
+        ensures bytes { OnOk result (self.new.bytes.items ≡ self.old.bytes.items ++ (undetermined_text (option_copied domain.entry) ++ right_paren owed)) }
+        ensures opened { self.new.opened ≡ self.old.opened }
+        ensures nesting { self.new.nesting ≡ self.old.nesting }
+    {
+        add_undetermined(alloc, domain, &mut self.bytes)?;
         self.bytes.extend_from_slice(right_paren(owed))
     }
 
@@ -276,7 +293,7 @@ impl<'a> Printer<'a> {
     {
         match store.value(term.variable) {
             None => {
-                self.print_leaf(b"_", term.owed)?;
+                self.print_undetermined(alloc, store.told_domain(term.variable), term.owed)?;
                 Ok(None)
             }
             Some(Value::Constant(constant)) => {

@@ -9,31 +9,35 @@ use Rattle.oz_semantics.specs.Names.{is_top, is_below, child_name, space_lt}
 use Rattle.oz_semantics.specs.Store.{View}
 use Rattle.oz_semantics.specs.Configurations.{is_of, layer_at, layer_of, thread_at, is_numbered, is_open, view, in_layer, counting_child, new_layer, next_child}
 use Rattle.oz_semantics.specs.Sights.{Sight, can_step}
-use Rattle.oz_semantics.specs.Spaces.{sight, states_of, thread_ready, waited_in, layer_goes_on, layers_below, goes_on}
+use Rattle.oz_semantics.specs.Spaces.{sight, states_of, readinesses, thread_ready, has_due, waited_in, layer_goes_on, layers_below, goes_on}
 use Rattle.oz_semantics.specs.Edits.{starting, created, committing, committed}
 use Rattle.oz_semantics.specs.Triggers.{has_needed, triggered}
 use Rattle.oz_semantics.specs.Settling.{top_is_inconsistent, top_failed, without_inconsistent, requeued}
 use Rattle.oz_semantics.specs.Runs.{left_by}
 use Rattle.oz_semantics.specs.Search.{followed, with_root, chosen_in}
 use Rattle.oz_semantics.specs.declared.configuration.Thread.{Thread}
+use Rattle.oz_semantics.specs.declared.configuration.Propagator.{Propagator}
 use Rattle.oz_semantics.specs.declared.configuration.Layer.{Layer}
+use Rattle.oz_semantics.specs.Schedule.{least_due}
+use Rattle.turn_laws.proofs.DueLaws.{least_found, due_has}
+use Rattle.view_laws.proofs.TreeLaws.{same_named_layer}
 use Rattle.oz_semantics.specs.declared.configuration.Configuration.{Configuration}
 use Rattle.oz_semantics.specs.declared.outcome.Stepped.TheVariants.{Moved}
 use Rattle.oz_laws.proofs.SameLaws.{In, In-from_contains, contains-from_In}
-use Rattle.view_laws.proofs.Members.{decide, not_both, by_some}
+use Rattle.view_laws.proofs.Members.{decide, not_both, or_left, or_right, by_some}
 use Rattle.view_laws.proofs.ListLaws.{found_in, in_filter, map_in}
 use Rattle.view_laws.proofs.NameLaws.{equal_names}
 use Rattle.view_laws.proofs.SightLaws.{space_of, creation_unseen}
 use Rattle.view_laws.specs.Spaceless.{gives_space, knows_space, plain_ready}
 use Rattle.view_laws.specs.Readies.{seeing}
 use Rattle.need_laws.proofs.RoundLaws.{needed_same}
-use Rattle.settle_laws.proofs.SoundLaws.{sound_top, committed_sound}
 use Rattle.turn_laws.specs.Orderly.{AreOrderly}
 use Rattle.turn_laws.specs.Kept.{IsKept, IsThere}
 use Rattle.turn_laws.proofs.NumberedLaws.{edits_numbered}
 use Rattle.turn_laws.proofs.OrderlyLaws.{IsEdit, is_there, created_orderly}
 use Rattle.turn_laws.proofs.HeadLaws.{kept_layers}
-use Rattle.turn_laws.proofs.KeptLaws.{kept_root, kept_chosen, created_top}
+use Rattle.settle_laws.proofs.SoundLaws.{sound_top}
+use Rattle.turn_laws.proofs.KeptLaws.{kept_root, kept_chosen, created_top, committed_top}
 use Rattle.top_laws.specs.Top.{TopRests, RootRests, ChosenRests}
 use Rattle.top_laws.proofs.SeenLaws.{spaceless_top, plain_top, waited_same}
 use Rattle.top_laws.proofs.OutsideLaws.{LeavesTop, is_empty_name, edit_leaves, left_leaves, TopUnneeded, top_unneeded, left_spaceless, begun_leaves}
@@ -52,15 +56,18 @@ rests_seen statements before after l seen none rests opened t c =
 
 -- where the top's layer has the status, the threads and the tells of another
 moved_rests : (statements : List Statement) (before after : List Layer) (l : Layer) → layer_at after [] ≡ Some l → view after [] ≡ view before [] → list_any gives_space (view before []) ≡ false
-    → knows_space l ≡ false → (is_open l.status ≡ true → (t : Thread) → Contains l.threads t → can_step (thread_ready statements before [] t) ≡ false) → TopRests statements after
-moved_rests statements before after l at seen none plain rests =
-    subst (λ (m : Layer). (knows_space m ≡ false) × (is_open m.status ≡ true → (t : Thread) → Contains m.threads t → can_step (thread_ready statements after [] t) ≡ false))
-    (sym (ap (λ (o : Option Layer). unwrap_or o (new_layer [])) at)) (plain, rests_seen statements before after l seen none rests)
+    → knows_space l ≡ false → (is_open l.status ≡ true → (t : Thread) → Contains l.threads t → can_step (thread_ready statements before [] t) ≡ false) → has_due (view before []) l ≡ false
+    → TopRests statements after
+moved_rests statements before after l at seen none plain rests due =
+    subst
+    (λ (m : Layer).
+    (knows_space m ≡ false) × (is_open m.status ≡ true → (t : Thread) → Contains m.threads t → can_step (thread_ready statements after [] t) ≡ false) × (has_due (view after []) m ≡ false))
+    (sym (ap (λ (o : Option Layer). unwrap_or o (new_layer [])) at)) (plain, rests_seen statements before after l seen none rests, ap (λ (v : View). has_due v l) seen ∙ due)
 
 pub same_rests : (statements : List Statement) (before after : List Layer) → LeavesTop before after → TopRests statements before → TopRests statements after
 same_rests statements before after leaves rests =
     let own : layer_of after [] ≡ layer_of before [] = ap (λ (o : Option Layer). unwrap_or o (new_layer [])) leaves.same in
-    moved_rests statements before after (layer_of before []) (is_there after [] leaves.good.top ∙ ap (λ (l : Layer). Some l) own) leaves.seen (left_spaceless before after leaves rests.0) rests.0 rests.1
+    moved_rests statements before after (layer_of before []) (is_there after [] leaves.good.top ∙ ap (λ (l : Layer). Some l) own) leaves.seen (left_spaceless before after leaves rests.0) rests.0 rests.1 rests.2
 
 -- the layers themselves
 pub left_itself : (layers : List Layer) → AreOrderly layers → LeavesTop layers layers
@@ -86,13 +93,17 @@ module _ (statements : List Statement) (layers : List Layer) (good : AreOrderly 
   abbrev goes_in : Layer → Bool
   goes_in = layer_goes_on statements layers (states_of statements layers)
 
+  top_name : top.space ≡ []
+  top_name = equal_names top.space [] top_found.1
+
   -- the top goes on where it is open and one of its threads can step
   top_goes : is_open top.status ≡ true → (t : Thread) → In t top.threads → can_step (thread_ready statements layers [] t) ≡ true → goes_in top ≡ true
   top_goes opened t i e =
-      subst (λ (b : Bool). list_any can_step (if b then map (thread_ready statements layers top.space) top.threads else []) ≡ true) (sym opened)
+      or_left _ _
+      (subst (λ (b : Bool). list_any can_step (if b then map (thread_ready statements layers top.space) top.threads else []) ≡ true) (sym opened)
       (by_some can_step (map (thread_ready statements layers top.space) top.threads) (thread_ready statements layers top.space t)
       (contains-from_In (map (thread_ready statements layers top.space) top.threads) (thread_ready statements layers top.space t) (map_in (thread_ready statements layers top.space) top.threads t i))
-      (ap (λ s. can_step (thread_ready statements layers s t)) (equal_names top.space [] top_found.1) ∙ e))
+      (ap (λ s. can_step (thread_ready statements layers s t)) top_name ∙ e)))
 
   none_steps : goes_on statements layers [] ≡ false → is_open top.status ≡ true → (t : Thread) → Contains top.threads t → can_step (thread_ready statements layers [] t) ≡ false
   none_steps still opened t c = elim (decide (can_step (thread_ready statements layers [] t))) [
@@ -104,8 +115,19 @@ module _ (statements : List Statement) (layers : List Layer) (good : AreOrderly 
     | inr e ↦ e
   ]
 
+  -- nor is one of its propagators due
+  none_runs : goes_on statements layers [] ≡ false → has_due (view layers []) top ≡ false
+  none_runs still = elim (decide (has_due (view layers []) top)) [
+    | inl e ↦ absurd (not_both _
+        (by_some goes_in (layers_below layers []) top
+        (contains-from_In (layers_below layers []) top (in_filter (λ (l : Layer). is_below [] l.space) layers top top_found.0 refl))
+        (or_right (list_any can_step (readinesses statements layers (states_of statements layers) top)) _ (ap (λ s. has_due (view layers s) top) top_name ∙ e)))
+        still)
+    | inr e ↦ e
+  ]
+
   pub still_rests : goes_on statements layers [] ≡ false → knows_space top ≡ false → TopRests statements layers
-  still_rests still plain = (plain, none_steps still)
+  still_rests still plain = (plain, none_steps still, none_runs still)
 
 -- The thread at the head is none of a top that rests
 
@@ -124,6 +146,18 @@ head_inner statements layers id there rests = elim (decide (is_top id.space)) [
     never opened ready =
         let t = held_found able (is_numbered id.number) (layer_of layers []).threads ready in
         not_both (able t.0) t.2 (rests.1 opened t.0 (contains-from_In (layer_of layers []).threads t.0 t.1))
+
+-- nor is the least propagator that is due
+
+pub due_inner : (statements : List Statement) (layers : List Layer) (due : Layer × Propagator) → AreOrderly layers → TopRests statements layers → least_due layers ≡ Some due → is_top due.0.space ≡ false
+due_inner statements layers due good rests e = elim (decide (is_top due.0.space)) [
+  | inl top ↦ (let d = least_found layers due e in
+      let name : due.0.space ≡ [] = is_empty_name due.0.space top in
+      let own = top_found statements layers good in
+      let same : due.0 ≡ layer_of layers [] = same_named_layer layers due.0 (layer_of layers []) good.tree.ordered d.0 own.0 (name ∙ sym (equal_names (layer_of layers []).space [] own.1)) in
+      absurd (not_both _ (due_has layers due d.1) (ap (λ s. has_due (view layers s) due.0) name ∙ ap (has_due (view layers [])) same ∙ rests.2)))
+  | inr e ↦ e
+]
 
 -- What follows an edit by the search
 
@@ -147,7 +181,7 @@ chosen_rests statements space i c inner kept rests = (
   where
     leaves : LeavesTop c.layers (chosen_in statements space i c).layers
     leaves =
-        followed_leaves statements c c.layers (committed statements space i c.layers) (top_unneeded statements c.layers kept.top kept.content rests.0) (sound_top (committed statements space i c.layers) (committed_sound statements space i c.layers kept.sound))
+        followed_leaves statements c c.layers (committed statements space i c.layers) (top_unneeded statements c.layers kept.top kept.content rests.0) (committed_top statements space i c.layers (sound_top c.layers kept.sound))
         (edit_leaves space inner (committing (sight statements c.layers space) i) c.layers c.layers (choice_edit (sight statements c.layers space) i) (left_itself c.layers (kept_layers statements c kept)))
 
 -- Where the search begins
@@ -195,7 +229,7 @@ module _ (statements : List Statement) (procedure : Ident) (c : Configuration) (
     none = spaceless_top c.layers (kept_layers statements c kept) rests.0
 
     made_rests : TopRests statements made
-    made_rests = moved_rests statements c.layers made (counting_child (layer_of c.layers [])) counted (unseen []) none rests.0 rests.1
+    made_rests = moved_rests statements c.layers made (counting_child (layer_of c.layers [])) counted (unseen []) none rests.0 rests.1 rests.2
 
     waits_same : waited_in statements made (states_of statements made) (counting_child (layer_of c.layers [])) ≡ waited_in statements c.layers (states_of statements c.layers) (counting_child (layer_of c.layers []))
     waits_same = waited_same statements c.layers made (counting_child (layer_of c.layers [])) (space_of c.layers [] (layer_of c.layers []) (is_there c.layers [] kept.top)) (unseen []) none

@@ -1,22 +1,25 @@
 -- A step of a thread that is none of the top's leaves the top as it was.
-use Rattle.std.proofs.Common.{◌≡◌, ℕ, ◌+◌, Bool, true, false, if◌then◌else◌, List, [], ◌∷◌, ◌++◌, refl, sym, subst, Option, Some, None, drop}
+use Rattle.std.proofs.Common.{◌≡◌, ℕ, ◌+◌, Bool, true, false, if◌then◌else◌, List, [], ◌∷◌, ◌++◌, refl, sym, subst, arith, Option, Some, None, drop}
 use Rattle.oz_base.specs.declared.names.Ident.{Ident}
 use Rattle.oz_language.specs.declared.kernel.Kernel.{Kernel}
 use Rattle.oz_semantics.specs.Names.{is_top}
-use Rattle.oz_semantics.specs.Store.{is_consistent}
+use Rattle.oz_semantics.specs.Store.{View, is_consistent}
 use Rattle.oz_semantics.specs.Configurations.{layer_of, stack_of, view, in_layer, with_frames, without_terminated, telling, failed, raised_by, ending}
-use Rattle.oz_semantics.specs.Answers.{Edit, Answer, Acts, Edits, RaisesKind, RaisesTerm, Operates, Rests}
+use Rattle.oz_semantics.specs.Answers.{Edit, Answer, Acts, Edits, RaisesKind, RaisesTerm, Operates, Widens, Rests}
 use Rattle.oz_semantics.specs.Spaces.{states_of, answer_in}
 use Rattle.oz_semantics.specs.Changes.{Change, changed, changed_all}
 use Rattle.oz_semantics.specs.Effects.{Effect, Makes, Tells, ShowsText, act_effect}
 use Rattle.oz_semantics.specs.Exceptions.{is_failure, raise_term, with_term, unwound}
 use Rattle.oz_semantics.specs.Texts.{Printed, term_text}
 use Rattle.oz_semantics.specs.Triggers.{triggered}
-use Rattle.oz_semantics.specs.Settling.{Turned, settled, top_failed, requeued, term_variable, with_raised, top_ended, without_inconsistent}
+use Rattle.oz_semantics.specs.Settling.{Turned, settled, failing, top_failed, requeued, term_variable, with_raised, top_ended, without_inconsistent}
 use Rattle.oz_semantics.specs.Steps.{went_on, ended_by, uncaught, raised_to, raised, raised_kind, told, after_effect, edit_tells, edited, after_edit, after_answer, without_top, stepped}
 use Rattle.oz_semantics.specs.declared.value.Tell.{Tell}
 use Rattle.oz_semantics.specs.declared.configuration.Frame.{Frame}
+use Rattle.oz_semantics.specs.declared.configuration.Propagator.{Propagator}
 use Rattle.oz_semantics.specs.declared.configuration.Layer.{Layer}
+use Rattle.oz_semantics.specs.Propagation.{Run, Fails, Narrows, after_run}
+use Rattle.oz_semantics.specs.Schedule.{after_run_of}
 use Rattle.oz_semantics.specs.declared.configuration.Configuration.{Configuration}
 use Rattle.oz_semantics.specs.declared.outcome.RaiseKind.{RaiseKind}
 use Rattle.oz_semantics.specs.declared.outcome.RaiseKind.TheVariants.{FailureTell}
@@ -24,8 +27,8 @@ use Rattle.oz_semantics.specs.declared.outcome.Stepped.TheVariants.{Moved, TopEn
 use Rattle.view_laws.specs.Steps.{IsSound, IsNumbered}
 use Rattle.view_laws.proofs.ChangeLaws.{edit_of, changed_by}
 use Rattle.settle_laws.proofs.FitLaws.{FitsIn, AnswerFits, answer_fits, fits_kept}
-use Rattle.turn_laws.proofs.NumberedLaws.{none_numbered}
-use Rattle.turn_laws.proofs.OrderlyLaws.{frames_edit, terminated_edit, tells_edit, change_edit, term_edit}
+use Rattle.turn_laws.proofs.NumberedLaws.{none_numbered, edits_numbered}
+use Rattle.turn_laws.proofs.OrderlyLaws.{IsEdit, frames_edit, terminated_edit, tells_edit, change_edit, term_edit}
 use Rattle.top_laws.proofs.EditedLaws.{edited_leaves}
 use Rattle.top_laws.proofs.OutsideLaws.{LeavesTop, edit_leaves, end_leaves, left_leaves, TopUnneeded, begun_leaves, top_fits}
 
@@ -121,9 +124,30 @@ module _ (k : Kernel) (before : List Layer) (sound : IsSound before) (unneeded :
   answer_leaves c (RaisesKind kind) fits leaves first = kind_leaves kind (without_top id c.layers) c leaves
   answer_leaves c (RaisesTerm x) fits leaves first = raised_leaves x (without_top id c.layers) c leaves
   answer_leaves c (Operates op space x) fits leaves first = follows 1 c first
+  answer_leaves c (Widens ts) fits leaves first = told_leaves ts (λ ls. ls) c.layers c first (λ told. told)
   answer_leaves c (Rests ready) fits leaves first = follows 1 c first
 
   pub step_below : (c : Configuration) → LeavesTop before c.layers → MovedBelow before (stepped k id c)
   step_below c leaves =
       answer_leaves c (answer_in k.statements c.layers (states_of k.statements c.layers) id.space (stack_of c.layers id)) (answer_fits k.statements c.layers id)
       (edit_leaves id.space inner (with_frames id.number (λ frames. drop 1 frames)) before c.layers (frames_edit id.number (λ frames. drop 1 frames)) leaves) leaves
+
+-- nor does a run of a propagator that is none of the top's
+
+run_edit : (v : View) (p : Propagator) (ts : List Tell) → IsEdit (after_run v p ts)
+run_edit v p ts = record { space = λ l. refl; children = λ l. omega arith; numbered = edits_numbered.run v p ts }
+
+module _ (k : Kernel) (before : List Layer) (sound : IsSound before) (unneeded : TopUnneeded k.statements before) (l : Layer) (p : Propagator) (inner : is_top l.space ≡ false) where
+  run_follows : (c : Configuration) → LeavesTop before c.layers → MovedBelow before (settled k.statements None 1 c)
+  run_follows c leaves =
+      let fits = top_fits before c.layers sound leaves in
+      subst (λ (b : Bool). MovedBelow before (if b then top_failed 1 c else (Moved 1, requeued k.statements None c (triggered k.statements (without_inconsistent c.layers))))) (sym fits)
+      (begun_leaves k.statements before (without_inconsistent c.layers) unneeded (left_leaves before c.layers fits leaves))
+
+  pub propagation_below : (c : Configuration) (run : Run) → LeavesTop before c.layers → MovedBelow before (after_run_of k.statements l p c run)
+  propagation_below c Fails leaves =
+      subst (λ (b : Bool). MovedBelow before (if b then top_failed 1 c else settled k.statements None 1 (record c { layers = failing c.layers l.space }))) (sym inner)
+      (run_follows (record c { layers = failing c.layers l.space }) (end_leaves l.space inner failed before c.layers (λ m. (refl, refl)) edits_numbered.failure leaves))
+  propagation_below c (Narrows ts) leaves =
+      let f : Layer → Layer = after_run (view c.layers l.space) p ts in
+      run_follows (record c { layers = in_layer l.space f c.layers }) (edit_leaves l.space inner f before c.layers (run_edit (view c.layers l.space) p ts) leaves)

@@ -4,9 +4,9 @@ use Rattle.oz_base.specs.declared.names.Ident.{Ident}
 use Rattle.oz_language.specs.declared.kernel.Statement.{Statement}
 use Rattle.oz_language.specs.declared.kernel.Kernel.{Kernel}
 use Rattle.oz_semantics.specs.Names.{is_top}
-use Rattle.oz_semantics.specs.Configurations.{layer_at, layer_of, is_open, counting_child}
+use Rattle.oz_semantics.specs.Configurations.{layer_at, layer_of, is_open, view, counting_child}
 use Rattle.oz_semantics.specs.Sights.{can_step}
-use Rattle.oz_semantics.specs.Spaces.{thread_ready}
+use Rattle.oz_semantics.specs.Spaces.{thread_ready, has_due}
 use Rattle.oz_semantics.specs.Settling.{Turned}
 use Rattle.oz_semantics.specs.Schedule.{turn}
 use Rattle.oz_semantics.specs.Runs.{Ended, TopRaised, run}
@@ -19,12 +19,13 @@ use Rattle.view_laws.specs.Spaceless.{knows_space}
 use Rattle.settle_laws.specs.Turns.{Left}
 use Rattle.turn_laws.specs.Kept.{IsKept}
 
--- no thread of the top can step. Where it is not open none can, whatever their statements. The top was told of no space, so that none of
--- its threads waits for the state of one
+-- no thread of the top can step, and no propagator of it is due. Where it is not open none can, whatever their statements. The top was told
+-- of no space, so that none of its threads waits for the state of one
 abbrev pub TopRests : List Statement → List Layer → Type 0
 TopRests statements layers =
     (knows_space (layer_of layers []) ≡ false)
     × (is_open (layer_of layers []).status ≡ true → (t : Thread) → Contains (layer_of layers []).threads t → can_step (thread_ready statements layers [] t) ≡ false)
+    × (has_due (view layers []) (layer_of layers []) ≡ false)
 
 -- the top is as it was
 abbrev pub IsSameTop : List Layer → List Layer → Type 0

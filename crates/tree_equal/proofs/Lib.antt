@@ -1,12 +1,6 @@
-mod Members
-mod Forests
-mod Told
-mod Pairs
-mod Naming
-mod Joining
-mod Weighing
-mod Ending
-mod Taking
-mod Partition
-mod Looping
+mod Affecting
+mod Touching
+mod Merging
 mod AtOnce
+mod Telling
+mod Lists

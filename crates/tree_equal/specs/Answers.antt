@@ -2,6 +2,7 @@
 use Rattle.std.specs.Prelude.{◌≡◌, Bool, true, false, List, [], ◌∷◌, Option, Some, None}
 use Rattle.std.specs.List.{list_any}
 use Rattle.oz_base.specs.declared.names.Ident.{Ident}
+use Rattle.oz_domains.specs.Domains.{IntSet}
 use Rattle.oz_semantics.specs.Store.{same}
 use Rattle.oz_semantics.specs.Values.{is_like, fields_of}
 use Rattle.oz_semantics.specs.declared.value.Value.{Value}
@@ -41,3 +42,9 @@ Decides (Some v) (Some w) (Some true) = (is_like v w ≡ true) × (fields_of v �
 Decides (Some v) (Some w) (Some false) = is_like v w ≡ false
 Decides o p None = Unit
 Decides o p (Some b) = ⊥
+
+-- neither a value nor a domain
+abbrev pub is_bare : Option Value → Option IntSet → Bool
+is_bare None None = true
+is_bare None (Some s) = false
+is_bare (Some v) domain = false

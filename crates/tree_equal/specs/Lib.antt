@@ -1,3 +1,2 @@
 pub mod Answers
-pub mod Joined
-pub mod Meeting
+pub mod Grown

@@ -1,14 +1,14 @@
 //! Whether two variables are equal, as far as a store says (CTM 2.8.2).
 ghost use Rattle.std.specs.Prelude.{◌≡◌, List, IfOk};
 ghost use Rattle.oz_semantics.specs.Entailment.{equality};
-ghost use Rattle.oz_semantics.specs.Store.{value_of};
 ghost use Rattle.oz_semantics.specs.declared.value.Tell.{Tell};
-ghost use Rattle.tree_equal.specs.Answers.{IsEquality, Decides, decided_as, unless};
+ghost use Rattle.tree_equal.specs.Answers.{IsEquality, decided_as, unless};
 
-use crate::meeting::waits;
+use crate::affected::affected;
+use crate::at_once::{at_once, one_is_bare, undetermined};
 use oz_base::{Ident, Sequence};
 use std::alloc::{AllocError, Global};
-use term_store::{Store, fields_of, is_like};
+use term_store::Store;
 
 /// What a store says of an equation.
 #[derive(Drop)]
@@ -19,22 +19,6 @@ pub enum Equality {
     Contradicted,
     /// It would bind or merge the classes of these variables, which have no value.
     Undecided(Sequence<Ident>),
-}
-
-/// Whether two variables are equal, where their values tell it without their fields.
-fn at_once(store: &Store, left: &Ident, right: &Ident) -> Option<bool>
-    ensures { Decides (value_of store.now left.now) (value_of store.now right.now) result }
-{
-    let value = store.value(left)?;
-    let other = store.value(right)?;
-    if !is_like(value, other) {
-        return Some(false);
-    }
-    if fields_of(value).is_empty() {
-        Some(true)
-    } else {
-        None
-    }
 }
 
 fn decided(equal: bool) -> Equality
@@ -59,7 +43,7 @@ fn unless(waits: Vec<Ident>) -> Equality
 }
 
 /// Whether two variables are equal. It refuses where there is no memory. The fields of two classes are compared once, so that it
-/// ends on trees without end too.
+/// ends on trees without end too. Where the values of the two do not decide it, it is told to a copy of the store.
 pub fn test(
     alloc: Global,
     store: &Store,
@@ -69,14 +53,16 @@ pub fn test(
     ensures { IfOk result (IsEquality store.now (equality store.now left.now right.now)) }
 {
     store.consistent();
-    let classes = store.classes();
-    if classes.are_one(left, right) {
+    if store.same(left, right) {
         return Ok(Equality::Entailed);
     }
     if let Some(equal) = at_once(store, left, right) {
         return Ok(decided(equal));
     }
-    match waits(alloc, store, classes, left, right)? {
+    if one_is_bare(store, left, right) {
+        return Ok(unless(undetermined(alloc, store, left, right)?));
+    }
+    match affected(alloc, store, left, right)? {
         None => Ok(Equality::Contradicted),
         Some(waits) => Ok(unless(waits)),
     }

@@ -1,8 +1,8 @@
 //! Equality of rational trees: whether a store decides that two variables are equal.
 #![tactic(auto)]
 
+mod affected;
+mod at_once;
 mod equality;
-mod joined;
-mod meeting;
 
 pub use equality::{Equality, test};

@@ -27,7 +27,7 @@ use Rattle.turn_laws.specs.Kept.{IsKept, KeptLayers, KeptShown, KeptGoesOn, IsTh
 use Rattle.turn_laws.proofs.OrderlyLaws.{is_there}
 
 -- a layer is the first of its name
-find_layer : (layers : List Layer) (l : Layer) → is_ascending (names_of layers) ≡ true → In l layers → layer_at layers l.space ≡ Some l
+pub find_layer : (layers : List Layer) (l : Layer) → is_ascending (names_of layers) ≡ true → In l layers → layer_at layers l.space ≡ Some l
 find_layer [] l e h = elim h [ ]
 find_layer (k ∷ ls) l e (inl q) =
     ap (λ (b : Bool). cond b (Some k) (find (is_of l.space) ls)) (ap (λ (m : Layer). list_eq m.space l.space) q ∙ names_equal l.space) ∙ ap (λ m. Some m) q

@@ -1,26 +1,29 @@
 -- What is so of a configuration is so after each turn, and where a program opens, the search begins, or a space is committed.
-use Rattle.std.proofs.Common.{◌≡◌, inl, inr, ℕ, ◌+◌, ◌≤◌, Bool, true, false, not, ◌&&◌, if◌then◌else◌, List, [], ◌∷◌, ◌++◌, refl, sym, ap, subst, ◌∙◌, Option, Some, None, drop, arith}
-use Rattle.oz_base.specs.Lists.{holds_of}
+use Rattle.std.proofs.Common.{◌≡◌, inl, inr, ℕ, ◌+◌, ◌≤◌, Bool, true, false, not, ◌&&◌, if◌then◌else◌, List, [], ◌∷◌, ◌++◌, refl, sym, ap, subst, ◌∙◌, Option, Some, None, is_some, drop, arith}
+use Rattle.std.proofs.lemmas.Bool.{false≢true}
+use Rattle.oz_base.specs.Lists.{list_eq, holds_of}
 use Rattle.oz_base.specs.declared.names.Ident.{Ident}
 use Rattle.oz_language.specs.declared.kernel.Statement.{Statement}
 use Rattle.oz_language.specs.declared.kernel.Kernel.{Kernel}
-use Rattle.oz_semantics.specs.Names.{is_top, child_name, space_lt}
+use Rattle.oz_semantics.specs.Names.{is_top, is_below, child_name, space_lt}
 use Rattle.oz_semantics.specs.Store.{View, is_consistent}
-use Rattle.oz_semantics.specs.Configurations.{is_of, layer_of, stack_of, view, in_layer, with_frames, without_terminated, telling, counting_child, spawning, ending, failed, raised_by, frames_of, next_child, new_layer}
-use Rattle.oz_semantics.specs.Answers.{Edit, Answer, Acts, Edits, RaisesKind, RaisesTerm, Operates, Rests}
-use Rattle.oz_semantics.specs.Spaces.{states_of, answer_in}
-use Rattle.oz_semantics.specs.Edits.{starting, created, committed}
+use Rattle.oz_semantics.specs.Configurations.{is_of, layer_at, layer_of, stack_of, view, in_layer, with_frames, without_terminated, telling, counting_child, spawning, ending, failed, raised_by, frames_of, next_child, new_layer}
+use Rattle.oz_semantics.specs.Answers.{Edit, Answer, Acts, Edits, RaisesKind, RaisesTerm, Operates, Widens, Rests}
+use Rattle.oz_semantics.specs.Spaces.{sight, states_of, answer_in}
+use Rattle.oz_semantics.specs.Edits.{starting, created, committing, committed}
 use Rattle.oz_semantics.specs.Changes.{changed_all}
 use Rattle.oz_semantics.specs.Effects.{Effect, Makes, Tells, ShowsText, act_effect}
 use Rattle.oz_semantics.specs.Exceptions.{is_failure, raise_term, with_term, unwound}
 use Rattle.oz_semantics.specs.Texts.{Printed, term_text}
 use Rattle.oz_semantics.specs.Triggers.{triggered}
-use Rattle.oz_semantics.specs.Settling.{Turned, may_fail, is_inconsistent, is_among, top_is_inconsistent, top_failed, top_ended, without_inconsistent, runnable, requeued, settled, term_variable, with_raised}
+use Rattle.oz_semantics.specs.Settling.{Turned, may_fail, is_inconsistent, is_among, top_is_inconsistent, failing, top_failed, top_ended, without_inconsistent, runnable, requeued, settled, term_variable, with_raised}
 use Rattle.oz_semantics.specs.Steps.{went_on, ended_by, uncaught, raised_to, raised, raised_kind, told, after_effect, edit_tells, edited, after_edit, after_answer, without_top, stepped}
-use Rattle.oz_semantics.specs.Schedule.{turn_of}
+use Rattle.oz_semantics.specs.Propagation.{Run, Fails, Narrows, run_of, after_run}
+use Rattle.oz_semantics.specs.Schedule.{least_due, after_run_of, propagated, turn_of_queue, turn_of}
 use Rattle.oz_semantics.specs.Runs.{opening_environment, top_layer, left_by}
 use Rattle.oz_semantics.specs.declared.value.Tell.{Tell}
 use Rattle.oz_semantics.specs.declared.configuration.Frame.{Frame}
+use Rattle.oz_semantics.specs.declared.configuration.Propagator.{Propagator}
 use Rattle.oz_semantics.specs.declared.configuration.Layer.{Layer}
 use Rattle.oz_semantics.specs.declared.configuration.Configuration.{Configuration}
 use Rattle.oz_semantics.specs.declared.outcome.RaiseKind.{RaiseKind}
@@ -30,24 +33,29 @@ use Rattle.oz_laws.proofs.SameLaws.{In, In-from_contains, contains-from_In, and-
 use Rattle.view_laws.specs.Steps.{IsSound, IsNumbered}
 use Rattle.view_laws.specs.Queues.{is_once}
 use Rattle.view_laws.specs.Needs.{NoneNeeded}
-use Rattle.view_laws.proofs.Members.{decide, not_both, some_of}
+use Rattle.view_laws.proofs.Members.{decide, not_both, some_of, has-left, has-right}
 use Rattle.view_laws.proofs.ListLaws.{in_edit, found_in}
-use Rattle.view_laws.proofs.SightLaws.{creation_unseen}
+use Rattle.view_laws.proofs.SightLaws.{creation_unseen, commitment_unseen, commitment_seen}
+use Rattle.view_laws.proofs.ChoiceLaws.{committed_consistent}
+use Rattle.view_laws.specs.Sights.{committed_tells}
+use Rattle.view_laws.proofs.NameLaws.{names_equal}
 use Rattle.view_laws.proofs.TreeLaws.{in_put}
 use Rattle.view_laws.proofs.QueueLaws.{queue_exact, queue_once, not_false}
 use Rattle.view_laws.proofs.NumberLaws.{runnable_once}
 use Rattle.need_laws.proofs.FireLaws.{all_fired}
 use Rattle.need_laws.proofs.AfterLaws.{fired_sound}
-use Rattle.need_laws.proofs.RoundLaws.{none_left}
+use Rattle.need_laws.proofs.RoundLaws.{none_left, none_in}
+use Rattle.edit_laws.proofs.NameLaws.{top_is}
 use Rattle.settle_laws.specs.Turns.{opening_layers}
 use Rattle.settle_laws.proofs.FitLaws.{FitsIn, AnswerFits, answer_fits, fits_kept}
-use Rattle.settle_laws.proofs.SoundLaws.{left_sound, sound_top, committed_sound}
+use Rattle.settle_laws.proofs.SoundLaws.{some_found, left_sound, sound_top}
+use Rattle.settle_laws.proofs.TellLaws.{consistent_part}
 use Rattle.settle_laws.proofs.OpeningLaws.{opening_sound}
 use Rattle.settle_laws.proofs.TreeSteps.{opening_tree}
 use Rattle.turn_laws.specs.Orderly.{AreOrderly}
-use Rattle.turn_laws.specs.Kept.{IsKept, KeptTurn, KeptStep, KeptOpening, KeptRoot, KeptChosen}
-use Rattle.turn_laws.proofs.NumberedLaws.{none_numbered, spawned_numbered}
-use Rattle.turn_laws.proofs.OrderlyLaws.{edit_orderly, end_orderly, left_orderly, fired_orderly, frames_edit, term_edit, popped_orderly, tells_edit, changed_orderly, ended_orderly, created_orderly, committed_orderly, edited_orderly}
+use Rattle.turn_laws.specs.Kept.{IsKept, KeptTurn, KeptStep, KeptRun, KeptOpening, KeptRoot, KeptChosen}
+use Rattle.turn_laws.proofs.NumberedLaws.{none_numbered, spawned_numbered, edits_numbered}
+use Rattle.turn_laws.proofs.OrderlyLaws.{IsEdit, edit_orderly, end_orderly, left_orderly, fired_orderly, frames_edit, term_edit, popped_orderly, tells_edit, changed_orderly, ended_orderly, created_orderly, committed_orderly, edited_orderly}
 
 -- where the machine moved, it is so
 abbrev MovedKept : List Statement → Turned → Type 0
@@ -174,6 +182,7 @@ module _ (k : Kernel) (id : Ident) where
   answer_kept c (RaisesKind kind) fits good first off = kind_kept kind (without_top id c.layers) c good off
   answer_kept c (RaisesTerm x) fits good first off = raised_kept x (without_top id c.layers) c good off
   answer_kept c (Operates op space x) fits good first off = follows 1 c first off
+  answer_kept c (Widens ts) fits good first off = told_kept ts (λ ls. ls) c.layers c first (λ told. told) off
   answer_kept c (Rests ready) fits good first off = follows 1 c first off
 
   step_leaves : (c : Configuration) → AreOrderly c.layers → IsOff id c.queue → MovedKept k.statements (stepped k id c)
@@ -189,12 +198,39 @@ head_leaves k id queue c kept =
 pub kept_step : KeptStep
 kept_step k id queue c n d kept e = subst (MovedKept k.statements) e (head_leaves k id queue c kept)
 
-turn_leaves : (k : Kernel) (c : Configuration) (queue : List Ident) → IsKept k.statements (record c { queue = queue }) → MovedKept k.statements (turn_of k c queue)
-turn_leaves k c [] kept = tt
-turn_leaves k c (id ∷ queue) kept = head_leaves k id queue c kept
+-- Runs of propagators
+
+run_edit : (v : View) (p : Propagator) (ts : List Tell) → IsEdit (after_run v p ts)
+run_edit v p ts = record { space = λ l. refl; children = λ l. omega arith; numbered = edits_numbered.run v p ts }
+
+run_leaves : (statements : List Statement) (l : Layer) (p : Propagator) (c : Configuration) (run : Run) → IsKept statements c → MovedKept statements (after_run_of statements l p c run)
+run_leaves statements l p c Fails kept = by (is_top l.space)
+  where
+    by : (b : Bool) → MovedKept statements (if b then top_failed 1 c else settled statements None 1 (record c { layers = failing c.layers l.space }))
+    by true = tt
+    by false =
+        settled_kept statements None 1 (record c { layers = failing c.layers l.space })
+        (end_orderly l.space failed c.layers (λ m. (refl, refl)) edits_numbered.failure (record { tree = kept.tree; top = kept.top; numbered = kept.numbered })) kept.once refl
+run_leaves statements l p c (Narrows ts) kept =
+    settled_kept statements None 1 (record c { layers = in_layer l.space (after_run (view c.layers l.space) p ts) c.layers })
+    (edit_orderly l.space (after_run (view c.layers l.space) p ts) c.layers (run_edit (view c.layers l.space) p ts) (record { tree = kept.tree; top = kept.top; numbered = kept.numbered })) kept.once refl
+
+propagated_leaves : (statements : List Statement) (due : Layer × Propagator) (c : Configuration) → IsKept statements c → MovedKept statements (propagated statements due c)
+propagated_leaves statements due c kept = run_leaves statements due.0 due.1 c (run_of (view c.layers due.0.space) due.1) kept
+
+pub kept_run : KeptRun
+kept_run statements due c n d kept e = subst (MovedKept statements) e (propagated_leaves statements due c kept)
+
+queue_leaves : (k : Kernel) (c : Configuration) (queue : List Ident) → IsKept k.statements (record c { queue = queue }) → MovedKept k.statements (turn_of_queue k c queue)
+queue_leaves k c [] kept = tt
+queue_leaves k c (id ∷ queue) kept = head_leaves k id queue c kept
+
+turn_leaves : (k : Kernel) (c : Configuration) (due : Option (Layer × Propagator)) → IsKept k.statements c → MovedKept k.statements (turn_of k c due)
+turn_leaves k c None kept = queue_leaves k c c.queue kept
+turn_leaves k c (Some due) kept = propagated_leaves k.statements due c kept
 
 pub kept_turn : KeptTurn
-kept_turn k c n d kept e = subst (MovedKept k.statements) e (turn_leaves k c c.queue kept)
+kept_turn k c n d kept e = subst (MovedKept k.statements) e (turn_leaves k c (least_due c.layers) kept)
 
 -- Where a program opens
 
@@ -257,8 +293,61 @@ kept_root statements procedure c kept =
 
 -- Where it commits a space
 
+top_name : (s : List ℕ) → is_top s ≡ true → is_below s [] ≡ true
+top_name [] e = refl
+top_name (n ∷ s) e = absurd (false≢true e)
+
+top_only : (s : List ℕ) → is_below s [] ≡ true → s ≡ []
+top_only [] e = refl
+top_only (n ∷ s) e = absurd (false≢true e)
+
+found_there : (layers : List Layer) (m : Layer) (space : List ℕ) → In m layers → m.space ≡ space → is_some (layer_at layers space) ≡ true
+found_there layers m space h e = ap is_some (some_found (is_of space) layers m h (subst (λ s. list_eq m.space s ≡ true) e (names_equal m.space))).1
+
+and_left_known : (a b c : Bool) → a ≡ true → b ≡ true → (a && (b && not c)) ≡ false → c ≡ true
+and_left_known true true true e f g = refl
+and_left_known true true false e f g = absurd (false≢true (sym g))
+and_left_known true false c e f g = absurd (false≢true f)
+and_left_known false b c e f g = absurd (false≢true e)
+
+-- a layer of the top that may fail saw what is consistent before, and does so still
+module _ (statements : List Statement) (space : List ℕ) (i : ℕ) (layers : List Layer) (sound : top_is_inconsistent layers ≡ false) where
+  abbrev later : List Layer
+  later = committed statements space i layers
+
+  seen_above : (m : Layer) → In m layers → is_top m.space ≡ true → is_consistent (view layers m.space) ≡ true → (b : Bool) → is_below space m.space ≡ b → is_consistent (view later m.space) ≡ true
+  seen_above m h top e false apart = ap is_consistent (commitment_unseen statements layers space m.space i (inl apart)) ∙ e
+  seen_above m h top e true below =
+      let own : space ≡ m.space = top_only space (subst (λ s. is_below space s ≡ true) (top_is m.space top) below) ∙ sym (top_is m.space top) in
+      let besides = commitment_seen statements layers space m.space i (found_there layers m space h (sym own)) below in
+      consistent_part (view later m.space) (view layers m.space ++ committed_tells statements layers space i)
+      (λ t c. elim (besides.only t c) [ inl k ↦ has-left t _ _ k | inr k ↦ has-right t (view layers m.space) _ k ])
+      (subst (λ s. is_consistent (view layers s ++ committed_tells statements layers space i) ≡ true) own
+      (committed_consistent statements layers space i (ap (λ s. is_consistent (view layers s)) own ∙ e)))
+
+  no_top : (m l : Layer) → In m layers → m.space ≡ l.space → m.status ≡ l.status → is_top l.space ≡ true → is_inconsistent later l ≡ true → ⊥
+  no_top m l h same_space same_status top bad =
+      let own_top : is_top m.space ≡ true = ap is_top same_space ∙ top in
+      let before : is_consistent (view layers m.space) ≡ true =
+      and_left_known (is_top m.space) (may_fail m.status) (is_consistent (view layers m.space)) own_top (ap may_fail same_status ∙ and-left (may_fail l.status) _ bad)
+      (none_in (λ (n : Layer). is_top n.space && is_inconsistent layers n) layers sound m h) in
+      not_both _ (and-right (may_fail l.status) _ bad) (ap not (ap (λ s. is_consistent (view later s)) (sym same_space) ∙ seen_above m h own_top before (is_below space m.space) refl))
+
+  -- it leaves a consistent top consistent
+  pub committed_top : top_is_inconsistent later ≡ false
+  committed_top = elim (decide (top_is_inconsistent later)) [
+    | inl e ↦ (let l = some_of (λ (m : Layer). is_top m.space && is_inconsistent later m) later e in
+        let top = and-left (is_top l.0.space) (is_inconsistent later l.0) l.2 in
+        let bad = and-right (is_top l.0.space) (is_inconsistent later l.0) l.2 in
+        elim (in_edit (is_of space) (committing (sight statements layers space) i) layers l.0 (In-from_contains later l.0 l.1)) [
+          | inl h ↦ absurd (no_top l.0 l.0 h refl refl top bad)
+          | inr r ↦ absurd (no_top r.0 l.0 (found_in (is_of space) (committing (sight statements layers space) i) layers r.0 r.1).0 (ap (λ (m : Layer). m.space) (sym r.2)) (ap (λ (m : Layer). m.status) (sym r.2)) top bad)
+        ])
+    | inr e ↦ e
+  ]
+
 pub kept_chosen : KeptChosen
 kept_chosen statements space i c kept =
     left_kept statements None 1 (record c { layers = committed statements space i c.layers })
     (committed_orderly statements space i c.layers (record { tree = kept.tree; top = kept.top; numbered = kept.numbered })) kept.once refl
-    (sound_top (committed statements space i c.layers) (committed_sound statements space i c.layers kept.sound))
+    (committed_top statements space i c.layers (sound_top c.layers kept.sound))

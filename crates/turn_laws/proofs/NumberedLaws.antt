@@ -120,8 +120,9 @@ chosen_number i t (Some offer) = refl
 
 choice_numbered : (s : Sight) (i : ℕ) → KeepsNumbered (committing s i)
 choice_numbered s i l h =
-    same_numbers l (edit_first (λ t. is_some (thread_offer s t)) (λ t. choosing i t (thread_offer s t)) l.threads)
-    (numbers_edited (λ t. is_some (thread_offer s t)) (λ t. choosing i t (thread_offer s t)) (λ t. chosen_number i t (thread_offer s t)) l.threads) h
+    let told = same_numbers l (edit_first (λ t. is_some (thread_offer s t)) (λ t. choosing i t (thread_offer s t)) l.threads)
+    (numbers_edited (λ t. is_some (thread_offer s t)) (λ t. choosing i t (thread_offer s t)) (λ t. chosen_number i t (thread_offer s t)) l.threads) h in
+    record { begins = told.begins; counted = told.counted; rising = told.rising; given = told.given }
 
 pub edits_numbered : EditsNumbered
 edits_numbered = record {
@@ -138,6 +139,8 @@ edits_numbered = record {
   port = λ end l h. record { begins = h.begins; counted = h.counted; rising = h.rising; given = h.given };
   end = λ number end l h. record { begins = h.begins; counted = h.counted; rising = h.rising; given = h.given };
   trigger = λ procedure variable l h. record { begins = h.begins; counted = h.counted; rising = h.rising; given = h.given };
+  propagator = λ r xs l h. record { begins = h.begins; counted = h.counted; rising = h.rising; given = h.given };
+  run = λ v p ts l h. record { begins = h.begins; counted = h.counted; rising = h.rising; given = h.given };
   choice = choice_numbered;
   failure = λ l h. none_numbered _ refl h.begins;
   exception = λ x l h. none_numbered _ refl h.begins;

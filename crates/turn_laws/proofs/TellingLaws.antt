@@ -1,42 +1,37 @@
 -- What a step that tells something makes of the queue, where no space is below the one that is told.
-use Rattle.std.proofs.Common.{◌≡◌, inl, inr, ℕ, Bool, true, false, not, ◌&&◌, if◌then◌else◌, cond, List, [], ◌∷◌, ◌++◌, refl, sym, ap, ap₂, subst, ◌∙◌, Contains, Option, Some, None, is_some, filter, map, flat_map}
+use Rattle.std.proofs.Common.{◌≡◌, inl, inr, ℕ, Bool, true, false, not, ◌||◌, if◌then◌else◌, cond, List, [], ◌∷◌, ◌++◌, refl, sym, ap, ap₂, subst, ◌∙◌, Option, Some, None, is_some, filter, map, flat_map}
 use Rattle.std.specs.List.{find, list_any}
-use Rattle.std.proofs.lemmas.Bool.{false≢true}
 use Rattle.std.proofs.lemmas.List.{append-nil}
 use Rattle.std.proofs.lemmas.List.Elements.{filter-append}
 use Rattle.oz_base.specs.Lists.{list_eq}
 use Rattle.oz_base.specs.declared.names.Ident.{Ident}
 use Rattle.oz_language.specs.declared.kernel.Statement.{Statement}
 use Rattle.oz_semantics.specs.Names.{is_below, is_properly_below, named}
-use Rattle.oz_semantics.specs.Store.{View, IsConsistent, is_consistent}
+use Rattle.oz_semantics.specs.Store.{View, is_consistent}
 use Rattle.oz_semantics.specs.Configurations.{is_of, layer_at, layer_of, is_open, view, in_layer, without_terminated, telling}
-use Rattle.oz_semantics.specs.Sights.{Readiness, Steps, Waits, WaitsForState, Offers, can_step}
+use Rattle.oz_semantics.specs.Sights.{Readiness, can_step}
 use Rattle.oz_semantics.specs.Spaces.{states_of, thread_ready}
 use Rattle.oz_semantics.specs.Changes.{Change, GivesOut, changed, changed_all, done}
-use Rattle.oz_semantics.specs.Settling.{Turned, may_fail, is_inconsistent, inconsistent_spaces, is_among, mover_in, queue_after, runnable_in, runnable, settled}
+use Rattle.oz_semantics.specs.Settling.{Turned, is_inconsistent, inconsistent_spaces, is_among, mover_in, queue_after, runnable_in, runnable, settled}
 use Rattle.oz_semantics.specs.Steps.{without_top}
 use Rattle.oz_semantics.specs.declared.value.Tell.{Tell}
 use Rattle.oz_semantics.specs.declared.configuration.Thread.{Thread}
-use Rattle.oz_semantics.specs.declared.configuration.Status.{Status}
-use Rattle.oz_semantics.specs.declared.configuration.Status.TheVariants as status
 use Rattle.oz_semantics.specs.declared.configuration.Layer.{Layer}
 use Rattle.oz_semantics.specs.declared.configuration.Configuration.{Configuration}
 use Rattle.oz_semantics.specs.declared.outcome.Stepped.TheVariants.{Moved}
 use Rattle.oz_laws.proofs.SameLaws.{In, In-from_contains, contains-from_In, In-flat, In-flat_back, and-right}
-use Rattle.oz_laws.proofs.StoreLaws.{tests_consistent}
 use Rattle.view_laws.specs.Spaceless.{gives_space, has_spaces, plain_ready}
-use Rattle.view_laws.specs.Readies.{Keeps, Stays, seeing}
+use Rattle.view_laws.specs.Readies.{seeing}
 use Rattle.view_laws.specs.Needs.{NoneNeeded}
 use Rattle.view_laws.specs.Trees.{is_ascending, names_of}
 use Rattle.view_laws.specs.Steps.{spawned_from, MadeOf, IsSound}
-use Rattle.view_laws.proofs.Members.{decide, not_both, In-left, In-cases}
-use Rattle.view_laws.proofs.ListLaws.{among_in, in_among, in_filter, filter_all, filter_none, map_in, in_edit, edit_in, edited_in, found_in}
+use Rattle.view_laws.proofs.Members.{bool_eq, decide, not_both, In-left, In-cases}
+use Rattle.view_laws.proofs.ListLaws.{among_in, in_among, in_filter, filter_none, map_in, in_edit, edit_in, found_in}
 use Rattle.view_laws.proofs.NameLaws.{names_equal, equal_names, properly, properly_by}
-use Rattle.view_laws.proofs.SightLaws.{space_of, change_unseen, tell_seen}
-use Rattle.view_laws.proofs.TreeLaws.{one_of_name}
+use Rattle.view_laws.proofs.SightLaws.{space_of, change_unseen}
+use Rattle.view_laws.proofs.TreeLaws.{one_of_name, same_named_layer}
 use Rattle.view_laws.proofs.SpacelessLaws.{spaceless_ready, quiet_spaceless, tell_spaceless}
-use Rattle.view_laws.proofs.StayLaws.{readiness_stays}
-use Rattle.view_laws.proofs.QueueLaws.{mover_able, can_from, from_can, CanStep, queue_exact}
+use Rattle.view_laws.proofs.QueueLaws.{mover_able, can_from, queue_exact}
 use Rattle.view_laws.proofs.QuietLaws.{quiet_queue}
 use Rattle.view_laws.proofs.ChangeLaws.{edit_of, changed_by, edit_keeps}
 use Rattle.view_laws.proofs.StepLaws.{changes_made}
@@ -50,9 +45,9 @@ use Rattle.settle_laws.proofs.SoundLaws.{sound_settles}
 use Rattle.settle_laws.proofs.TellLaws.{tell_below}
 use Rattle.turn_laws.specs.Orderly.{AreOrderly}
 use Rattle.turn_laws.specs.Kept.{IsKept}
-use Rattle.turn_laws.specs.Telling.{IsAlone, others_of, staying, TellQueue}
+use Rattle.turn_laws.specs.Telling.{IsAlone, others_of, is_able_still, staying, TellQueue}
 use Rattle.turn_laws.proofs.OrderlyLaws.{changes_orderly, edit_orderly, tells_edit, is_there}
-use Rattle.turn_laws.proofs.HeadLaws.{kept_head, head_numbered}
+use Rattle.turn_laws.proofs.HeadLaws.{kept_head, head_numbered, own_among}
 
 -- A tell may come after the changes
 
@@ -106,30 +101,6 @@ not_below_itself space = elim (decide (is_properly_below space space)) [
   | inr k ↦ k
 ]
 
-open_may_fail : (s : Status) → is_open s ≡ true → may_fail s ≡ true
-open_may_fail status.Open e = refl
-open_may_fail status.Failed e = absurd (false≢true e)
-open_may_fail status.Merged e = absurd (false≢true e)
-open_may_fail (status.Raised x) e = refl
-
-not_not : (b : Bool) → not b ≡ false → b ≡ true
-not_not true e = refl
-not_not false e = sym e
-
--- an open layer of sound layers sees what is consistent
-open_consistent : (layers : List Layer) (l : Layer) → IsSound layers → In l layers → is_open l.status ≡ true → IsConsistent (view layers l.space)
-open_consistent layers l sound h opened =
-    let fits : (true && not (is_consistent (view layers l.space))) ≡ false =
-    ap (λ b. b && not (is_consistent (view layers l.space))) (sym (open_may_fail l.status opened)) ∙ sound l (contains-from_In layers l h) in
-    (tests_consistent (view layers l.space)).0 (not_not _ fits)
-
--- what can step can step still
-stays_step : (before after : List Tell) (r q : Readiness) → can_step r ≡ true → Stays before after r q → can_step q ≡ true
-stays_step before after Steps q e h = ap can_step h
-stays_step before after (Waits xs) q e h = absurd (false≢true e)
-stays_step before after (WaitsForState space) q e h = absurd (false≢true e)
-stays_step before after (Offers offer xs) q e h = absurd (false≢true e)
-
 module _ (space : List ℕ) (ts : List Tell) (old : List Layer) (sound : IsSound old) (at : is_some (layer_at old space) ≡ true) (alone : IsAlone old space)
     (fits : is_consistent (view old space ++ ts) ≡ true) (none : has_spaces old ≡ false) (plain : list_any gives_space ts ≡ false) where
   abbrev pub new : List Layer
@@ -151,12 +122,6 @@ module _ (space : List ℕ) (ts : List Tell) (old : List Layer) (sound : IsSound
     | inr e ↦ e
   ]
 
-  all_seen : (other : List ℕ) → Keeps (view old other) (view new other)
-  all_seen other = elim (decide (is_below space other)) [
-    | inl e ↦ (tell_seen (telling ts) old space other ts (λ l k. refl) (λ l k. refl) at e).kept
-    | inr e ↦ λ t c. subst (λ (v : View). Contains v t) (sym (change_unseen (telling ts) old space other (λ l k. refl) e)) c
-  ]
-
   -- no space is a value yet, so a thread goes by what it sees
   later_none : has_spaces new ≡ false
   later_none = tell_spaceless (telling ts) old space ts (λ l. refl) plain none
@@ -167,47 +132,28 @@ module _ (space : List ℕ) (ts : List Tell) (old : List Layer) (sound : IsSound
   plain_later : (statements : List Statement) (other : List ℕ) (t : Thread) → thread_ready statements new other t ≡ plain_ready (seeing statements other (view new other)) t
   plain_later statements other t = spaceless_ready statements new (states_of statements new) other t later_none
 
-  -- by a layer of the same space, open too, among the later ones
-  ready_later : (statements : List Statement) (m : Layer) (t : Thread) → In m new → is_open m.status ≡ true → can_step (thread_ready statements old m.space t) ≡ true
-      → can_step (thread_ready statements new m.space t) ≡ true
-  ready_later statements m t h opened e =
-      ap can_step (plain_later statements m.space t)
-      ∙ stays_step (view old m.space) (view new m.space) (plain_ready (seeing statements m.space (view old m.space)) t) (plain_ready (seeing statements m.space (view new m.space)) t)
-      (ap can_step (sym (plain_before statements m.space t)) ∙ e)
-      (readiness_stays statements m.space (view old m.space) (view new m.space) t (all_seen m.space) (open_consistent new m sound_later h opened))
+  -- the threads of another layer can step just where they could
+  same_runs : (statements : List Statement) (l : Layer) → In l new → (l.space ≡ space → ⊥) → runnable_in statements new l ≡ runnable_in statements old l
+  same_runs statements l h n =
+      let unseen : view new l.space ≡ view old l.space = change_unseen (telling ts) old space l.space (λ m e. refl) (apart_below space l.space (alone_later l h) n) in
+      let each : ◌≡◌ {A = Thread → Readiness} (thread_ready statements new l.space) (thread_ready statements old l.space) =
+      λ i t. (plain_later statements l.space t ∙ ap (λ (v : View). plain_ready (seeing statements l.space v) t) unseen ∙ sym (plain_before statements l.space t)) i in
+      ap (λ (f : Thread → Readiness). if is_open l.status then map (λ (t : Thread). named l.space t.number) (filter (λ t. can_step (f t)) l.threads) else []) each
 
-  can_later : (statements : List Statement) (l m : Layer) (id : Ident) → In m new → m.space ≡ l.space → m.status ≡ l.status → m.threads ≡ l.threads → CanStep statements old l id → CanStep statements new m id
-  can_later statements l m id h space_is status_is threads_is c =
-      let opened : is_open m.status ≡ true = ap is_open status_is ∙ c.opened in
-      record {
-        opened = opened;
-        thread = c.thread;
-        among = subst (In c.thread) (sym threads_is) c.among;
-        ready = ready_later statements m c.thread h opened (ap (λ s. can_step (thread_ready statements old s c.thread)) space_is ∙ c.ready);
-        name = ap (λ s. named s c.thread.number) space_is ∙ c.name;
-      }
-
-  -- what could step can step still
-  pub runs_later : (statements : List Statement) (id : Ident) → In id (runnable statements old) → In id (runnable statements new)
-  runs_later statements id h =
+  pub other_runs : (statements : List Statement) (id : Ident) → (id.space ≡ space → ⊥) → In id (runnable statements old) → In id (runnable statements new)
+  other_runs statements id n h =
       let l = In-flat_back (runnable_in statements old) id old h in
       let c = can_from statements old l.0 id l.2 in
+      let own : l.0.space ≡ id.space = ap (λ (i : Ident). i.space) c.name in
       elim (edit_in (is_of space) (telling ts) old l.0 l.1) [
-        | inl k ↦ In-flat (runnable_in statements new) l.0 id new k (from_can statements new l.0 id (can_later statements l.0 l.0 id k refl refl refl c))
-        | inr e ↦ (let there : In (telling ts l.0) new = edited_in (is_of space) (telling ts) old l.0 e in
-            In-flat (runnable_in statements new) (telling ts l.0) id new there (from_can statements new (telling ts l.0) id (can_later statements l.0 (telling ts l.0) id there refl refl refl c)))
+        | inl k ↦ In-flat (runnable_in statements new) l.0 id new k (subst (In id) (sym (same_runs statements l.0 k (λ q. n (sym own ∙ q)))) l.2)
+        | inr e ↦ absurd (n (sym own ∙ space_of old space l.0 e))
       ]
 
-  -- and of a layer of another space just that could step
   pub other_ran : (statements : List Statement) (l : Layer) (id : Ident) → In l new → is_of space l ≡ false → In id (runnable_in statements new l) → In id (runnable statements old)
   other_ran statements l id h apart i = elim (in_edit (is_of space) (telling ts) old l h) [
     | inl k ↦ (let n : l.space ≡ space → ⊥ = λ q. not_both _ (subst (λ s. list_eq s space ≡ true) (sym q) (names_equal space)) apart in
-        let unseen : view new l.space ≡ view old l.space = change_unseen (telling ts) old space l.space (λ m e. refl) (apart_below space l.space (alone_later l h) n) in
-        let each : ◌≡◌ {A = Thread → Readiness} (thread_ready statements new l.space) (thread_ready statements old l.space) =
-        λ i t. (plain_later statements l.space t ∙ ap (λ (v : View). plain_ready (seeing statements l.space v) t) unseen ∙ sym (plain_before statements l.space t)) i in
-        let same : runnable_in statements new l ≡ runnable_in statements old l =
-        ap (λ (f : Thread → Readiness). if is_open l.status then map (λ (t : Thread). named l.space t.number) (filter (λ t. can_step (f t)) l.threads) else []) each in
-        In-flat (runnable_in statements old) l id old k (subst (In id) same i))
+        In-flat (runnable_in statements old) l id old k (subst (In id) (same_runs statements l h n) i))
     | inr r ↦ (let own : is_of space r.0 ≡ true = (found_in (is_of space) (telling ts) old r.0 r.1).1 in
         absurd (not_both _ (ap (is_of space) r.2 ∙ own) apart))
   ]
@@ -366,10 +312,14 @@ module _ (statements : List Statement) (c : Configuration) (id : Ident) (queue :
   abbrev comes : Ident → Bool
   comes o = not (is_among stay o)
 
-  rest_stays : filter (is_among ids) queue ≡ queue
-  rest_stays =
-      filter_all (is_among ids) queue
-      (λ o h. in_among ids o (runs_later id.space ts quiet still_sound still_there still_alone still_fits still_spaceless plain statements o (queue_ran o h)))
+  abbrev still : Ident → Bool
+  still = is_able_still statements told id.space
+
+  not_own : (o : Ident) → (o.space ≡ id.space → ⊥) → still o ≡ true
+  not_own o n = elim (decide (list_eq o.space id.space)) [
+    | inl k ↦ absurd (n (equal_names o.space id.space k))
+    | inr k ↦ ap (λ b. not b || is_among (runnable_in statements told (layer_of told id.space)) o) k
+  ]
 
   others_stay : (l : Layer) → In l told → is_of id.space l ≡ false → filter comes (runnable_in statements told l) ≡ []
   others_stay l h apart =
@@ -379,13 +329,41 @@ module _ (statements : List Statement) (c : Configuration) (id : Ident) (queue :
       λ q. not_both _ (subst (λ s. list_eq s id.space ≡ true) (sym (ap (λ (x : Ident). x.space) r.name ∙ q)) (names_equal id.space)) apart in
       let held : In o queue =
       others_queued o n (other_ran id.space ts quiet still_sound still_there still_alone still_fits still_spaceless plain statements l o h apart i) in
-      ap not (in_among stay o (In-left o queue (mover_in (Some id) ids) held)))
+      ap not (in_among stay o (In-left o (filter still queue) (mover_in (Some id) ids) (in_filter still queue o held (not_own o n)))))
 
   told_there : layer_at told id.space ≡ Some (layer_of told id.space)
   told_there = is_there told id.space (quiet_there_told quiet still_there)
     where
       quiet_there_told : (ls : List Layer) → is_some (layer_at ls id.space) ≡ true → is_some (layer_at (in_layer id.space (telling ts) ls) id.space) ≡ true
       quiet_there_told ls e = is_found_edit (is_of id.space) (is_of id.space) (telling ts) (λ l. refl) ls ∙ e
+
+  -- a thread of the space can step just where its layer says so
+  own_runs : (o : Ident) → o.space ≡ id.space → is_among ids o ≡ is_among (runnable_in statements told (layer_of told id.space)) o
+  own_runs o q = bool_eq _ _ forward back
+    where
+      forward : is_among ids o ≡ true → is_among (runnable_in statements told (layer_of told id.space)) o ≡ true
+      forward e =
+          let l = In-flat_back (runnable_in statements told) o told (among_in ids o e) in
+          let c = can_from statements told l.0 o l.2 in
+          let name : l.0.space ≡ (layer_of told id.space).space = ap (λ (i : Ident). i.space) c.name ∙ q ∙ sym (space_of told id.space (layer_of told id.space) told_there) in
+          let same : l.0 ≡ layer_of told id.space = same_named_layer told l.0 (layer_of told id.space) told_orderly.tree.ordered l.1 (own_among told id.space told_there) name in
+          in_among (runnable_in statements told (layer_of told id.space)) o (subst (λ (m : Layer). In o (runnable_in statements told m)) same l.2)
+
+      back : is_among (runnable_in statements told (layer_of told id.space)) o ≡ true → is_among ids o ≡ true
+      back e = in_among ids o (In-flat (runnable_in statements told) (layer_of told id.space) o told (own_among told id.space told_there) (among_in (runnable_in statements told (layer_of told id.space)) o e))
+
+  filter_same : (p q : Ident → Bool) (os : List Ident) → ((o : Ident) → In o os → p o ≡ q o) → filter p os ≡ filter q os
+  filter_same p q [] h = refl
+  filter_same p q (o ∷ os) h =
+      ap (λ (b : Bool). cond b (o ∷ filter p os) (filter p os)) (h o (inl refl))
+      ∙ ap (λ (rest : List Ident). cond (q o) (o ∷ rest) rest) (filter_same p q os (λ x i. h x (inr i)))
+
+  rest_stays : filter (is_among ids) queue ≡ filter still queue
+  rest_stays = filter_same (is_among ids) still queue (λ o h. elim (decide (list_eq o.space id.space)) [
+    | inl k ↦ own_runs o (equal_names o.space id.space k) ∙ sym (ap (λ b. not b || is_among (runnable_in statements told (layer_of told id.space)) o) k)
+    | inr k ↦ (let n : o.space ≡ id.space → ⊥ = λ q. not_both _ (subst (λ s. list_eq s id.space ≡ true) (sym q) (names_equal id.space)) k in
+        in_among ids o (other_runs id.space ts quiet still_sound still_there still_alone still_fits still_spaceless plain statements o n (queue_ran o h)) ∙ sym (not_own o n))
+  ])
 
   own_comes : filter comes ids ≡ others_of stay (runnable_in statements told (layer_of told id.space))
   own_comes =

@@ -1,5 +1,5 @@
 -- What is so of a configuration from turn to turn, and what a step that tells nothing makes of one of which it is so.
-use Rattle.std.specs.Prelude.{ℕ, ◌≡◌, true, false, List, [], ◌∷◌, ◌++◌, Contains, Some, is_some}
+use Rattle.std.specs.Prelude.{ℕ, ◌≡◌, true, false, ◌||◌, List, [], ◌∷◌, ◌++◌, Contains, Some, is_some}
 use Rattle.std.specs.List.{list_any}
 use Rattle.oz_base.specs.Lists.{holds_of}
 use Rattle.oz_base.specs.declared.names.Ident.{Ident}
@@ -12,18 +12,19 @@ use Rattle.oz_semantics.specs.Spaces.{thread_ready, goes_on}
 use Rattle.oz_semantics.specs.Changes.{Change, changed_all}
 use Rattle.oz_semantics.specs.Settling.{Turned, mover_in, runnable_in, runnable}
 use Rattle.oz_semantics.specs.Steps.{went_on, without_top, stepped}
-use Rattle.oz_semantics.specs.Schedule.{turn}
+use Rattle.oz_semantics.specs.Schedule.{propagated, turn}
 use Rattle.oz_semantics.specs.Runs.{opening}
 use Rattle.oz_semantics.specs.Search.{with_root, chosen_in}
 use Rattle.oz_semantics.specs.declared.configuration.Frame.{Frame}
 use Rattle.oz_semantics.specs.declared.configuration.Thread.{Thread}
+use Rattle.oz_semantics.specs.declared.configuration.Propagator.{Propagator}
 use Rattle.oz_semantics.specs.declared.configuration.Layer.{Layer}
 use Rattle.oz_semantics.specs.declared.configuration.Configuration.{Configuration}
 use Rattle.oz_semantics.specs.declared.outcome.Stepped.TheVariants.{Moved}
 use Rattle.view_laws.specs.Trees.{IsTree}
 use Rattle.view_laws.specs.Spaceless.{has_spaces}
 use Rattle.view_laws.specs.Needs.{NoneNeeded}
-use Rattle.view_laws.specs.Queues.{is_once}
+use Rattle.view_laws.specs.Queues.{is_once, is_due_below}
 use Rattle.view_laws.specs.Steps.{spawned_from, IsNumbered, IsSound}
 use Rattle.settle_laws.specs.Turns.{Left, HasExact}
 use Rattle.turn_laws.specs.Orderly.{AreOrderly}
@@ -59,6 +60,12 @@ KeptStep =
     (k : Kernel) (id : Ident) (queue : List Ident) (c : Configuration) (n : ℕ) (d : Configuration) → IsKept k.statements (record c { queue = id ∷ queue })
     → Left (stepped k id (record c { queue = queue })) n d → IsKept k.statements d
 
+-- and after the run of a propagator
+abbrev pub KeptRun : Type 0
+KeptRun =
+    (statements : List Statement) (due : Layer × Propagator) (c : Configuration) (n : ℕ) (d : Configuration) → IsKept statements c
+    → Left (propagated statements due c) n d → IsKept statements d
+
 -- where a program opens
 abbrev pub KeptOpening : Type 0
 KeptOpening = (k : Kernel) → IsKept k.statements (opening k)
@@ -69,15 +76,17 @@ KeptRoot = (statements : List Statement) (procedure : Ident) (c : Configuration)
 
 -- and where it commits a space
 abbrev pub KeptChosen : Type 0
-KeptChosen = (statements : List Statement) (space : List ℕ) (i : ℕ) (c : Configuration) → IsKept statements c → IsKept statements (chosen_in statements space i c)
+KeptChosen =
+    (statements : List Statement) (space : List ℕ) (i : ℕ) (c : Configuration) → IsKept statements c → IsKept statements (chosen_in statements space i c)
 
 -- The queue
 
--- Something of a space or below it can step exactly where the queue holds a thread of it or of a space below it
+-- Something of a space or below it can step or is due exactly where the queue holds a thread of it or of a space below it, or a propagator
+-- there is due
 abbrev pub KeptGoesOn : Type 0
 KeptGoesOn =
     (statements : List Statement) (c : Configuration) (space : List ℕ) → IsKept statements c
-    → goes_on statements c.layers space ≡ list_any (λ (id : Ident). is_below space id.space) c.queue
+    → goes_on statements c.layers space ≡ (list_any (λ (id : Ident). is_below space id.space) c.queue || is_due_below c.layers space)
 
 -- the thread's space is there and open, and in its layer the thread, which can step
 pub record IsThere (statements : List Statement) (layers : List Layer) (id : Ident) : Type 0 where

@@ -6,6 +6,9 @@ use Rattle.oz_language.specs.declared.kernel.Statement.{Statement}
 use Rattle.oz_semantics.specs.Configurations.{layer_at, layer_of, thread_at, is_open, in_layer, with_frames, without_terminated, telling, giving_out, counting_procedure, counting_name, counting_child, spawning, adding_cell, with_content, adding_port, with_end, adding_trigger, failed, raised_by}
 use Rattle.oz_semantics.specs.Sights.{Sight, can_step}
 use Rattle.oz_semantics.specs.Spaces.{thread_ready}
+use Rattle.oz_base.specs.declared.relation.Relation.{Relation}
+use Rattle.oz_semantics.specs.Store.{View}
+use Rattle.oz_semantics.specs.Propagation.{posting, after_run}
 use Rattle.oz_semantics.specs.Edits.{committing, created, committed}
 use Rattle.oz_semantics.specs.Changes.{Change, changed_all, done}
 use Rattle.oz_semantics.specs.Settling.{is_among, runnable}
@@ -13,6 +16,7 @@ use Rattle.oz_semantics.specs.Steps.{without_top}
 use Rattle.oz_semantics.specs.declared.value.Tell.{Tell}
 use Rattle.oz_semantics.specs.declared.configuration.Frame.{Frame}
 use Rattle.oz_semantics.specs.declared.configuration.Thread.{Thread}
+use Rattle.oz_semantics.specs.declared.configuration.Propagator.{Propagator}
 use Rattle.oz_semantics.specs.declared.configuration.Layer.{Layer}
 use Rattle.view_laws.specs.Trees.{IsTree}
 use Rattle.view_laws.specs.Steps.{IsNumbered}
@@ -37,6 +41,8 @@ pub record EditsNumbered : Type 0 where
   pub port : (end : Ident) → KeepsNumbered (adding_port end)
   pub end : (number : ℕ) (end : Ident) → KeepsNumbered (with_end number end)
   pub trigger : (procedure variable : Ident) → KeepsNumbered (adding_trigger procedure variable)
+  pub propagator : (r : Relation) (xs : List Ident) → KeepsNumbered (posting r xs)
+  pub run : (v : View) (p : Propagator) (ts : List Tell) → KeepsNumbered (after_run v p ts)
   pub choice : (s : Sight) (i : ℕ) → KeepsNumbered (committing s i)
   pub failure : KeepsNumbered failed
   pub exception : (x : Ident) → KeepsNumbered (raised_by x)

@@ -1,6 +1,7 @@
 -- What a step that tells something makes of the queue, where no space is below the one that is told.
-use Rattle.std.specs.Prelude.{ℕ, ◌≡◌, true, false, not, List, ◌∷◌, ◌++◌, Contains, Some, filter}
+use Rattle.std.specs.Prelude.{ℕ, ◌≡◌, Bool, true, false, not, ◌||◌, List, ◌∷◌, ◌++◌, Contains, Some, filter}
 use Rattle.std.specs.List.{list_any}
+use Rattle.oz_base.specs.Lists.{list_eq}
 use Rattle.oz_base.specs.declared.names.Ident.{Ident}
 use Rattle.oz_language.specs.declared.kernel.Statement.{Statement}
 use Rattle.oz_semantics.specs.Names.{is_properly_below}
@@ -25,13 +26,17 @@ IsAlone layers space = (l : Layer) → Contains layers l → is_properly_below s
 abbrev pub others_of : List Ident → List Ident → List Ident
 others_of queue ids = filter (λ (id : Ident). not (is_among queue id)) ids
 
--- the rest of the queue, and the thread that stepped, where it can step
+-- a thread of another space, or one that can step: a distributor that had a domain to tell may offer once another thread told it
+abbrev pub is_able_still : List Statement → List Layer → List ℕ → Ident → Bool
+is_able_still statements layers space id = not (list_eq id.space space) || is_among (runnable_in statements layers (layer_of layers space)) id
+
+-- the rest of the queue, and the thread that stepped, as far as they can step
 abbrev pub staying : List Statement → List Layer → Ident → List Ident → List Ident
-staying statements layers id queue = queue ++ mover_in (Some id) (runnable statements layers)
+staying statements layers id queue = filter (is_able_still statements layers id.space) queue ++ mover_in (Some id) (runnable statements layers)
 
 -- No space is a value, and one with none below it is told what is consistent with what it sees and makes no space a value. Where no trigger
--- is needed then, no space fails, and the queue is
--- the rest, and then the thread that stepped, and then all others of its own space, as far as they can step
+-- is needed then, no space fails, and the queue is the rest, and then the thread that stepped, and then all others of its own space, as far
+-- as they can step: of the rest, only threads of its own space may no longer
 abbrev pub TellQueue : Type 0
 TellQueue =
     (statements : List Statement) (c : Configuration) (id : Ident) (queue : List Ident) (ts : List Tell) (changes : List Change) (cost : ℕ) → IsKept statements (record c { queue = id ∷ queue })

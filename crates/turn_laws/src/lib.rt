@@ -4,7 +4,7 @@
 #![tactic(auto)]
 
 ghost use Rattle.turn_laws.specs.Orderly.{EditsNumbered, ChangesOrderly, DoneOrderly, StackOrderly, CreatedOrderly, CommittedOrderly, FiredOrderly, MoverAlone};
-ghost use Rattle.turn_laws.specs.Kept.{KeptLayers, KeptShown, KeptTurn, KeptStep, KeptOpening, KeptRoot, KeptChosen, KeptGoesOn, KeptHead, KeptChanges, KeptStack};
+ghost use Rattle.turn_laws.specs.Kept.{KeptLayers, KeptShown, KeptTurn, KeptStep, KeptRun, KeptOpening, KeptRoot, KeptChosen, KeptGoesOn, KeptHead, KeptChanges, KeptStack};
 ghost use Rattle.turn_laws.specs.Telling.{TellQueue};
 
 /// Which edits leave the layers orderly, and what a thread's own layer then tells. Nothing: it holds laws.
@@ -25,6 +25,7 @@ pub fn kept_law()
     ensures shown { KeptShown }
     ensures turn { KeptTurn }
     ensures step { KeptStep }
+    ensures run { KeptRun }
     ensures opening { KeptOpening }
     ensures root { KeptRoot }
     ensures chosen { KeptChosen }

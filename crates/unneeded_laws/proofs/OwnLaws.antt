@@ -1,5 +1,5 @@
 -- The layer of the thread that stepped: its triggers, and what its threads wait for.
-use Rattle.std.proofs.Common.{◌≡◌, ◌⊎◌, inl, inr, ℕ, Bool, true, false, not, ◌||◌, cond, if◌then◌else◌, List, [], ◌∷◌, ◌++◌, refl, sym, ap, ap₂, subst, ◌∙◌, Option, Some, unwrap_or, map, flat_map, drop}
+use Rattle.std.proofs.Common.{◌≡◌, ◌⊎◌, inl, inr, ℕ, Bool, true, false, not, ◌||◌, cond, if◌then◌else◌, List, [], ◌∷◌, ◌++◌, refl, sym, ap, ap₂, subst, ◌∙◌, Option, Some, is_some, unwrap_or, map, flat_map, drop}
 use Rattle.std.specs.List.{find, list_any, fold}
 use Rattle.std.proofs.lemmas.Bool.{false≢true}
 use Rattle.std.proofs.lemmas.List.{append-nil, append_assoc}
@@ -7,7 +7,7 @@ use Rattle.oz_base.specs.Lists.{list_eq, is_empty, edit_first}
 use Rattle.oz_base.specs.declared.names.Ident.{Ident}
 use Rattle.oz_language.specs.declared.kernel.Statement.{Statement}
 use Rattle.oz_semantics.specs.Names.{named}
-use Rattle.oz_semantics.specs.Store.{View, same, is_determined}
+use Rattle.oz_semantics.specs.Store.{View, same, domain_of, is_determined}
 use Rattle.oz_semantics.specs.Configurations.{is_of, layer_at, layer_of, is_numbered, thread_at, is_open, view, in_layer, in_thread, with_frames, without_terminated, new_layer}
 use Rattle.oz_semantics.specs.Sights.{Readiness, waits_of}
 use Rattle.oz_semantics.specs.Spaces.{states_of, thread_ready, waited_in}
@@ -204,12 +204,12 @@ module _ (statements : List Statement) (one other : List Layer) (id : Ident) (be
       unmet_then = ap (λ v. is_met v waits t) (sym own_view) ∙ unmet
 
       still : is_needed (view other after.space) now_waited t ≡ true → is_needed (view one before.space) then_waited t ≡ true
-      still k = elim (or_cases (is_determined (view one before.space) t.variable) (list_any equal now_waited) (sym (ap (λ v. is_needed v now_waited t) same_view) ∙ k)) [
+      still k = elim (or_cases (is_determined (view one before.space) t.variable || is_some (domain_of (view one before.space) t.variable)) (list_any equal now_waited) (sym (ap (λ v. is_needed v now_waited t) same_view) ∙ k)) [
         | inl d ↦ or_left _ _ d
         | inr w ↦ (let r = some_of equal now_waited w in
             elim (waited_was r.0 (In-from_contains now_waited r.0 r.1)) [
               | inl h ↦ absurd (not_both _ r.2 (none_in equal waits unmet_then r.0 h))
-              | inr h ↦ or_right (is_determined (view one before.space) t.variable) _ (by_some equal then_waited r.0 (contains-from_In then_waited r.0 h) r.2)
+              | inr h ↦ or_right (is_determined (view one before.space) t.variable || is_some (domain_of (view one before.space) t.variable)) _ (by_some equal then_waited r.0 (contains-from_In then_waited r.0 h) r.2)
             ])
       ]
 

@@ -8,16 +8,18 @@ use Rattle.oz_language.specs.declared.kernel.Statement.{Statement}
 use Rattle.oz_semantics.specs.Names.{is_below}
 use Rattle.oz_semantics.specs.Configurations.{is_of, view, in_layer, with_frames, without_terminated, telling}
 use Rattle.oz_semantics.specs.Sights.{States, state_in, Offer}
-use Rattle.oz_semantics.specs.Spaces.{subtree_goes_on, is_stable, offer_in, stable_state, state_by, states_behind, states_of, waited_in}
+use Rattle.oz_semantics.specs.Spaces.{subtree_goes_on, is_stable, offer_in, is_left, stable_state, state_by, states_behind, states_of, waited_in}
 use Rattle.oz_semantics.specs.Triggers.{has_needed}
 use Rattle.oz_semantics.specs.Changes.{Change, changed, changed_all, done}
 use Rattle.oz_semantics.specs.Steps.{without_top}
 use Rattle.oz_semantics.specs.declared.value.Tell.{Tell}
 use Rattle.oz_semantics.specs.declared.configuration.Frame.{Frame}
-use Rattle.oz_semantics.specs.declared.configuration.Thread.{Thread}
 use Rattle.oz_semantics.specs.declared.configuration.Status.{Status}
 use Rattle.oz_semantics.specs.declared.configuration.Status.TheVariants as status
+use Rattle.oz_semantics.specs.declared.configuration.Propagator.{Propagator}
 use Rattle.oz_semantics.specs.declared.configuration.Layer.{Layer}
+use Rattle.oz_semantics.specs.Store.{View}
+use Rattle.oz_semantics.specs.Propagation.{after_run}
 use Rattle.oz_semantics.specs.declared.outcome.State.{State}
 use Rattle.oz_semantics.specs.declared.outcome.State.TheVariants as states
 use Rattle.oz_laws.proofs.SameLaws.{In}
@@ -43,19 +45,19 @@ abbrev left_in : List ℕ → List Layer → Bool
 left_in space [] = false
 left_in space (l ∷ ls) = if list_eq l.space space then was_left l.status else left_in space ls
 
-stable_live : (o : Option Offer) (ts : List Thread) → is_live (stable_state o ts) ≡ true
-stable_live (Some offer) ts = refl
-stable_live None [] = refl
-stable_live None (t ∷ ts) = refl
+stable_live : (o : Option Offer) (left : Bool) → is_live (stable_state o left) ≡ true
+stable_live (Some offer) left = refl
+stable_live None true = refl
+stable_live None false = refl
 
-open_live : (goes stable : Bool) (o : Option Offer) (ts : List Thread) → is_live (if goes then states.Running else (if stable then stable_state o ts else states.Suspended)) ≡ true
-open_live true stable o ts = refl
-open_live false true o ts = stable_live o ts
-open_live false false o ts = refl
+open_live : (goes stable : Bool) (o : Option Offer) (left : Bool) → is_live (if goes then states.Running else (if stable then stable_state o left else states.Suspended)) ≡ true
+open_live true stable o left = refl
+open_live false true o left = stable_live o left
+open_live false false o left = refl
 
 status_live : (statements : List Statement) (layers : List Layer) (known : States) (l : Layer) (st : Status) → is_live (state_by statements layers known l st) ≡ was_left st
 status_live statements layers known l status.Open =
-    open_live (subtree_goes_on statements layers known l.space) (is_stable statements layers known l.space) (offer_in statements layers known l) l.threads
+    open_live (subtree_goes_on statements layers known l.space) (is_stable statements layers known l.space) (offer_in statements layers known l) (is_left (view layers l.space) l)
 status_live statements layers known l status.Failed = refl
 status_live statements layers known l (status.Raised x) = refl
 status_live statements layers known l status.Merged = refl
@@ -153,6 +155,15 @@ done_spares id ts changes layers =
     (changed_spares id (is_apart id.space) changes layers told
     (spares_both id.space (is_apart id.space) layers popped told (frames_spare id (is_apart id.space) (λ frames. drop 1 frames) layers)
     (edit_spares id.space (is_apart id.space) (telling ts) popped (λ l. refl) (λ l. refl) (λ u e. change_unseen (telling ts) popped id.space u (λ l k. refl) (not_true _ e)))))
+  where
+    not_true : (b : Bool) → not b ≡ true → b ≡ false
+    not_true true k = sym k
+    not_true false k = refl
+
+-- nor what a propagator tells that runs in it
+pub run_spares : (space : List ℕ) (v : View) (p : Propagator) (ts : List Tell) (layers : List Layer) → Spares space (is_apart space) layers (in_layer space (after_run v p ts) layers)
+run_spares space v p ts layers =
+    edit_spares space (is_apart space) (after_run v p ts) layers (λ l. refl) (λ l. refl) (λ u e. change_unseen (after_run v p ts) layers space u (λ l k. refl) (not_true _ e))
   where
     not_true : (b : Bool) → not b ≡ true → b ≡ false
     not_true true k = sym k

@@ -33,8 +33,8 @@ use Rattle.turn_laws.specs.Orderly.{AreOrderly}
 use Rattle.turn_laws.specs.Kept.{IsKept, IsThere}
 use Rattle.turn_laws.proofs.OrderlyLaws.{changes_orderly, stack_orderly, done_orderly}
 use Rattle.turn_laws.proofs.HeadLaws.{own_among, kept_layers, kept_head}
-use Rattle.unneeded_laws.specs.Unneeded.{waits_by, waits_at, is_waiting, started_in, AbleWaitsNot, adds_trigger, ChangesNeedNone, StackNeedsNone, added_by, AddedNeedNone, is_met, ChangesNeedMet, StackNeedsMet, ChangesNeedOwn, StackNeedsOwn, TellNeedsBelow, TellNeedsNone}
-use Rattle.unneeded_laws.proofs.SpareLaws.{Spares, is_apart, changes_spare, stack_spares, done_spares, outer_unneeded}
+use Rattle.unneeded_laws.specs.Unneeded.{waits_by, waits_at, is_waiting, started_in, AbleWaitsNot, adds_trigger, ChangesNeedNone, StackNeedsNone, added_by, AddedNeedNone, is_met, ChangesNeedMet, StackNeedsMet, ChangesNeedOwn, StackNeedsOwn, TellNeedsBelow, TellNeedsNone, RunNeedsBelow}
+use Rattle.unneeded_laws.proofs.SpareLaws.{Spares, is_apart, changes_spare, stack_spares, done_spares, run_spares, outer_unneeded}
 use Rattle.unneeded_laws.proofs.OwnLaws.{found_edit, changes_triggers, stack_triggers, none_pass, none_met, own_unneeded}
 
 -- Threads that can step
@@ -249,3 +249,13 @@ tell_needs_none statements c id queue ts changes kept alone layers e asked =
           absurd (not_both _ (properly_by id.space l.space below other) (alone l (contains-from_In c.layers l (spares.outer l h k)))))
       | inr off ↦ ap not off
     ]
+
+-- Runs of propagators
+
+pub run_needs_below : RunNeedsBelow
+run_needs_below statements c space v p ts kept layers e asked =
+    let spares = subst (Spares space (is_apart space) c.layers) (sym e) (run_spares space v p ts c.layers) in
+    none_pass (has_needed statements layers) layers (λ l h. elim (decide (is_below space l.space)) [
+      | inl k ↦ false_behind (is_below space l.space) (has_needed statements layers l) k (none_in (λ (m : Layer). is_below space m.space && has_needed statements layers m) layers asked l h)
+      | inr k ↦ outer_unneeded statements space (is_apart space) c.layers layers spares kept.content l h (not_below_own space l k) (ap not k)
+    ])

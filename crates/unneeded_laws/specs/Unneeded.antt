@@ -9,13 +9,15 @@ use Rattle.oz_semantics.specs.Store.{View, same}
 use Rattle.oz_semantics.specs.Configurations.{layer_of, view, thread_at, in_layer, with_frames, without_terminated}
 use Rattle.oz_semantics.specs.Sights.{Readiness, can_step, waits_of}
 use Rattle.oz_semantics.specs.Spaces.{thread_ready}
-use Rattle.oz_semantics.specs.Changes.{Change, GivesOut, CountsProcedure, CountsName, Pushes, Spawns, AddsCell, Holds, AddsPort, EndsAt, AddsTrigger, changed_all, done}
+use Rattle.oz_semantics.specs.Changes.{Change, GivesOut, CountsProcedure, CountsName, Pushes, Spawns, AddsCell, Holds, AddsPort, EndsAt, AddsTrigger, AddsPropagator, changed_all, done}
 use Rattle.oz_semantics.specs.Triggers.{is_needed_in, has_needed}
 use Rattle.oz_semantics.specs.Steps.{without_top}
 use Rattle.oz_semantics.specs.declared.value.Tell.{Tell}
 use Rattle.oz_semantics.specs.declared.configuration.Frame.{Frame}
 use Rattle.oz_semantics.specs.declared.configuration.Thread.{Thread}
 use Rattle.oz_semantics.specs.declared.configuration.Trigger.{Trigger}
+use Rattle.oz_semantics.specs.declared.configuration.Propagator.{Propagator}
+use Rattle.oz_semantics.specs.Propagation.{after_run}
 use Rattle.oz_semantics.specs.declared.configuration.Layer.{Layer}
 use Rattle.oz_semantics.specs.declared.configuration.Configuration.{Configuration}
 use Rattle.view_laws.specs.Needs.{NoneNeeded}
@@ -63,6 +65,7 @@ adds_trigger (AddsCell content) = false
 adds_trigger (Holds n content) = false
 adds_trigger (AddsPort end) = false
 adds_trigger (EndsAt n end) = false
+adds_trigger (AddsPropagator relation variables) = false
 
 -- Where the thread at the head makes changes that add no trigger, and neither it nor a thread that it started waits for a variable then, no
 -- trigger is needed
@@ -95,6 +98,7 @@ added_by (AddsCell content ∷ changes) = added_by changes
 added_by (Holds n content ∷ changes) = added_by changes
 added_by (AddsPort end ∷ changes) = added_by changes
 added_by (EndsAt n end ∷ changes) = added_by changes
+added_by (AddsPropagator relation variables ∷ changes) = added_by changes
 
 -- Where they add some, these alone have to be asked
 abbrev pub AddedNeedNone : Type 0
@@ -159,4 +163,14 @@ TellNeedsNone =
     → IsAlone c.layers id.space
     → (layers : List Layer) → layers ≡ in_layer id.space without_terminated (done id ts changes (without_top id c.layers))
     → has_needed statements layers (layer_of layers id.space) ≡ false
+    → NoneNeeded statements layers
+
+-- Runs of propagators
+
+-- Where one ran in a space, the triggers of that and of the spaces below it alone have to be asked
+abbrev pub RunNeedsBelow : Type 0
+RunNeedsBelow =
+    (statements : List Statement) (c : Configuration) (space : List ℕ) (v : View) (p : Propagator) (ts : List Tell) → IsKept statements c
+    → (layers : List Layer) → layers ≡ in_layer space (after_run v p ts) c.layers
+    → list_any (λ (l : Layer). is_below space l.space && has_needed statements layers l) layers ≡ false
     → NoneNeeded statements layers

@@ -3,7 +3,7 @@
 //! Each function does nothing: its contract states laws of the definitions.
 #![tactic(auto)]
 
-ghost use Rattle.unneeded_laws.specs.Unneeded.{AbleWaitsNot, ChangesNeedNone, StackNeedsNone, AddedNeedNone, ChangesNeedMet, StackNeedsMet, ChangesNeedOwn, StackNeedsOwn, TellNeedsBelow, TellNeedsNone};
+ghost use Rattle.unneeded_laws.specs.Unneeded.{AbleWaitsNot, ChangesNeedNone, StackNeedsNone, AddedNeedNone, ChangesNeedMet, StackNeedsMet, ChangesNeedOwn, StackNeedsOwn, TellNeedsBelow, TellNeedsNone, RunNeedsBelow};
 
 /// Which triggers are asked after a step that tells nothing, if any. Nothing: it holds laws.
 pub fn quiet_law()
@@ -21,4 +21,5 @@ pub fn quiet_law()
 pub fn told_law()
     ensures below { TellNeedsBelow }
     ensures alone { TellNeedsNone }
+    ensures run { RunNeedsBelow }
 {}

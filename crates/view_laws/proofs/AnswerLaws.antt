@@ -20,9 +20,15 @@ use Rattle.oz_semantics.specs.Store.{value_of}
 use Rattle.oz_semantics.specs.Matching.{Match, Matches, Differs, MatchWaits, matched}
 use Rattle.oz_semantics.specs.Entailment.{Equality, Entailed, Contradicted, Undecided, equality}
 use Rattle.oz_semantics.specs.Terms.{list_term}
-use Rattle.oz_semantics.specs.Sights.{Sight, Number, Readiness, Offers}
-use Rattle.oz_semantics.specs.Answers.{Act, Creates, Answer, Acts, Edits, RaisesKind, RaisesTerm, Operates, Rests, GivesTerm, Passes, Reads, Writes, Exchanges, Sends, Delays, Shows, given, with_value, of_kind, argument, gives_constant}
-use Rattle.oz_semantics.specs.Builtins.{truth, gives_number, with_integers, compares, computes, of_equality, label_in, arity_in, gives_field, field_at, selects, own_act, on_cell, on_port, delays, creates, choice_limit, offered, operates, of_operation, answer, arguments_of, call_answer}
+use Rattle.oz_semantics.specs.Sights.{Sight, Offer, Bodies, Number, Parts, Readiness, Steps, Waits, WaitsForState, Offers}
+use Rattle.oz_semantics.specs.Answers.{Act, Creates, Answer, Acts, Edits, RaisesKind, RaisesTerm, Operates, Widens, Rests, GivesTerm, Passes, Reads, Writes, Exchanges, Sends, Delays, Shows, given, with_value, of_kind, argument, gives_constant}
+use Rattle.oz_semantics.specs.Builtins.{truth, gives_number, with_integers, compares, computes, of_equality, label_in, arity_in, gives_field, field_at, selects, own_act, on_cell, on_port, delays, creates, choice_limit, offered, operates, of_input, unless_refused, confines, posts, distributes, of_operation, answer, arguments_of, call_answer}
+use Rattle.oz_semantics.specs.Inputs.{Input, Known, Unknown, OtherKind, both}
+use Rattle.oz_semantics.specs.Vectors.{vector}
+use Rattle.oz_semantics.specs.Constraints.{bounds, refusal_of}
+use Rattle.oz_semantics.specs.Distributors as distributors
+use Rattle.oz_semantics.specs.Distributors.{Distribution, Finished, Splits, distribution}
+use Rattle.oz_base.specs.declared.relation.Relation.TheVariants.{Distinct}
 use Rattle.oz_semantics.specs.Statements.{procedure_called, value_called, called, branch, constant_branch, clause, statement_answer, numbered_answer, code_answer, stack_answer}
 use Rattle.oz_semantics.specs.declared.configuration.Code.{Code}
 use Rattle.oz_semantics.specs.declared.configuration.Code.TheVariants as code
@@ -33,14 +39,29 @@ use Rattle.oz_semantics.specs.declared.value.Builtin.TheVariants as builtin
 use Rattle.oz_semantics.specs.declared.value.SpaceOperation.{SpaceOperation}
 use Rattle.oz_semantics.specs.declared.value.Value.{Value}
 use Rattle.oz_semantics.specs.declared.value.Value.TheVariants as value
+use Rattle.oz_semantics.specs.declared.value.Tell.{Tell}
 use Rattle.oz_semantics.specs.declared.value.Tell.TheVariants.{Is}
 use Rattle.oz_semantics.specs.declared.outcome.RaiseKind.{RaiseKind}
 use Rattle.oz_semantics.specs.declared.outcome.RaiseKind.TheVariants as raise
-use Rattle.view_laws.proofs.ViewLaws.{Given, given_value}
+use Rattle.view_laws.proofs.KnownLaws.{Known as KnownValue, was_told, is_only, known_value}
+
+-- it offers the parts of a domain
+abbrev pub is_parts : Offer → Bool
+is_parts (Parts one other) = true
+is_parts (Bodies bodies) = false
+is_parts (Number n x) = false
+
+abbrev pub offers_parts : Readiness → Bool
+offers_parts Steps = false
+offers_parts (Waits xs) = false
+offers_parts (WaitsForState space) = false
+offers_parts (Offers offer xs) = is_parts offer
 
 -- What is so of each of these is so of what a stack answers
 module _ (s : Sight) (Holds : Answer → Type 0) (acts : (act : Act) → Holds (Acts act)) (creation : (procedure x : Ident) → Holds (Edits (Creates procedure x)))
-    (kinds : (kind : RaiseKind) → Holds (RaisesKind kind)) (terms : (x : Ident) → Holds (RaisesTerm x)) (rests : (ready : Readiness) → Holds (Rests ready))
+    (kinds : (kind : RaiseKind) → Holds (RaisesKind kind)) (terms : (x : Ident) → Holds (RaisesTerm x)) (widens : (ts : List Tell) → Holds (Widens ts))
+    (rests : (ready : Readiness) → offers_parts ready ≡ false → Holds (Rests ready))
+    (parts : (rule v : Ident) (one other : Tell) (xs : List Ident) → distribution s.view rule v ≡ Known (Splits one other xs) → Holds (Rests (Offers (Parts one other) xs)))
     (operation_on : (op : SpaceOperation) (child : List ℕ) (x y : Ident) → Contains s.view (Is y (value.Space child)) → is_child_of s.space child ≡ true → Holds (Operates op child x)) where
   -- Answers that ask nothing of the view
 
@@ -76,18 +97,18 @@ module _ (s : Sight) (Holds : Answer → Type 0) (acts : (act : Act) → Holds (
   create_holds procedure x v = either_holds (is_procedure v) (Edits (Creates procedure x)) (RaisesKind raise.BadKind) (creation procedure x) (kinds raise.BadKind)
 
   offer_holds : (x : Ident) (i : ℤ) → Holds (offered x i)
-  offer_holds x (pos n) = either_holds (nat_le 1 n && nat_le n choice_limit) (Rests (Offers (Number n x) [])) (RaisesKind raise.Domain) (rests _) (kinds raise.Domain)
+  offer_holds x (pos n) = either_holds (nat_le 1 n && nat_le n choice_limit) (Rests (Offers (Number n x) [])) (RaisesKind raise.Domain) (rests _ refl) (kinds raise.Domain)
   offer_holds x (negsuc n) = kinds raise.Domain
 
   equality_holds : (z : Ident) (asked : Bool) (e : Equality) → Holds (of_equality z asked e)
   equality_holds z asked Entailed = acts _
   equality_holds z asked Contradicted = acts _
-  equality_holds z asked (Undecided xs) = rests _
+  equality_holds z asked (Undecided xs) = rests _ refl
 
   clause_holds : (environment : Environment) (accepted otherwise : List ℕ) (m : Match) → Holds (clause environment accepted otherwise m)
   clause_holds environment accepted otherwise (Matches extended) = acts _
   clause_holds environment accepted otherwise Differs = acts _
-  clause_holds environment accepted otherwise (MatchWaits x) = rests _
+  clause_holds environment accepted otherwise (MatchWaits x) = rests _ refl
 
   literal_holds : (environment : Environment) (accepted otherwise : List ℕ) (c : Constant) → Holds (constant_branch environment accepted otherwise c)
   literal_holds environment accepted otherwise (constant.Literal literal.True) = acts _
@@ -109,14 +130,35 @@ module _ (s : Sight) (Holds : Answer → Type 0) (acts : (act : Act) → Holds (
   procedure_holds : (q : procedures.Procedure) (xs : List Ident) → Holds (procedure_called q xs)
   procedure_holds q xs = either_holds (length xs == length q.parameters) _ (RaisesKind raise.Arity) (acts _) (kinds raise.Arity)
 
+  -- Domains
+
+  input_holds : {A : Type 0} (i : Input A) (go : A → Answer) → ((a : A) → Holds (go a)) → Holds (of_input i go)
+  input_holds (Known a) go h = h a
+  input_holds (Unknown x) go h = rests _ refl
+  input_holds OtherKind go h = kinds raise.BadKind
+
+  refusal_holds : (o : Option RaiseKind) (a : Answer) → Holds a → Holds (unless_refused o a)
+  refusal_holds None a h = h
+  refusal_holds (Some kind) a h = kinds kind
+
+  confine_holds : (xs : List Ident) (b : ℤ × ℤ) → Holds (confines s.view xs b)
+  confine_holds xs b = refusal_holds (refusal_of b.0 b.1) _ (acts _)
+
+  distribute_holds : (rule v : Ident) (i : Input Distribution) → distribution s.view rule v ≡ i → Holds (of_input i (distributes s.view))
+  distribute_holds rule v (Known (distributors.Widens xs)) e = widens _
+  distribute_holds rule v (Known Finished) e = acts Passes
+  distribute_holds rule v (Known (Splits one other xs)) e = parts rule v one other xs e
+  distribute_holds rule v (Unknown x) e = rests _ refl
+  distribute_holds rule v OtherKind e = kinds raise.BadKind
+
   -- Inputs
 
-  value_holds : (x : Ident) (go : Value → Answer) → ((v : Value) → Given s.view x v → Holds (go v)) → Holds (with_value s.view x go)
+  value_holds : (x : Ident) (go : Value → Answer) → ((v : Value) → KnownValue s.view x v → Holds (go v)) → Holds (with_value s.view x go)
   value_holds x go h = by (value_of s.view x) refl
     where
       by : (o : Option Value) → value_of s.view x ≡ o → Holds (given x o go)
-      by None e = rests _
-      by (Some v) e = h v (given_value s.view x v e)
+      by None e = rests _ refl
+      by (Some v) e = h v (known_value s.view x v e)
 
   one_holds : (x : Ident) (go : Value → Answer) → ((v : Value) → Holds (go v)) → Holds (with_value s.view x go)
   one_holds x go h = value_holds x go (λ v e. h v)
@@ -150,8 +192,9 @@ module _ (s : Sight) (Holds : Answer → Type 0) (acts : (act : Act) → Holds (
   operation_holds operation.Div x y z = compute_holds quotient x y z
   operation_holds operation.Mod x y z = compute_holds remainder x y z
   operation_holds operation.Select x y z = two_holds x y (selects z) (selects_holds z)
-  operation_holds operation.Bound x y z = rests _
-  operation_holds operation.BoundEach x y z = rests _
+  operation_holds operation.Bound x y z = input_holds (bounds s.view y) (confines s.view (x ∷ [])) (confine_holds (x ∷ []))
+  operation_holds operation.BoundEach x y z =
+      input_holds (both (vector s.view x) (bounds s.view y)) (λ (i : List Ident × (ℤ × ℤ)). confines s.view i.0 i.1) (λ (i : List Ident × (ℤ × ℤ)). confine_holds i.0 i.1)
 
   cell_holds : (x : Ident) (act : ℕ → Act) → Holds (on_cell s x act)
   cell_holds x act =
@@ -170,8 +213,9 @@ module _ (s : Sight) (Holds : Answer → Type 0) (acts : (act : Act) → Holds (
       by true e = operation_on op child x y told e
       by false e = kinds raise.SpaceParent
 
-  on_space_holds : (op : SpaceOperation) (x y : Ident) (v : Value) → Given s.view y v → Holds (of_kind (space_in v) (operates s op x))
-  on_space_holds op x y (value.Space child) g = operates_holds op child x g.variable g.told
+  on_space_holds : (op : SpaceOperation) (x y : Ident) (v : Value) → KnownValue s.view y v → Holds (of_kind (space_in v) (operates s op x))
+  on_space_holds op x y (value.Space child) (was_told g) = operates_holds op child x g.variable g.told
+  on_space_holds op x y (value.Space child) (is_only n e o) = absurd (cc)
   on_space_holds op x y (value.Constant c) g = kinds raise.BadKind
   on_space_holds op x y (value.Record r) g = kinds raise.BadKind
   on_space_holds op x y (value.Procedure p) g = kinds raise.BadKind
@@ -201,6 +245,8 @@ module _ (s : Sight) (Holds : Answer → Type 0) (acts : (act : Act) → Holds (
   answer_holds builtin.Show x = either_holds (is_top s.space) (Acts (Shows (x 0))) (RaisesKind raise.GlobalIo) (acts _) (kinds raise.GlobalIo)
   answer_holds builtin.NewSpace x = one_holds (x 0) (creates (x 0) (x 1)) (create_holds (x 0) (x 1))
   answer_holds builtin.Choose x = one_holds (x 0) (λ v. of_kind (integer_in v) (offered (x 1))) (λ v. kind_holds (integer_in v) (offered (x 1)) (offer_holds (x 1)))
+  answer_holds builtin.Distinct x = input_holds (vector s.view (x 0)) (posts s.view Distinct) (λ xs. acts _)
+  answer_holds builtin.Distribute x = distribute_holds (x 0) (x 1) (distribution s.view (x 0) (x 1)) refl
   answer_holds (builtin.OnSpace op) x = value_holds (x 0) (λ v. of_kind (space_in v) (operates s op (x 1))) (on_space_holds op (x 1) (x 0))
 
   call_holds : (b : Builtin) (xs : List Ident) → Holds (call_answer s b xs)
@@ -233,7 +279,7 @@ module _ (s : Sight) (Holds : Answer → Type 0) (acts : (act : Act) → Holds (
   statement_holds environment (statement.BindProcedure name parameters body) = acts _
   statement_holds environment (statement.Call procedure arguments) = called_holds (bound environment procedure) (map (bound environment) arguments)
   statement_holds environment (statement.Operate op arguments) = call_holds (builtin.Operation op) (map (bound environment) arguments)
-  statement_holds environment (statement.Choice alternatives) = rests _
+  statement_holds environment (statement.Choice alternatives) = rests _ refl
   statement_holds environment (statement.If condition accepted otherwise) = one_holds (bound environment condition) (branch environment accepted otherwise) (branch_holds environment accepted otherwise)
   statement_holds environment (statement.Case subject pattern accepted otherwise) =
       clause_holds environment accepted otherwise (matched s.view pattern (bound environment subject ∷ []) environment)
@@ -241,12 +287,12 @@ module _ (s : Sight) (Holds : Answer → Type 0) (acts : (act : Act) → Holds (
   statement_holds environment (statement.Thread body) = acts _
   statement_holds environment (statement.Try body exception handler) = acts _
   statement_holds environment (statement.Raise name) = terms _
-  statement_holds environment (statement.Post sign constant terms) = rests _
-  statement_holds environment (statement.PostTimes left right product) = rests _
+  statement_holds environment (statement.Post sign constant terms) = acts _
+  statement_holds environment (statement.PostTimes left right product) = acts _
 
   numbered_holds : (environment : Environment) (o : Option Statement) → Holds (numbered_answer s environment o)
   numbered_holds environment (Some st) = statement_holds environment st
-  numbered_holds environment None = rests _
+  numbered_holds environment None = rests _ refl
 
   code_holds : (environment : Environment) (k : Code) → Holds (code_answer s environment k)
   code_holds environment (code.Statement n) = numbered_holds environment (slice_get s.statements n)
@@ -254,6 +300,13 @@ module _ (s : Sight) (Holds : Answer → Type 0) (acts : (act : Act) → Holds (
   code_holds environment (code.Bind x n) = acts _
   code_holds environment (code.Mark exception handler) = acts Passes
 
+  pub stack_holds_by : (frames : List Frame) → Holds (stack_answer s frames)
+  stack_holds_by [] = rests _ refl
+  stack_holds_by (frame ∷ rest) = code_holds frame.environment frame.code
+
+-- the same of what holds of all offers
+module _ (s : Sight) (Holds : Answer → Type 0) (acts : (act : Act) → Holds (Acts act)) (creation : (procedure x : Ident) → Holds (Edits (Creates procedure x)))
+    (kinds : (kind : RaiseKind) → Holds (RaisesKind kind)) (terms : (x : Ident) → Holds (RaisesTerm x)) (widens : (ts : List Tell) → Holds (Widens ts)) (rests : (ready : Readiness) → Holds (Rests ready))
+    (operation_on : (op : SpaceOperation) (child : List ℕ) (x y : Ident) → Contains s.view (Is y (value.Space child)) → is_child_of s.space child ≡ true → Holds (Operates op child x)) where
   pub stack_holds : (frames : List Frame) → Holds (stack_answer s frames)
-  stack_holds [] = rests _
-  stack_holds (frame ∷ rest) = code_holds frame.environment frame.code
+  stack_holds frames = stack_holds_by s Holds acts creation kinds terms widens (λ ready e. rests ready) (λ rule v one other xs e. rests (Offers (Parts one other) xs)) operation_on frames

@@ -13,7 +13,7 @@ use Rattle.oz_semantics.specs.Answers.{Answer, Operates}
 use Rattle.oz_semantics.specs.Operations.{operated, with_state, by_state}
 use Rattle.oz_semantics.specs.Statements.{stack_answer}
 use Rattle.oz_semantics.specs.Readiness.{answer_ready}
-use Rattle.oz_semantics.specs.Spaces.{sight, ready_in, layer_goes_on, layers_below, subtree_goes_on, state_by, states_behind, states_of}
+use Rattle.oz_semantics.specs.Spaces.{sight, ready_in, has_due, layer_goes_on, layers_below, subtree_goes_on, state_by, states_behind, states_of}
 use Rattle.oz_semantics.specs.declared.value.SpaceOperation.{SpaceOperation}
 use Rattle.oz_semantics.specs.declared.value.Value.TheVariants as value
 use Rattle.oz_semantics.specs.declared.value.Tell.TheVariants.{Is}
@@ -96,7 +96,7 @@ module _ (layers : List Layer) (s : Sight) (one other : States) (agree : AgreeOn
   operation_agrees op child x y told below = ap (λ (o : Option State). with_state o (operated s (view layers child) op child x)) (agree child below)
 
   stack_agrees : (frames : List Frame) → Agreed (stack_answer s frames)
-  stack_agrees frames = stack_holds s Agreed (λ act. refl) (λ procedure x. refl) (λ kind. refl) (λ x. refl) (λ ready. refl) operation_agrees frames
+  stack_agrees frames = stack_holds s Agreed (λ act. refl) (λ procedure x. refl) (λ kind. refl) (λ x. refl) (λ ts. refl) (λ ready. refl) operation_agrees frames
 
 pub ready_agrees : (statements : List Statement) (layers : List Layer) (one other : States) (space : List ℕ) → AgreeOnChildren one other space → (t : Thread)
     → ready_in statements layers one space t ≡ ready_in statements layers other space t
@@ -105,7 +105,7 @@ ready_agrees statements layers one other space agree t = ap answer_ready (stack_
 goes_agrees : (statements : List Statement) (layers : List Layer) (one other : States) (l : Layer) → AgreeOnChildren one other l.space → layer_goes_on statements layers one l ≡ layer_goes_on statements layers other l
 goes_agrees statements layers one other l agree =
     let each : ◌≡◌ {A = Thread → Readiness} (ready_in statements layers one l.space) (ready_in statements layers other l.space) = λ i t. ready_agrees statements layers one other l.space agree t i in
-    ap (λ (f : Thread → Readiness). list_any can_step (if is_open l.status then map f l.threads else [])) each
+    ap (λ (f : Thread → Readiness). list_any can_step (if is_open l.status then map f l.threads else []) || has_due (view layers l.space) l) each
 
 below_agrees : (p q : Layer → Bool) (space : List ℕ) → ((m : Layer) → is_below space m.space ≡ true → p m ≡ q m) → (ls : List Layer) → list_any p (layers_below ls space) ≡ list_any q (layers_below ls space)
 below_agrees p q space h [] = refl

@@ -2,7 +2,8 @@
 use Rattle.std.proofs.Common.{◌≡◌, ℕ, List, ◌++◌, refl}
 use Rattle.oz_base.specs.declared.names.Ident.{Ident}
 use Rattle.oz_semantics.specs.Configurations.{in_layer, with_frames, giving_out, counting_procedure, counting_name, spawning, adding_cell, with_content, adding_port, with_end, adding_trigger}
-use Rattle.oz_semantics.specs.Changes.{Change, GivesOut, CountsProcedure, CountsName, Pushes, Spawns, AddsCell, Holds, AddsPort, EndsAt, AddsTrigger, changed}
+use Rattle.oz_semantics.specs.Changes.{Change, GivesOut, CountsProcedure, CountsName, Pushes, Spawns, AddsCell, Holds, AddsPort, EndsAt, AddsTrigger, AddsPropagator, changed}
+use Rattle.oz_semantics.specs.Propagation.{posting}
 use Rattle.oz_semantics.specs.declared.configuration.Layer.{Layer}
 
 -- what a change by the thread of this number makes of the layer of its space
@@ -17,6 +18,7 @@ edit_of number (Holds n content) = with_content n content
 edit_of number (AddsPort end) = adding_port end
 edit_of number (EndsAt n end) = with_end n end
 edit_of number (AddsTrigger procedure variable) = adding_trigger procedure variable
+edit_of number (AddsPropagator relation variables) = posting relation variables
 
 pub changed_by : (id : Ident) (layers : List Layer) (change : Change) → changed id layers change ≡ in_layer id.space (edit_of id.number change) layers
 changed_by id layers (GivesOut n) = refl

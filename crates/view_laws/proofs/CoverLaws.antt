@@ -1,12 +1,13 @@
 -- A list that has all that is named anew is touched; and what touches nothing else leaves all others alike.
 use Rattle.std.proofs.Common.{◌≡◌, ◌⊎◌, inl, inr, ℕ, true, List, [], ◌++◌, refl, sym, subst, Contains, Some, slice_get, flat_map}
 use Rattle.oz_base.specs.declared.names.Ident.{Ident}
+use Rattle.oz_base.specs.declared.interval.Interval.{Interval}
 use Rattle.oz_semantics.specs.Values.{is_like, fields_of}
 use Rattle.oz_semantics.specs.Store.{Same, told, itself, reversed, joined, field, named_by}
 use Rattle.oz_semantics.specs.Spaces.{alike_on}
 use Rattle.oz_semantics.specs.declared.value.Value.{Value}
 use Rattle.oz_semantics.specs.declared.value.Tell.{Tell}
-use Rattle.oz_semantics.specs.declared.value.Tell.TheVariants.{Equal, Is}
+use Rattle.oz_semantics.specs.declared.value.Tell.TheVariants.{Equal, Is, Within}
 use Rattle.oz_laws.proofs.SameLaws.{In-from_contains, contains-from_In, In-flat}
 use Rattle.oz_laws.specs.Touched.{Meets, Touches}
 use Rattle.view_laws.specs.Touched.{NamesWithin, IsPart, UntouchedAlike}
@@ -18,6 +19,7 @@ use Rattle.view_laws.proofs.TouchedLaws.{touched_decide}
 record Covers (before more : List Tell) (touched : List Ident) : Type 0 where
   equations : (x y : Ident) → Contains more (Equal x y) → Meets before touched x × Meets before touched y
   values : (x : Ident) (v : Value) → Contains more (Is x v) → Meets before touched x
+  domains : (x : Ident) (is : List Interval) → Contains more (Within x is) → Meets before touched x
   fields :
       (x y a b : Ident) (v w : Value) (i : ℕ) → Meets before touched x → Meets before touched y → Same (before ++ more) x y → Contains (before ++ more) (Is x v)
       → Contains (before ++ more) (Is y w) → is_like v w ≡ true → slice_get (fields_of v) i ≡ Some a → slice_get (fields_of w) i ≡ Some b
@@ -74,6 +76,7 @@ covering_touches : (before more : List Tell) (touched : List Ident) → Covers b
 covering_touches before more touched h = record {
   joins = λ x y s. close_first before touched x y (all_close before more touched h s);
   binds = λ x v c. inr (h.values x v c);
+  narrows = λ x is c. inr (h.domains x is c);
 }
 
 -- Nothing of a list is touched
@@ -87,6 +90,9 @@ named_of_equal more x y c =
 
 named_of_is : (more : List Tell) (x : Ident) (v : Value) → Contains more (Is x v) → Contains (flat_map named_by more) x
 named_of_is more x v c = contains-from_In (flat_map named_by more) x (In-flat named_by (Is x v) x more (In-from_contains more (Is x v) c) (inl refl))
+
+named_of_within : (more : List Tell) (x : Ident) (is : List Interval) → Contains more (Within x is) → Contains (flat_map named_by more) x
+named_of_within more x is c = contains-from_In (flat_map named_by more) x (In-flat named_by (Within x is) x more (In-from_contains more (Within x is) c) (inl refl))
 
 named_field : (more : List Tell) (x : Ident) (v : Value) (i : ℕ) (a : Ident) → Contains more (Is x v) → slice_get (fields_of v) i ≡ Some a → Contains (flat_map named_by more) a
 named_field more x v i a c e =
@@ -114,6 +120,7 @@ module _ (before more : List Tell) (xs : List Ident) (within : NamesWithin befor
   new_covers = record {
     equations = λ x y c. let n = named_of_equal more x y c in (meets_itself x n.0, meets_itself y n.1);
     values = λ x v c. meets_itself x (named_of_is more x v c);
+    domains = λ x is c. meets_itself x (named_of_within more x is c);
     fields = λ x y a b v w i m n s c d l p q.
         inr (
           meets_itself a (named_field more x v i a (new_told x v (new_alone x m) (has-cases (Is x v) before more c)) p),

@@ -4,13 +4,13 @@ use Rattle.std.specs.List.{list_all, list_any, find}
 use Rattle.oz_base.specs.Lists.{holds_of}
 use Rattle.oz_base.specs.Names.{ident_eq}
 use Rattle.oz_base.specs.declared.names.Ident.{Ident}
-use Rattle.oz_semantics.specs.Store.{Same, itself, reversed, joined, same, value_of, is_determined}
+use Rattle.oz_semantics.specs.Store.{Same, itself, reversed, joined, same, is_determined}
 use Rattle.oz_semantics.specs.Settling.{is_among}
-use Rattle.oz_semantics.specs.Spaces.{values_eq, alike_on}
+use Rattle.oz_semantics.specs.Spaces.{alike_on}
 use Rattle.oz_semantics.specs.declared.value.Tell.{Tell}
 use Rattle.oz_laws.proofs.SameLaws.{In, In-from_contains, contains-from_In, and-left, and-right, tests_same, ident_eq-true, ident_eq-refl}
 use Rattle.oz_laws.specs.Touched.{Touches}
-use Rattle.view_laws.specs.Touched.{NamesWithin, IsPart, equal_to_first, FirstsDecide, TouchedHold}
+use Rattle.view_laws.specs.Touched.{NamesWithin, IsPart, alike_at, equal_to_first, FirstsDecide, TouchedHold}
 use Rattle.view_laws.proofs.Members.{bool_eq, and_both, not_both, or_left, or_right, or_cases, each, by_each, some_of, by_some}
 use Rattle.view_laws.proofs.ViewLaws.{same_home, same_by_meaning}
 use Rattle.view_laws.proofs.TouchedLaws.{AreAlike, alike_meaning, meaning_alike, part_met, kept}
@@ -33,7 +33,7 @@ found_first {A = A} p (y ∷ ys) x h e = by (p y) refl (λ k. found_first p ys x
 
 module _ (one other : List Tell) (ys : List Ident) (finer : (x y : Ident) → Same other x y → Same one x y) where
   abbrev by_first : Ident → Bool
-  by_first y = values_eq (value_of one y) (value_of other y) && equal_to_first ys one other y
+  by_first y = alike_at one other y && equal_to_first ys one other y
 
   first_of_class : (y : Ident) → Contains ys y → (r : Ident) × (find (same one y) ys ≡ Some r) × In r ys × (same one y r ≡ true)
   first_of_class y c = found_first (same one y) ys y (In-from_contains ys y c) ((tests_same one y y).1 itself)
@@ -57,9 +57,10 @@ module _ (one other : List Tell) (ys : List Ident) (finer : (x y : Ident) → Sa
   pub firsts : alike_on ys one other ≡ list_all by_first ys
   firsts =
       bool_eq _ _
-      (λ e. let a = alike_meaning ys one other e in by_each by_first ys (λ y c. and_both _ _ (a.values y c) (to_first a y c)))
+      (λ e. let a = alike_meaning ys one other e in by_each by_first ys (λ y c. and_both _ _ (and_both _ _ (a.values y c) (a.domains y c)) (to_first a y c)))
       (λ e. meaning_alike ys one other (record {
-        values = λ y c. and-left _ _ (each by_first ys e y c);
+        values = λ y c. and-left _ _ (and-left _ _ (each by_first ys e y c));
+        domains = λ y c. and-right _ _ (and-left _ _ (each by_first ys e y c));
         equal = λ y z c d. same_by_meaning one other y z y z (from_first e y z c d) (finer y z);
       }))
 

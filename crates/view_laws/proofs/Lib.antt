@@ -1,6 +1,8 @@
 pub mod Members
 pub mod NameLaws
 pub mod ViewLaws
+pub mod KnownLaws
+pub mod BoundLaws
 pub mod AnswerLaws
 pub mod SpacelessLaws
 pub mod TouchedLaws
@@ -9,9 +11,13 @@ pub mod FirstLaws
 pub mod TwiceLaws
 pub mod ListLaws
 pub mod SightLaws
+pub mod ChoiceLaws
 pub mod TreeLaws
 pub mod MatchLaws
 pub mod EqualLaws
+pub mod InputLaws
+pub mod VectorLaws
+pub mod DistributorLaws
 pub mod StayLaws
 pub mod WakeLaws
 pub mod ReadyLaws

@@ -1,9 +1,9 @@
 -- What a thread waits for where more is told.
-use Rattle.std.proofs.Common.{◌≡◌, ℕ, suc, Bool, true, false, ◌&&◌, if◌then◌else◌, List, [], ◌∷◌, ◌++◌, length, refl, sym, ap, ap₂, subst, ◌∙◌, Option, Some, None, is_some, slice_get, arith}
+use Rattle.std.proofs.Common.{◌≡◌, ℕ, ℤ, suc, Bool, true, false, ◌&&◌, if◌then◌else◌, List, [], ◌∷◌, ◌++◌, length, refl, sym, ap, ap₂, subst, ◌∙◌, Option, Some, None, is_some, slice_get, arith}
 use Rattle.std.proofs.lemmas.Bool.{false≢true}
 use Rattle.oz_base.specs.declared.names.Ident.{Ident}
 use Rattle.oz_language.specs.Constants.{literal_eq, constant_eq, same_arity}
-use Rattle.oz_semantics.specs.Values.{is_like, fields_of}
+use Rattle.oz_semantics.specs.Values.{is_like, integer, fields_of}
 use Rattle.oz_semantics.specs.Store.{Same, itself, reversed, joined, field, IsConsistent, value_of, is_determined}
 use Rattle.oz_semantics.specs.Matching.{Match, Matches, Differs, MatchWaits, is_as_asked, match_value, match_node, with_piece, matched}
 use Rattle.oz_language.specs.declared.token.Literal.{Literal}
@@ -14,11 +14,11 @@ use Rattle.environments.specs.Environments.{Environment}
 use Rattle.oz_semantics.specs.declared.value.Value.{Value}
 use Rattle.oz_semantics.specs.declared.value.Value.TheVariants as value
 use Rattle.oz_semantics.specs.declared.value.Tell.{Tell}
-use Rattle.oz_semantics.specs.declared.value.Tell.TheVariants.{Is}
 use Rattle.oz_laws.proofs.SameLaws.{and-left, and-right, eq-true}
 use Rattle.oz_laws.proofs.AlikeLaws.{literal_eq-true, constant_eq-true, same_arity-true}
 use Rattle.view_laws.specs.Readies.{Keeps}
-use Rattle.view_laws.proofs.ViewLaws.{same_kept, value_same, has_value, some_is, none_is, Given, given_value}
+use Rattle.view_laws.proofs.ViewLaws.{same_kept, value_same, some_is, none_is}
+use Rattle.view_laws.proofs.KnownLaws.{Known, was_told, is_only, known_value, known_same, known_later, known_alike, known_determined}
 
 -- Lists of variables that are equal, place by place
 abbrev pub AreSame : List Tell → List Ident → List Ident → Type 0
@@ -90,21 +90,30 @@ module _ (before after : List Tell) (keeps : Keeps before after) (sound : IsCons
   later s = same_kept before after keeps s
 
   -- values of one class
-  pub found_alike : (x y : Ident) (v w : Value) → Same after x y → Given after x v → Given after y w → Found after v w
-  found_alike x y v w s g h =
-      let one : Same after g.variable h.variable = joined g.equal (joined s (reversed h.equal)) in
-      let like : is_like v w ≡ true = sound.agree g.variable h.variable v w one g.told h.told in
-      record { like = like; fields = same_places after (fields_of v) (fields_of w) (fields_alike v w like) (λ i a b p q. field i one g.told h.told like p q) }
+  no_field : (v : Value) (n : ℤ) (i : ℕ) (a : Ident) → v ≡ integer n → slice_get (fields_of v) i ≡ Some a → ⊥
+  no_field v n i a e p = let none : slice_get (fields_of (integer n)) i ≡ Some a = sym (ap (λ u. slice_get (fields_of u) i) e) ∙ p in cc
 
-  pub given_later : (x : Ident) (v : Value) → value_of before x ≡ Some v → Given after x v
-  given_later x v e = let g = given_value before x v e in record { variable = g.variable; told = keeps (Is g.variable v) g.told; equal = later g.equal }
+  fields_found :
+      (x y : Ident) (v w : Value) → Same after x y → is_like v w ≡ true → Known after x v → Known after y w → (i : ℕ) (a b : Ident)
+      → slice_get (fields_of v) i ≡ Some a → slice_get (fields_of w) i ≡ Some b → Same after a b
+  fields_found x y v w s like (was_told g) (was_told h) i a b p q = field i (joined g.equal (joined s (reversed h.equal))) g.told h.told like p q
+  fields_found x y v w s like (is_only n e o) k i a b p q = absurd (no_field v n i a e p)
+  fields_found x y v w s like (was_told g) (is_only n e o) i a b p q = absurd (no_field w n i b e q)
+
+  pub found_alike : (x y : Ident) (v w : Value) → Same after x y → Known after x v → Known after y w → Found after v w
+  found_alike x y v w s k l =
+      let like = known_alike after sound x y v w s k l in
+      record { like = like; fields = same_places after (fields_of v) (fields_of w) (fields_alike v w like) (fields_found x y v w s like k l) }
+
+  pub value_known_later : (x : Ident) (v : Value) → value_of before x ≡ Some v → Known after x v
+  value_known_later x v e = known_later before after keeps x v (known_value before x v e)
 
   -- a variable that had a value has one like it, and so has each that is equal to it
   pub value_later : (x y : Ident) (v : Value) → value_of before x ≡ Some v → Same after x y → (w : Value) × (value_of after y ≡ Some w) × Found after v w
   value_later x y v e s =
-      let g = given_later x v e in
-      let w = some_is (value_of after y) (has_value after y g.variable v (reversed (joined g.equal s)) g.told) in
-      (w.0, w.1, found_alike x y v w.0 s g (given_value after y w.0 w.1))
+      let k = value_known_later x v e in
+      let w = some_is (value_of after y) (known_determined after sound y v (known_same after x y v s k)) in
+      (w.0, w.1, found_alike x y v w.0 s k (known_value after y w.0 w.1))
 
   pub determined_later : (x : Ident) → is_determined before x ≡ true → is_determined after x ≡ true
   determined_later x e = let v = some_is (value_of before x) e in ap is_some (value_later x x v.0 v.1 itself).1

@@ -1,19 +1,19 @@
 -- The queue after a step, and what it tells.
-use Rattle.std.proofs.Common.{◌≡◌, inl, inr, ℕ, Bool, true, false, not, if◌then◌else◌, List, [], ◌∷◌, ◌++◌, refl, sym, ap, subst, ◌∙◌, Option, Some, None, filter, map, cond}
+use Rattle.std.proofs.Common.{◌≡◌, inl, inr, ℕ, Bool, true, false, not, ◌||◌, if◌then◌else◌, List, [], ◌∷◌, ◌++◌, refl, sym, ap, subst, ◌∙◌, Option, Some, None, filter, map, cond}
 use Rattle.std.specs.List.{list_any}
 use Rattle.std.proofs.lemmas.Bool.{false≢true}
 use Rattle.oz_base.specs.Lists.{holds_of}
 use Rattle.oz_base.specs.declared.names.Ident.{Ident}
 use Rattle.oz_language.specs.declared.kernel.Statement.{Statement}
 use Rattle.oz_semantics.specs.Names.{is_below, named}
-use Rattle.oz_semantics.specs.Configurations.{is_open}
+use Rattle.oz_semantics.specs.Configurations.{is_open, view}
 use Rattle.oz_semantics.specs.Sights.{can_step}
-use Rattle.oz_semantics.specs.Spaces.{states_of, thread_ready, layer_goes_on, layers_below, goes_on}
+use Rattle.oz_semantics.specs.Spaces.{states_of, readinesses, thread_ready, has_due, layers_below, goes_on}
 use Rattle.oz_semantics.specs.Settling.{is_among, mover_in, queue_after, runnable_in, runnable}
 use Rattle.oz_semantics.specs.declared.configuration.Thread.{Thread}
 use Rattle.oz_semantics.specs.declared.configuration.Layer.{Layer}
 use Rattle.oz_laws.proofs.SameLaws.{In, In-from_contains, contains-from_In, In-flat, In-flat_back, and-left, and-right}
-use Rattle.view_laws.specs.Queues.{is_once, IsExact, QueueExact, QueueOnce, QueueTells}
+use Rattle.view_laws.specs.Queues.{is_once, IsExact, is_due_below, QueueExact, QueueOnce, QueueTells}
 use Rattle.view_laws.proofs.Members.{In-left, In-right, In-cases, bool_eq, decide, not_both, and_both, some_of, by_some}
 use Rattle.view_laws.proofs.ListLaws.{among_in, in_among, filter_in, in_filter, map_in, in_map}
 
@@ -113,6 +113,17 @@ queue_once ids mover queue once each apart =
     (once_filter (λ id. not (is_among (stay ids mover queue) id)) ids once)
     (λ x i j. not_in (stay ids mover queue) x (not_false _ (filter_in (λ id. not (is_among (stay ids mover queue) id)) ids x j).1) i)
 
+-- one of two tests passes somewhere
+pub any_or : {A : Type 0} (p q : A → Bool) (xs : List A) → list_any (λ x. p x || q x) xs ≡ (list_any p xs || list_any q xs)
+any_or p q [] = refl
+any_or p q (x ∷ xs) = ap (λ b. p x || q x || b) (any_or p q xs) ∙ sorted (p x) (q x) (list_any p xs) (list_any q xs)
+  where
+    sorted : (a b c d : Bool) → (a || b || (c || d)) ≡ ((a || c) || (b || d))
+    sorted true b c d = refl
+    sorted false true true d = refl
+    sorted false true false d = refl
+    sorted false false c d = refl
+
 -- The threads that can step
 
 module _ (statements : List Statement) (layers : List Layer) where
@@ -151,7 +162,7 @@ module _ (statements : List Statement) (layers : List Layer) where
   ready_found l false e k = absurd (false≢true k)
 
   abbrev goes : Layer → Bool
-  goes = layer_goes_on statements layers (states_of statements layers)
+  goes l = list_any can_step (readinesses statements layers (states_of statements layers) l)
 
   goes_able : (l : Layer) → goes l ≡ true → (id : Ident) × CanStep l id
   goes_able l e = ready_found l (is_open l.status) refl e
@@ -170,7 +181,7 @@ module _ (statements : List Statement) (layers : List Layer) where
     abbrev stands : Ident → Bool
     stands id = is_below space id.space
 
-    told_queue : goes_on statements layers space ≡ true → list_any stands queue ≡ true
+    told_queue : list_any goes (layers_below layers space) ≡ true → list_any stands queue ≡ true
     told_queue e =
         let l = some_of goes (layers_below layers space) e in
         let f = filter_in below layers l.0 (In-from_contains (layers_below layers space) l.0 l.1) in
@@ -179,7 +190,7 @@ module _ (statements : List Statement) (layers : List Layer) where
         let held : In id.0 queue = among_in queue id.0 (exact id.0 ∙ in_among (runnable statements layers) id.0 there) in
         by_some stands queue id.0 (contains-from_In queue id.0 held) (ap (λ (i : Ident). is_below space i.space) (sym id.1.name) ∙ f.1)
 
-    queue_told : list_any stands queue ≡ true → goes_on statements layers space ≡ true
+    queue_told : list_any stands queue ≡ true → list_any goes (layers_below layers space) ≡ true
     queue_told e =
         let id = some_of stands queue e in
         let there : In id.0 (runnable statements layers) = among_in (runnable statements layers) id.0 (sym (exact id.0) ∙ in_among queue id.0 (In-from_contains queue id.0 id.1)) in
@@ -188,8 +199,13 @@ module _ (statements : List Statement) (layers : List Layer) where
         let kept : In l.0 (layers_below layers space) = in_filter below layers l.0 l.1 (ap (λ (i : Ident). is_below space i.space) c.name ∙ id.2) in
         by_some goes (layers_below layers space) l.0 (contains-from_In (layers_below layers space) l.0 kept) (able_goes l.0 id.0 c)
 
-    pub told_by_queue : goes_on statements layers space ≡ list_any stands queue
-    told_by_queue = bool_eq _ _ told_queue queue_told
+    abbrev is_due_in : Layer → Bool
+    is_due_in l = has_due (view layers l.space) l
+
+    pub told_by_queue : goes_on statements layers space ≡ (list_any stands queue || is_due_below layers space)
+    told_by_queue =
+        any_or goes is_due_in (layers_below layers space)
+        ∙ ap (λ b. b || is_due_below layers space) (bool_eq _ _ told_queue queue_told)
 
 pub queue_tells : QueueTells
 queue_tells statements layers queue space exact = told_by_queue statements layers queue space exact

@@ -5,7 +5,7 @@ use Rattle.oz_language.specs.declared.kernel.Statement.{Statement}
 use Rattle.oz_semantics.specs.Store.{View}
 use Rattle.oz_semantics.specs.Configurations.{is_open, view, in_layer}
 use Rattle.oz_semantics.specs.Sights.{Sight, States, state_in, Readiness}
-use Rattle.oz_semantics.specs.Answers.{Answer, Acts, Edits, RaisesKind, RaisesTerm, Operates, Rests}
+use Rattle.oz_semantics.specs.Answers.{Answer, Acts, Edits, RaisesKind, RaisesTerm, Operates, Widens, Rests}
 use Rattle.oz_semantics.specs.Operations.{operated, with_state, by_state}
 use Rattle.oz_semantics.specs.Statements.{stack_answer}
 use Rattle.oz_semantics.specs.Readiness.{answer_ready}
@@ -48,6 +48,7 @@ by_state_same before after s known (Acts act) = refl
 by_state_same before after s known (Edits edit) = refl
 by_state_same before after s known (RaisesKind kind) = refl
 by_state_same before after s known (RaisesTerm x) = refl
+by_state_same before after s known (Widens ts) = refl
 by_state_same before after s known (Rests ready) = refl
 
 same_ready : (statements : List Statement) (before after : List Layer) (space : List ℕ) (known : States) (t : Thread) → view after space ≡ view before space

@@ -1,17 +1,18 @@
 -- What changes of the layers do to what the spaces see.
-use Rattle.std.proofs.Common.{◌≡◌, inl, inr, ℕ, Bool, true, false, not, cond, if◌then◌else◌, List, [], ◌∷◌, ◌++◌, refl, sym, ap, ap₂, subst, ◌∙◌, Some, is_some, filter, ◌&&◌, append_assoc}
-use Rattle.std.specs.List.{list_all, find}
+use Rattle.std.proofs.Common.{◌≡◌, inl, inr, ℕ, Bool, true, false, not, cond, if◌then◌else◌, List, [], ◌∷◌, ◌++◌, refl, sym, ap, ap₂, subst, ◌∙◌, Some, is_some, unwrap_or, filter, ◌&&◌, append_assoc}
+use Rattle.std.specs.List.{list_all, find, filter_map}
 use Rattle.std.proofs.lemmas.Bool.{false≢true}
 use Rattle.std.proofs.lemmas.List.{append-nil}
-use Rattle.oz_base.specs.Lists.{edit_first, put_before, list_eq}
+use Rattle.oz_base.specs.Lists.{first, edit_first, put_before, list_eq}
 use Rattle.oz_semantics.specs.Names.{is_below, is_properly_below, is_top, parent_of, space_lt}
 use Rattle.oz_semantics.specs.Configurations.{is_of, layer_at, layer_of, view, in_layer, failed, raised_by, next_child, new_layer, counting_child}
 use Rattle.oz_semantics.specs.Spaces.{sight}
-use Rattle.oz_semantics.specs.Edits.{starting, committing}
+use Rattle.oz_language.specs.declared.kernel.Statement.{Statement}
+use Rattle.oz_semantics.specs.Edits.{starting, chosen_tells, thread_offer, committing}
 use Rattle.oz_semantics.specs.declared.value.Tell.{Tell}
 use Rattle.oz_semantics.specs.declared.configuration.Layer.{Layer}
 use Rattle.oz_laws.proofs.SameLaws.{and-left, and-right}
-use Rattle.view_laws.specs.Sights.{ChangeUnseen, QuietUnseen, SeesBesides, TellSeen, EndUnseen, FailureUnseen, RaiseUnseen, CreationUnseen, CommitmentUnseen, is_led, ViewSplits}
+use Rattle.view_laws.specs.Sights.{ChangeUnseen, QuietUnseen, SeesBesides, TellSeen, EndUnseen, FailureUnseen, RaiseUnseen, CreationUnseen, committed_tells, CommitmentUnseen, CommitmentSeen, is_led, ViewSplits}
 use Rattle.view_laws.proofs.Members.{decide, not_both, has-left, has-right, has-cases}
 use Rattle.view_laws.proofs.NameLaws.{below_itself, equal_names, above_parent, not_above_parent, properly_trans}
 
@@ -178,8 +179,21 @@ creation_unseen layers parent other procedure =
     put_view (λ (m : Layer). space_lt new.space m.space) new other refl (in_layer parent counting_child layers)
     ∙ quiet_unseen counting_child layers parent other (λ m e. refl) (λ m e. refl)
 
+-- what a commitment tells the layer
+committed_more : (statements : List Statement) (layers : List Layer) (space : List ℕ) (i : ℕ) (l : Layer) → layer_at layers space ≡ Some l
+    → (committing (sight statements layers space) i l).tells ≡ l.tells ++ committed_tells statements layers space i
+committed_more statements layers space i l e =
+    ap (λ (m : Layer). l.tells ++ chosen_tells i (first (filter_map (thread_offer (sight statements layers space)) m.threads)))
+    (ap (λ o. unwrap_or o (new_layer space)) (sym e))
+
 pub commitment_unseen : CommitmentUnseen
-commitment_unseen statements layers space other i = quiet_unseen (committing (sight statements layers space) i) layers space other (λ l e. refl) (λ l e. refl)
+commitment_unseen statements layers space other i (inl apart) = change_unseen (committing (sight statements layers space) i) layers space other (λ l e. refl) apart
+commitment_unseen statements layers space other i (inr none) =
+    quiet_unseen (committing (sight statements layers space) i) layers space other (λ l e. refl) (λ l e. committed_more statements layers space i l e ∙ ap (λ (ts : List Tell). l.tells ++ ts) none ∙ append-nil l.tells)
+
+pub commitment_seen : CommitmentSeen
+commitment_seen statements layers space other i there below =
+    tell_seen (committing (sight statements layers space) i) layers space other (committed_tells statements layers space i) (λ l e. refl) (committed_more statements layers space i) there below
 
 -- A space and its parent
 

@@ -31,7 +31,7 @@ module _ (layers : List Layer) (s : Sight) (states : States) (none : list_any gi
   no_operation op child x y told below = absurd (not_both _ (by_some gives_space s.view (Is y (value.Space child)) told refl) none)
 
   pub stack_plain : (frames : List Frame) → Plain (stack_answer s frames)
-  stack_plain frames = stack_holds s Plain (λ act. refl) (λ procedure x. refl) (λ kind. refl) (λ x. refl) (λ ready. refl) no_operation frames
+  stack_plain frames = stack_holds s Plain (λ act. refl) (λ procedure x. refl) (λ kind. refl) (λ x. refl) (λ ts. refl) (λ ready. refl) no_operation frames
 
 pub spaceless_answer : SpacelessAnswer
 spaceless_answer statements layers states space frames none = stack_plain layers (sight statements layers space) states none frames

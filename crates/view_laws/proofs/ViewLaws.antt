@@ -1,17 +1,18 @@
--- What more tells keep: equalities, and the first value of a class.
-use Rattle.std.proofs.Common.{◌≡◌, ◌⊎◌, inl, inr, ℕ, zero, suc, Bool, true, false, if◌then◌else◌, List, [], ◌∷◌, ◌++◌, refl, sym, ap, subst, ◌∙◌, Contains, Option, Some, None, is_some, flat_map, slice_get}
+-- What more tells keep: equalities, and the first value that was told of a class.
+use Rattle.std.proofs.Common.{◌≡◌, ◌⊎◌, inl, inr, ℕ, zero, suc, Bool, true, false, if◌then◌else◌, List, [], ◌∷◌, ◌++◌, refl, sym, ap, subst, ◌∙◌, Contains, Option, Some, None, is_some, option_map, option_and_then, flat_map, slice_get}
 use Rattle.std.proofs.lemmas.Bool.{false≢true}
 use Rattle.oz_base.specs.Lists.{given_or, first_given}
 use Rattle.oz_base.specs.declared.names.Ident.{Ident}
-use Rattle.oz_semantics.specs.Values.{fields_of}
-use Rattle.oz_semantics.specs.Store.{Same, told, itself, reversed, joined, field, same, named_by, value_given, value_of, is_determined}
+use Rattle.oz_semantics.specs.Values.{integer, fields_of}
+use Rattle.oz_semantics.specs.Store.{Same, told, itself, reversed, joined, field, same, named_by, value_given, told_value, told_domain, value_of, is_determined}
+use Rattle.oz_domains.specs.Domains.{only}
 use Rattle.oz_semantics.specs.declared.value.Value.{Value}
 use Rattle.oz_semantics.specs.declared.value.Tell.{Tell}
 use Rattle.oz_semantics.specs.declared.value.Tell.TheVariants.{Equal, Is}
 use Rattle.oz_laws.proofs.SameLaws.{In, In-from_contains, contains-from_In, In-flat, tests_same}
-use Rattle.oz_laws.proofs.StoreLaws.{given_row}
+use Rattle.oz_laws.proofs.StoreLaws.{value_row, told_value_by}
 use Rattle.view_laws.specs.Readies.{Keeps}
-use Rattle.view_laws.proofs.Members.{bool_eq, decide}
+use Rattle.view_laws.proofs.Members.{bool_eq}
 
 pub same_kept : (before after : List Tell) → Keeps before after → {x y : Ident} → Same before x y → Same after x y
 same_kept before after k (told {x = x} {y = y} c) = told (k (Equal x y) c)
@@ -83,12 +84,15 @@ first_none f [] h = refl
 first_none f (x ∷ xs) h = ap (λ o. given_or o (first_given f xs)) (h x (inl refl)) ∙ first_none f xs (λ y k. h y (inr k))
 
 pub value_same : (ts : List Tell) (x y : Ident) → Same ts x y → value_of ts x ≡ value_of ts y
-value_same ts x y s = first_same (value_given (λ z. same ts z x)) (value_given (λ z. same ts z y)) (given_row ts x y s) ts
+value_same ts x y s = value_row ts x y s
+
+pub determined_same : (ts : List Tell) (x y : Ident) → Same ts x y → is_determined ts x ≡ is_determined ts y
+determined_same ts x y s = ap is_some (value_row ts x y s)
 
 pub given_test : (f g : Ident → Bool) → ((x : Ident) → f x ≡ g x) → (t : Tell) → value_given f t ≡ value_given g t
 given_test f g h t = ap (λ (k : Ident → Bool). value_given k t) (λ i x. h x i)
 
-some_or : {B : Type 0} (o p : Option B) → is_some o ≡ true → is_some (given_or o p) ≡ true
+pub some_or : {B : Type 0} (o p : Option B) → is_some o ≡ true → is_some (given_or o p) ≡ true
 some_or None p e = absurd (false≢true e)
 some_or (Some u) p e = refl
 
@@ -101,15 +105,15 @@ given_found f [] x h e = elim h [ ]
 given_found f (y ∷ xs) x (inl k) e = some_or (f y) (first_given f xs) (ap (λ z. is_some (f z)) k ∙ e)
 given_found f (y ∷ xs) x (inr h) e = or_some (f y) (first_given f xs) (given_found f xs x h e)
 
--- a variable that is equal to one that was told a value has one
-pub has_value : (ts : List Tell) (x y : Ident) (w : Value) → Same ts x y → Contains ts (Is y w) → is_determined ts x ≡ true
-has_value ts x y w s c =
+-- a variable that is equal to one that was told a value was told one
+pub told_some : (ts : List Tell) (x y : Ident) (w : Value) → Same ts x y → Contains ts (Is y w) → is_some (told_value ts x) ≡ true
+told_some ts x y w s c =
     given_found (value_given (λ z. same ts z x)) ts (Is y w) (In-from_contains ts (Is y w) c) (ap (λ (b : Bool). is_some (if b then Some w else None)) ((tests_same ts y x).1 (reversed s)))
 
--- Where a value comes from
+pub has_value : (ts : List Tell) (x y : Ident) (w : Value) → Same ts x y → Contains ts (Is y w) → is_determined ts x ≡ true
+has_value ts x y w s c = some_or (told_value ts x) _ (told_some ts x y w s c)
 
-value_is : (w v : Value) → ◌≡◌ {A = Option Value} (Some w) (Some v) → w ≡ v
-value_is w v e = let k : w ≡ v = cc in k
+-- Where a value comes from
 
 pub some_is : (o : Option Value) → is_some o ≡ true → (w : Value) × (o ≡ Some w)
 some_is None e = absurd (false≢true e)
@@ -124,21 +128,13 @@ pub record Given (ts : List Tell) (x : Ident) (v : Value) : Type 0 where
   pub told : Contains ts (Is variable v)
   pub equal : Same ts variable x
 
-given_from : (f : Tell → Option Value) (xs : List Tell) (v : Value) → first_given f xs ≡ Some v → (t : Tell) × In t xs × (f t ≡ Some v)
-given_from f [] v e = cc
-given_from f (t ∷ xs) v e = by (f t) refl e (given_from f xs v)
-  where
-    by : (o : Option Value) → f t ≡ o → given_or o (first_given f xs) ≡ Some v → (first_given f xs ≡ Some v → (u : Tell) × In u xs × (f u ≡ Some v)) → (u : Tell) × In u (t ∷ xs) × (f u ≡ Some v)
-    by None k h rest = let r = rest h in (r.0, inr r.1, r.2)
-    by (Some w) k h rest = (t, inl refl, k ∙ h)
+pub given_told : (ts : List Tell) (x : Ident) (v : Value) → told_value ts x ≡ Some v → Given ts x v
+given_told ts x v e = let r = told_value_by ts x v e in record { variable = r.variable; told = r.tells; equal = r.equal }
 
-pub given_value : (ts : List Tell) (x : Ident) (v : Value) → value_of ts x ≡ Some v → Given ts x v
-given_value ts x v e = let r = given_from (value_given (λ y. same ts y x)) ts v e in by r.0 r.1 r.2
+-- a variable without a value was told none
+pub free_told : (ts : List Tell) (x : Ident) → is_determined ts x ≡ false → told_value ts x ≡ None
+free_told ts x e = by (told_value ts x) e
   where
-    by : (t : Tell) → In t ts → value_given (λ y. same ts y x) t ≡ Some v → Given ts x v
-    by (Equal a b) h k = cc
-    by (Is y w) h k = elim (decide (same ts y x)) [
-      | inl s ↦ (let q : w ≡ v = value_is w v (sym (ap (λ (b : Bool). if b then Some w else None) s) ∙ k) in
-          record { variable = y; told = subst (λ u. Contains ts (Is y u)) q (contains-from_In ts (Is y w) h); equal = (tests_same ts y x).0 s })
-      | inr s ↦ (let q : ◌≡◌ {A = Option Value} None (Some v) = sym (ap (λ (b : Bool). if b then Some w else None) s) ∙ k in cc)
-    ]
+    by : (o : Option Value) → is_some (given_or o (option_map integer (option_and_then only (told_domain ts x)))) ≡ false → o ≡ None
+    by None k = refl
+    by (Some v) k = absurd (false≢true (sym k))

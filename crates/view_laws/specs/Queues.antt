@@ -1,12 +1,12 @@
 -- What the queue tells of the layers, and what a step that tells nothing makes of it.
-use Rattle.std.specs.Prelude.{ℕ, ◌≡◌, Bool, true, false, not, ◌&&◌, List, [], ◌∷◌, ◌++◌, Contains, Option, Some, filter}
+use Rattle.std.specs.Prelude.{ℕ, ◌≡◌, Bool, true, false, not, ◌&&◌, ◌||◌, List, [], ◌∷◌, ◌++◌, Contains, Option, Some, filter}
 use Rattle.std.specs.List.{list_any}
 use Rattle.oz_base.specs.Lists.{is_empty, holds_of}
 use Rattle.oz_base.specs.declared.names.Ident.{Ident}
 use Rattle.oz_language.specs.declared.kernel.Statement.{Statement}
 use Rattle.oz_semantics.specs.Names.{is_below, named}
-use Rattle.oz_semantics.specs.Configurations.{layer_at, in_layer, in_thread}
-use Rattle.oz_semantics.specs.Spaces.{goes_on}
+use Rattle.oz_semantics.specs.Configurations.{layer_at, view, in_layer, in_thread}
+use Rattle.oz_semantics.specs.Spaces.{has_due, layers_below, goes_on}
 use Rattle.oz_semantics.specs.Settling.{is_among, mover_in, queue_after, runnable_in, runnable}
 use Rattle.oz_semantics.specs.declared.configuration.Frame.{Frame}
 use Rattle.oz_semantics.specs.declared.configuration.Thread.{Thread}
@@ -36,11 +36,16 @@ QueueOnce =
 abbrev pub IsExact : List Statement → List Layer → List Ident → Type 0
 IsExact statements layers queue = (id : Ident) → is_among queue id ≡ is_among (runnable statements layers) id
 
--- Then something of a space or below it can step exactly where the queue holds a thread of it or of a space below it
+-- a propagator of the space or below it is due
+abbrev pub is_due_below : List Layer → List ℕ → Bool
+is_due_below layers space = list_any (λ (l : Layer). has_due (view layers l.space) l) (layers_below layers space)
+
+-- Then something of a space or below it can step or is due exactly where the queue holds a thread of it or of a space below it, or a
+-- propagator there is due
 abbrev pub QueueTells : Type 0
 QueueTells =
     (statements : List Statement) (layers : List Layer) (queue : List Ident) (space : List ℕ) → IsExact statements layers queue
-    → goes_on statements layers space ≡ list_any (λ (id : Ident). is_below space id.space) queue
+    → goes_on statements layers space ≡ (list_any (λ (id : Ident). is_below space id.space) queue || is_due_below layers space)
 
 -- A step that tells nothing
 

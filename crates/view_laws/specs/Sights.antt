@@ -1,11 +1,14 @@
 -- What changes of the layers do to what the spaces see.
 use Rattle.std.specs.Prelude.{ℕ, ◌≡◌, ◌⊎◌, Bool, true, false, not, ◌&&◌, List, [], ◌∷◌, ◌++◌, Contains, is_some, Some}
-use Rattle.std.specs.List.{list_all}
+use Rattle.std.specs.List.{list_all, filter_map}
+use Rattle.oz_base.specs.Lists.{first}
 use Rattle.oz_base.specs.declared.names.Ident.{Ident}
 use Rattle.oz_language.specs.declared.kernel.Statement.{Statement}
 use Rattle.oz_semantics.specs.Names.{is_below, is_properly_below, is_top, parent_of}
-use Rattle.oz_semantics.specs.Configurations.{layer_at, view, in_layer, failed, raised_by, ending}
-use Rattle.oz_semantics.specs.Edits.{created, committed}
+use Rattle.oz_semantics.specs.Store.{is_consistent}
+use Rattle.oz_semantics.specs.Configurations.{layer_at, layer_of, view, in_layer, failed, raised_by, ending}
+use Rattle.oz_semantics.specs.Spaces.{sight}
+use Rattle.oz_semantics.specs.Edits.{chosen_tells, thread_offer, created, committed}
 use Rattle.oz_semantics.specs.declared.value.Tell.{Tell}
 use Rattle.oz_semantics.specs.declared.configuration.Layer.{Layer}
 
@@ -62,10 +65,29 @@ RaiseUnseen =
 abbrev pub CreationUnseen : Type 0
 CreationUnseen = (layers : List Layer) (parent other : List ℕ) (procedure : Ident) → view (created parent procedure layers) other ≡ view layers other
 
--- nor the choice of an alternative
+-- what a space is told that is committed to its i-th alternative
+abbrev pub committed_tells : List Statement → List Layer → List ℕ → ℕ → List Tell
+committed_tells statements layers space i =
+    chosen_tells i (first (filter_map (thread_offer (sight statements layers space)) (layer_of layers space).threads))
+
+-- The choice of an alternative is not seen by a space that is not below, and where it tells nothing by none
 abbrev pub CommitmentUnseen : Type 0
 CommitmentUnseen =
-    (statements : List Statement) (layers : List Layer) (space other : List ℕ) (i : ℕ) → view (committed statements space i layers) other ≡ view layers other
+    (statements : List Statement) (layers : List Layer) (space other : List ℕ) (i : ℕ)
+    → (is_below space other ≡ false) ⊎ (committed_tells statements layers space i ≡ [])
+    → view (committed statements space i layers) other ≡ view layers other
+
+-- A space below sees besides what is told with it
+abbrev pub CommitmentSeen : Type 0
+CommitmentSeen =
+    (statements : List Statement) (layers : List Layer) (space other : List ℕ) (i : ℕ) → is_some (layer_at layers space) ≡ true → is_below space other ≡ true
+    → SeesBesides (view layers other) (view (committed statements space i layers) other) (committed_tells statements layers space i)
+
+-- A space that is consistent is consistent with what is told with the choice
+abbrev pub CommittedConsistent : Type 0
+CommittedConsistent =
+    (statements : List Statement) (layers : List Layer) (space : List ℕ) (i : ℕ) → is_consistent (view layers space) ≡ true
+    → is_consistent (view layers space ++ committed_tells statements layers space i) ≡ true
 
 -- no layer's space has one of the later layers' spaces above it, nor is it one of them. In the order of names it is so
 abbrev pub is_led : List Layer → Bool

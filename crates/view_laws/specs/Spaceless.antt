@@ -9,7 +9,7 @@ use Rattle.oz_semantics.specs.Statements.{stack_answer}
 use Rattle.oz_semantics.specs.Readiness.{answer_ready}
 use Rattle.oz_semantics.specs.Spaces.{sight, answer_in, ready_in}
 use Rattle.oz_semantics.specs.declared.value.Tell.{Tell}
-use Rattle.oz_semantics.specs.declared.value.Tell.TheVariants.{Equal, Is}
+use Rattle.oz_semantics.specs.declared.value.Tell.TheVariants.{Equal, Is, Within}
 use Rattle.oz_semantics.specs.declared.configuration.Frame.{Frame}
 use Rattle.oz_semantics.specs.declared.configuration.Thread.{Thread}
 use Rattle.oz_semantics.specs.declared.configuration.Layer.{Layer}
@@ -19,6 +19,7 @@ use Rattle.view_laws.specs.Sights.{KeepsTells}
 abbrev pub gives_space : Tell → Bool
 gives_space (Is x v) = is_some (space_in v)
 gives_space (Equal x y) = false
+gives_space (Within x is) = false
 
 -- a layer was told of one
 abbrev pub knows_space : Layer → Bool

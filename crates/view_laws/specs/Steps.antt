@@ -6,7 +6,7 @@ use Rattle.oz_language.specs.declared.kernel.Statement.{Statement}
 use Rattle.oz_semantics.specs.Configurations.{layer_at, thread_at, is_open, in_layer, with_frames, without_terminated}
 use Rattle.oz_semantics.specs.Sights.{can_step}
 use Rattle.oz_semantics.specs.Spaces.{thread_ready}
-use Rattle.oz_semantics.specs.Changes.{Change, GivesOut, CountsProcedure, CountsName, Pushes, Spawns, AddsCell, Holds, AddsPort, EndsAt, AddsTrigger, changed_all}
+use Rattle.oz_semantics.specs.Changes.{Change, GivesOut, CountsProcedure, CountsName, Pushes, Spawns, AddsCell, Holds, AddsPort, EndsAt, AddsTrigger, AddsPropagator, changed_all}
 use Rattle.oz_semantics.specs.Settling.{Turned, is_inconsistent, is_among, mover_in, runnable_in, runnable, settled}
 use Rattle.oz_semantics.specs.Steps.{without_top, went_on}
 use Rattle.oz_semantics.specs.declared.configuration.Frame.{Frame}
@@ -34,6 +34,7 @@ spawned_from n (Holds number content ∷ changes) = spawned_from n changes
 spawned_from n (AddsPort end ∷ changes) = spawned_from n changes
 spawned_from n (EndsAt number end ∷ changes) = spawned_from n changes
 spawned_from n (AddsTrigger procedure variable ∷ changes) = spawned_from n changes
+spawned_from n (AddsPropagator relation variables ∷ changes) = spawned_from n changes
 
 -- the layers are those before but for one, which is what such a step of the thread makes of it
 pub record MadeOf (id : Ident) (layers result : List Layer) (before : Layer) (news : List Thread) : Type 0 where

@@ -3,9 +3,9 @@ use Rattle.std.specs.Prelude.{◌≡◌, Bool, true, not, ◌&&◌, ◌||◌, Li
 use Rattle.std.specs.List.{list_any, list_all, find, flat_map}
 use Rattle.oz_base.specs.declared.names.Ident.{Ident}
 use Rattle.oz_base.specs.Lists.{holds_of}
-use Rattle.oz_semantics.specs.Store.{Same, same, value_of, is_determined, named_by}
+use Rattle.oz_semantics.specs.Store.{Same, same, value_of, domain_of, is_determined, named_by}
 use Rattle.oz_semantics.specs.Settling.{is_among}
-use Rattle.oz_semantics.specs.Spaces.{values_eq, alike_on, is_held}
+use Rattle.oz_semantics.specs.Spaces.{values_eq, domains_eq, alike_on, is_held}
 use Rattle.oz_semantics.specs.declared.value.Tell.{Tell}
 use Rattle.oz_laws.specs.Touched.{Touches}
 
@@ -24,6 +24,10 @@ TouchedDecide =
     (before more : List Tell) (touched xs ys : List Ident) → Touches before more touched → NamesWithin before xs → IsPart touched xs ys
     → alike_on xs (before ++ more) before ≡ alike_on ys (before ++ more) before
 
+-- a variable has the same value and the same domain in both views
+abbrev pub alike_at : List Tell → List Tell → Ident → Bool
+alike_at one other y = values_eq (value_of one y) (value_of other y) && domains_eq (domain_of one y) (domain_of other y)
+
 -- the first of the list whose class in the one view is that of y, if there is one, is equal to y in the other view
 abbrev pub equal_to_first : List Ident → List Tell → List Tell → Ident → Bool
 equal_to_first ys one other y = holds_of (same other y) (find (same one y) ys)
@@ -32,7 +36,7 @@ equal_to_first ys one other y = holds_of (same other y) (find (same one y) ys)
 abbrev pub FirstsDecide : Type 0
 FirstsDecide =
     (one other : List Tell) (ys : List Ident) → ((x y : Ident) → Same other x y → Same one x y)
-    → alike_on ys one other ≡ list_all (λ y. values_eq (value_of one y) (value_of other y) && equal_to_first ys one other y) ys
+    → alike_on ys one other ≡ list_all (λ y. alike_at one other y && equal_to_first ys one other y) ys
 
 -- A wait is for variables of xs exactly where it is for one that is among them itself, or equal to one that was touched
 abbrev pub TouchedHold : Type 0

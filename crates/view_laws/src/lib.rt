@@ -4,7 +4,7 @@
 #![tactic(auto)]
 
 ghost use Rattle.view_laws.specs.Touched.{TouchedDecide, FirstsDecide, TouchedHold, UntouchedAlike, TouchesNothing, TouchesTwice};
-ghost use Rattle.view_laws.specs.Sights.{ChangeUnseen, QuietUnseen, TellSeen, EndUnseen, FailureUnseen, RaiseUnseen, CreationUnseen, CommitmentUnseen, ViewSplits};
+ghost use Rattle.view_laws.specs.Sights.{ChangeUnseen, QuietUnseen, TellSeen, EndUnseen, FailureUnseen, RaiseUnseen, CreationUnseen, CommitmentUnseen, CommitmentSeen, CommittedConsistent, ViewSplits};
 ghost use Rattle.view_laws.specs.Trees.{TreesLead, ChangeTree, EndTree, FailureTree, RaiseTree, CreationTree};
 ghost use Rattle.view_laws.specs.Spaceless.{SpacelessAnswer, SpacelessReady, QuietSpaceless, TellSpaceless, UntoldSpaceless};
 ghost use Rattle.view_laws.specs.Readies.{ReadinessStays, UntouchedUnmoved, ChangeReady, QuietReady};
@@ -32,6 +32,8 @@ pub fn sight_law()
     ensures raised { RaiseUnseen }
     ensures creation { CreationUnseen }
     ensures commitment { CommitmentUnseen }
+    ensures committed { CommitmentSeen }
+    ensures consistent { CommittedConsistent }
     ensures split { ViewSplits }
 {}
 

@@ -1,5 +1,5 @@
 use Rattle.oz_semantics.specs.declared.value.Builtin.TheVariants.{Label, Width, Arity, Wait, Access, Assign, Exchange, Send, ByNeed, NewSpace}
-use Rattle.builtins.proofs.ReadyLaws.{ready_one_input, ready_two_inputs, ready_choose_input, ready_space_input, label_waits, width_waits, arity_waits, wait_waits, access_waits, assign_waits, exchange_waits, send_waits, by_need_waits, new_space_waits}
+use Rattle.builtins.proofs.ReadyLaws.{ready_one_input, ready_two_inputs, ready_choose_input, ready_space_input, ready_distinct_input, ready_distribute_input, label_waits, width_waits, arity_waits, wait_waits, access_waits, assign_waits, exchange_waits, send_waits, by_need_waits, new_space_waits}
 use Rattle.builtins.proofs.readiness.ready_given.Goals as goal
 
 pub returns-in-Operation : goal.returns-in-Operation
@@ -53,3 +53,11 @@ returns-in-Choose c =
 pub returns-in-OnSpace : goal.returns-in-OnSpace
 returns-in-OnSpace c =
     ready_space_input c.args.space.now c.args.store.now c.args.builtin _ c.args.first.now c.args.second.now c.ready_on_space.result c.in-OnSpace.is c.ready_on_space.ensures
+
+pub returns-in-Distinct : goal.returns-in-Distinct
+returns-in-Distinct c =
+    ready_distinct_input c.args.space.now c.args.store.now c.args.builtin c.args.first.now c.args.second.now c.ready_distinct.result c.in-Distinct.is c.ready_distinct.ensures
+
+pub returns-in-Distribute : goal.returns-in-Distribute
+returns-in-Distribute c =
+    ready_distribute_input c.args.space.now c.args.store.now c.args.builtin c.args.first.now c.args.second.now c.ready_distributor.result c.in-Distribute.is c.ready_distributor.ensures

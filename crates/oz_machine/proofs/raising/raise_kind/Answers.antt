@@ -1,24 +1,4 @@
-use Rattle.std.proofs.Common.{◌≡◌, ◌∙◌, length, sym, ap, arith}
-use Rattle.std.proofs.lemmas.List.{length-map}
-use Rattle.oz_semantics.specs.Names.{named}
-use Rattle.oz_semantics.specs.Exceptions.{raise_term}
-use Rattle.oz_semantics.specs.declared.configuration.Next.{Next}
-use Rattle.oz_raise.specs.Nodes.{node_of, term_of}
-use Rattle.oz_machine.proofs.DoingLaws.{new_told}
 use Rattle.oz_machine.proofs.raising.raise_kind.Goals as goal
 
 pub returns-clause-turn : goal.returns-clause-turn
-returns-clause-turn c = λ statements.
-    let s = c.args.id.now.space in
-    let old = c.args.course.now.levels in
-    let nodes = c.in_ok-nodes.nodes in
-    let t = raise_term c.args.kind in
-    let width : length nodes.items ≡ length t = sym (length-map nodes.items node_of) ∙ ap length c.in_ok-nodes.ensures in
-    let long : c.len.result ≡ length t = omega (arith, nodes.ok.0, c.len.ensures, width) in
-    let same = new_told old s c.next_of-next.result (term_of c.deref.result.now) t c.in_ok-made.made.tells.items c.next_of-next.ensures
-    (ap term_of c.deref.ensures.value ∙ c.in_ok-nodes.ensures) c.in_ok-made.ensures.tells in
-    c.raise_new.ensures.turn statements c.args.kind (record {
-      variable = c.in_ok-made.ensures.variable ∙ ap (λ (k : Next). named s k.variable) c.next_of-next.ensures;
-      tells = same;
-      count = long;
-    })
+returns-clause-turn c = λ statements. c.raise_new.ensures.turn statements c.args.kind c.in_ok-made.ensures

@@ -109,7 +109,7 @@ returns-in_err-settle-in-Quiescent-clause-err c =
     let there = config_of k.statements c.turn.new.course in
     let next = config_of k.statements c.settle-in-Quiescent.new.course in
     let turned = was_made (turn k here) c.turns.left here there c.in_ok-stepped.field-0 c.in-Some.stepped c.in_ok-stepped.ensures.turn c.in-Some.is in
-    let quiet : here ≡ there = same_quiet k here there here.queue (turned ∙ ap (λ s. (s, there)) c.in-Quiescent.is) in
+    let quiet : here ≡ there = same_quiet k here there (turned ∙ ap (λ s. (s, there)) c.in-Quiescent.is) in
     let settled : next ≡ there =
     subst (λ (st : List Statement). config_of st c.settle-in-Quiescent.new.course ≡ config_of st c.turn.new.course) c.as_slice-statements.ensures c.settle-in-Quiescent.ensures.same in
     let same : next ≡ here = settled ∙ sym quiet in
@@ -125,7 +125,7 @@ returns-in-Quiescent-clause-err c =
     let there = config_of k.statements c.turn.new.course in
     let next = config_of k.statements c.settle-in-Quiescent.new.course in
     let turned = was_made (turn k here) c.turns.left here there c.in_ok-stepped.field-0 c.in-Some.stepped c.in_ok-stepped.ensures.turn c.in-Some.is in
-    let quiet : here ≡ there = same_quiet k here there here.queue (turned ∙ ap (λ s. (s, there)) c.in-Quiescent.is) in
+    let quiet : here ≡ there = same_quiet k here there (turned ∙ ap (λ s. (s, there)) c.in-Quiescent.is) in
     let settled : next ≡ there =
     subst (λ (st : List Statement). config_of st c.settle-in-Quiescent.new.course ≡ config_of st c.turn.new.course) c.as_slice-statements.ensures c.settle-in-Quiescent.ensures.same in
     let same : next ≡ here = settled ∙ sym quiet in

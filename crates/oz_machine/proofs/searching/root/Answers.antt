@@ -1,3 +1,4 @@
+use Rattle.settle_laws.proofs.SettleLaws.{nothing_fails}
 use Rattle.oz_machine.specs.Courses.{config_of}
 use Rattle.oz_acts.proofs.PlaceLaws.{place_seen}
 use Rattle.oz_machine.proofs.SearchLaws.{root_by}
@@ -11,5 +12,6 @@ returns-clause-root c =
     let st = c.args.statements.now in
     let settled = c.settle_only.new.course in
     let nobody = c.in_ok-settle_only.ensures.due in
-    root_by st c.args.procedure c.top-top.result c.args.course.now settled c.create.new.self (config_of st c.follow_edit.new.course) c.settle_only.ensures.same nobody c.top-top.ensures c.in_ok-space.ensures.ok
-    (c.follow_edit.ensures st settled.levels nobody)
+    let made = c.create.new.self in
+    root_by st c.args.procedure c.top-top.result c.args.course.now settled made (config_of st c.follow_edit.new.course) c.settle_only.ensures.same nobody c.top-top.ensures c.in_ok-space.ensures.ok
+    (c.follow_edit.ensures st c.top-top.result settled.levels made (nothing_fails c.top-top.result made c.consistent.ensures))

@@ -1,7 +1,8 @@
-use Rattle.std.proofs.Common.{◌∙◌, ap, sym}
+use Rattle.std.proofs.Common.{◌∙◌, List, ap, sym}
 use Rattle.oz_base.specs.declared.names.Ident.{Ident}
 use Rattle.oz_semantics.specs.Answers as answers
-use Rattle.oz_semantics.specs.Steps.{after_answer, raised, raised_kind, without_top}
+use Rattle.oz_semantics.specs.Steps.{after_answer, told, raised, raised_kind, without_top}
+use Rattle.oz_semantics.specs.declared.value.Tell.{Tell}
 use Rattle.builtins.specs.Answers.{act_of, edit_of}
 use Rattle.oz_machine.specs.Courses.{config_of, stepping}
 use Rattle.oz_machine.proofs.DoingLaws.{ok_turn}
@@ -44,6 +45,15 @@ returns-in-Acts-clause-turn c = λ a h.
     let act = answers.Acts (act_of c.in-Acts.what) in
     ok_turn c.make_act.result (after_answer k id (without_top id now.levels) (stepping now) a) (after_answer k id (without_top id now.levels) (stepping now) act) (config_of k.statements c.make_act.new.course)
     (ap (after_answer k id (without_top id now.levels) (stepping now)) acts) c.make_act.ensures.turn
+
+pub returns-in-Widens-clause-turn : goal.returns-in-Widens-clause-turn
+returns-in-Widens-clause-turn c = λ a h.
+    let k = c.args.kernel.now in
+    let id = c.args.id.now in
+    let now = c.args.course.now in
+    let widens = rw c.in-Widens.is at h in
+    ok_turn c.widen.result (after_answer k id (without_top id now.levels) (stepping now) a) (told k.statements id c.as_slice.result.now (λ layers. layers) now.levels (stepping now)) (config_of k.statements c.widen.new.course)
+    (ap (after_answer k id (without_top id now.levels) (stepping now)) widens ∙ ap (λ (ts : List Tell). told k.statements id ts (λ layers. layers) now.levels (stepping now)) (sym c.as_slice.ensures)) (c.widen.ensures.turn k.statements)
 
 pub returns-in-RaisesKind-clause-turn : goal.returns-in-RaisesKind-clause-turn
 returns-in-RaisesKind-clause-turn c = λ a h.

@@ -7,12 +7,12 @@ use Rattle.oz_top.proofs.call.answer.Goals as goal
 pub returns-in-Ok-clause-gives : goal.returns-in-Ok-clause-gives
 returns-in-Ok-clause-gives g c =
     IfOk-weaker c.answer_for.result _ _ (λ plan e. accepted_gives c.args.text.now c.args.command c.in-Ok.program plan.cause plan.reply.items c.in-Ok.ensures.accepted e)
-    (c.answer_for.ensures c.in-Ok.ensures.accepted)
+    c.answer_for.ensures
 
 pub returns-in-Ok-clause-due : goal.returns-in-Ok-clause-due
 returns-in-Ok-clause-due g c =
-    IfOk-weaker c.answer_for.result _ _ (λ plan e. accepted_due c.args.text.now c.args.command c.in-Ok.program (plan.cause, plan.reply.items) c.in-Ok.ensures.accepted c.one_reading.ensures c.in-Ok.ensures.only c.in-Ok.ensures.unrefused e)
-    (c.answer_for.ensures c.in-Ok.ensures.accepted)
+    IfOk-weaker c.answer_for.result _ _ (λ plan e. accepted_due c.args.text.now c.args.command c.in-Ok.program (plan.cause, plan.reply.items) c.in-Ok.ensures.only c.in-Ok.ensures.unrefused e)
+    c.answer_for.ensures
 
 pub returns-in-Err-Refused-clause-gives : goal.returns-in-Err-Refused-clause-gives
 returns-in-Err-Refused-clause-gives g c =

@@ -8,7 +8,7 @@ use Rattle.oz_language.specs.KernelTexts.{kernel_text}
 use Rattle.oz_language.specs.declared.command.Command.TheVariants as commands
 use Rattle.oz_replies.specs.declared.cause.Cause.TheVariants as causes
 use Rattle.oz_top.specs.Call.{Reading, Writing, Plans, Ends, IsExcused}
-use Rattle.oz_top.proofs.Answering.{Replied, replied, read_by, usage_ended, asked_large, asked_refused, asked_accepted, asked_unserved, written, served_answer, searched_all, ended_run}
+use Rattle.oz_top.proofs.Answering.{Replied, replied, read_by, usage_ended, asked_large, asked_refused, asked_accepted, written, searched_all, ended_run}
 use Rattle.oz_top.proofs.call.oz_call.Given as given
 use Rattle.oz_top.proofs.call.oz_call.Goals as goal
 
@@ -46,19 +46,19 @@ returns-clause-reply g c bytes told f m = replies g c bytes told f m
 
 pub returns-clause-leaves : goal.returns-clause-leaves
 returns-clause-leaves g c budget bytes before p found steps w told o l a s f n m =
-    let d = written (words_of g c) (commands.All w.workers budget) bytes (before_of g c) (after_of g c) c.finish.result.cause w.spelled (replies g c bytes told) p l a.accepted before (causes.Done, shown_lines s.top ++ leaves_reply (leaves_alone_of found))
-    (served_answer (commands.All w.workers budget) bytes p a ∙ searched_all (kernel_of p) budget (Some (found, steps)) s) o f n m in
+    let d = written (words_of g c) (commands.All w.workers budget) bytes (before_of g c) (after_of g c) c.finish.result.cause w.spelled (replies g c bytes told) p l a before (causes.Done, shown_lines s.top ++ leaves_reply (leaves_alone_of found))
+    (searched_all (kernel_of p) budget (Some (found, steps)) s) o f n m in
     (d.0, d.1 ∙ ap Some (sym (append_assoc before (shown_lines s.top) (leaves_reply (leaves_alone_of found)))))
 
 pub returns-clause-spent : goal.returns-clause-spent
 returns-clause-spent g c budget bytes p w told l a s =
-    subst (λ (x : Answer). (c.finish.result.cause ≡ x.0) ⊎ IsExcused c.finish.result.cause) (served_answer (commands.All w.workers budget) bytes p a ∙ searched_all (kernel_of p) budget None s)
-    (asked_accepted (words_of g c) (commands.All w.workers budget) bytes (before_of g c) (after_of g c) c.finish.result.cause w.spelled (replies g c bytes told) p l a.accepted)
+    subst (λ (x : Answer). (c.finish.result.cause ≡ x.0) ⊎ IsExcused c.finish.result.cause) (searched_all (kernel_of p) budget None s)
+    (asked_accepted (words_of g c) (commands.All w.workers budget) bytes (before_of g c) (after_of g c) c.finish.result.cause w.spelled (replies g c bytes told) p l a)
 
 pub returns-clause-shown : goal.returns-clause-shown
 returns-clause-shown g c budget bytes before p top left w told o l a e f n m =
-    written (words_of g c) (commands.Run budget) bytes (before_of g c) (after_of g c) c.finish.result.cause w (replies g c bytes told) p l a.accepted before (causes.Done, shown_lines top)
-    (served_answer (commands.Run budget) bytes p a ∙ ended_run (kernel_of p) budget left top e) o f n m
+    written (words_of g c) (commands.Run budget) bytes (before_of g c) (after_of g c) c.finish.result.cause w (replies g c bytes told) p l a before (causes.Done, shown_lines top)
+    (ended_run (kernel_of p) budget left top e) o f n m
 
 pub returns-clause-read : goal.returns-clause-read
 returns-clause-read g c asked bytes w told =
@@ -73,22 +73,16 @@ returns-clause-refused g c asked bytes fault w told l r = asked_refused (words_o
 
 pub returns-clause-accepted : goal.returns-clause-accepted
 returns-clause-accepted g c budget bytes p w told l a =
-    subst (λ (x : Answer). (c.finish.result.cause ≡ x.0) ⊎ IsExcused c.finish.result.cause) (served_answer (commands.All w.workers budget) bytes p a)
-    (asked_accepted (words_of g c) (commands.All w.workers budget) bytes (before_of g c) (after_of g c) c.finish.result.cause w.spelled (replies g c bytes told) p l a.accepted)
+    asked_accepted (words_of g c) (commands.All w.workers budget) bytes (before_of g c) (after_of g c) c.finish.result.cause w.spelled (replies g c bytes told) p l a
 
 pub returns-clause-accepted_run : goal.returns-clause-accepted_run
 returns-clause-accepted_run g c budget bytes p w told l a =
-    subst (λ (x : Answer). (c.finish.result.cause ≡ x.0) ⊎ IsExcused c.finish.result.cause) (served_answer (commands.Run budget) bytes p a)
-    (asked_accepted (words_of g c) (commands.Run budget) bytes (before_of g c) (after_of g c) c.finish.result.cause w (replies g c bytes told) p l a.accepted)
+    asked_accepted (words_of g c) (commands.Run budget) bytes (before_of g c) (after_of g c) c.finish.result.cause w (replies g c bytes told) p l a
 
 pub returns-clause-kernel : goal.returns-clause-kernel
 returns-clause-kernel g c bytes before p w told o l a f n m =
     written (words_of g c) commands.Kernel bytes (before_of g c) (after_of g c) c.finish.result.cause w (replies g c bytes told) p l a before (causes.Done, kernel_text p.words (statements_of p))
     refl o f n m
-
-pub returns-clause-unserved : goal.returns-clause-unserved
-returns-clause-unserved g c asked bytes p at w told l a e =
-    asked_unserved (words_of g c) asked bytes (before_of g c) (after_of g c) c.finish.result.cause w (replies g c bytes told) p l a at e
 
 pub returns-clause-usage : goal.returns-clause-usage
 returns-clause-usage g c u =

@@ -1,11 +1,14 @@
 use Rattle.std.proofs.Common.{Result, Ok, Err}
 use Rattle.std.specs.Prelude.{IfOk}
-use Rattle.stability.proofs.OfferLaws.{commits_space}
+use Rattle.stability.proofs.OfferLaws.{commits_space, commits_nothing}
 use Rattle.stability.proofs.offers.chosen.Goals as goal
 
 mapped_ok : {A E : Type 0} (r : Result A E) {P Q : A → Type 0} → ((x : A) → P x → Q x) → IfOk r P → IfOk r Q
 mapped_ok (Ok x) f h = f x h
 mapped_ok (Err e) f h = h
+
+pub returns-in_default : goal.returns-in_default
+returns-in_default c = commits_nothing c.args.statements.now c.args.levels.now c.args.space.now c.args.index c.in_default.ensures.none
 
 pub returns : goal.returns
 returns c =

@@ -42,6 +42,12 @@ returns-in-RaisesTerm c =
     top_alone c.args.statements.now c.args.levels.now (known c.args.levels.now c.args.states.now) l.space t c.args.ready c.args.frame.now c.in_ok-answer.answer k
     (rw (c.space_at-space.ensures l e, c.store_at-store.ensures l e) at c.in_ok-answer.ensures) (ap is_operation c.in-RaisesTerm.is) plain
 
+pub returns-in-Widens : goal.returns-in-Widens
+returns-in-Widens c =
+    λ l e t k plain.
+    top_alone c.args.statements.now c.args.levels.now (known c.args.levels.now c.args.states.now) l.space t c.args.ready c.args.frame.now c.in_ok-answer.answer k
+    (rw (c.space_at-space.ensures l e, c.store_at-store.ensures l e) at c.in_ok-answer.ensures) (ap is_operation c.in-Widens.is) plain
+
 pub returns-in-Rests : goal.returns-in-Rests
 returns-in-Rests c =
     λ l e t k plain.

@@ -1,8 +1,7 @@
-use Rattle.std.proofs.Common.{sym, ap, ◌∙◌, List}
+use Rattle.std.proofs.Common.{sym, ap, ◌∙◌, Bool}
 use Rattle.std.specs.Option.{option_map}
 use Rattle.oz_semantics.specs.Sights.{count_of}
 use Rattle.oz_semantics.specs.Spaces.{offer_in, stable_state}
-use Rattle.oz_semantics.specs.declared.configuration.Thread.{Thread}
 use Rattle.stability.specs.Known.{known}
 use Rattle.stability.proofs.StateLaws.{waits, tells, rests}
 use Rattle.stability.proofs.OfferLaws.{offer_open}
@@ -26,4 +25,4 @@ returns c =
     (sym (c.is_silent.ensures l e) ∙ c.if-not-is_silent.false) c.stable_state.result
     (c.stable_state.ensures (offer_in statements layers states l)
     ((rw (c.space_at-space.ensures l e, c.store_at.ensures l e, c.threads_at-threads.ensures l e) at c.in_ok-size.ensures) ∙ ap (option_map count_of) (offer_open statements layers states l is_open_now))
-    ∙ ap (λ (ts : List Thread). stable_state (offer_in statements layers states l) ts) (c.threads_at-threads.ensures l e))
+    ∙ ap (λ (left : Bool). stable_state (offer_in statements layers states l) left) (c.is_left.ensures l e))

@@ -4,4 +4,4 @@ use Rattle.statements.proofs.alternatives.alternative.Goals as goal
 
 pub returns-clause-chosen : goal.returns-clause-chosen
 returns-clause-chosen c =
-    IfOk-weaker c.alternative_of_frame.result _ _ (λ frames h space offer stack e. chosen_of c.args.index frames.items _ offer stack (h space) e) c.alternative_of_frame.ensures
+    IfOk-weaker c.alternative_of_frame.result _ _ (λ a h space offer stack e. chosen_of c.args.index a _ offer stack (h space) e) c.alternative_of_frame.ensures

@@ -42,5 +42,5 @@ returns-in-Case c =
 pub returns-in-Choice : goal.returns-in-Choice
 returns-in-Choice c = λ statements.
     let s : Sight = record { statements = statements; space = c.args.space.now; view = c.args.store.now } in
-    offers_all c.args.store.now (answer_ready (statement_answer s c.args.environment.now c.args.statement.now)) c.args.environment.now c.in-Choice.alternatives c.len.result
-    (ap (λ (st : Statement). answer_ready (statement_answer s c.args.environment.now st)) c.in-Choice.is) c.len.ensures
+    offers_all c.args.store.now (answer_ready (statement_answer s c.args.environment.now c.args.statement.now)) c.args.environment.now c.in-Choice.alternatives c.len.result _
+    (ap (λ (st : Statement). answer_ready (statement_answer s c.args.environment.now st)) c.in-Choice.is) c.len.ensures c.new.ensures

@@ -7,6 +7,7 @@ use Rattle.oz_semantics.specs.Builtins.{call_answer}
 use Rattle.oz_semantics.specs.Statements.{called, statement_answer}
 use Rattle.oz_semantics.specs.declared.value.Builtin.TheVariants.{Operation}
 use Rattle.builtins.specs.Exact.{erased}
+use Rattle.statements.proofs.CallLaws.{said_as}
 use Rattle.statements.proofs.statement.answer_statement.Goals as goal
 
 pub returns-in-Call : goal.returns-in-Call
@@ -27,3 +28,11 @@ returns-in-Operate c =
     h statements ∙ ap (λ (xs : List Identifier). erased (call_answer s (Operation c.in-Operate.operation) (map (bound e) xs))) c.as_slice-in-Operate.ensures
     ∙ ap (λ st. erased (statement_answer s e st)) (sym c.in-Operate.is))
     c.operates.ensures
+
+pub returns-in-PostTimes : goal.returns-in-PostTimes
+returns-in-PostTimes c =
+    IfOk-weaker c.posts_times.result _ _
+    (λ a h statements.
+    let s : Sight = record { statements = statements; space = c.args.space.now; view = c.args.store.now } in
+    said_as _ a h ∙ ap (λ st. erased (statement_answer s c.args.environment.now st)) (sym c.in-PostTimes.is))
+    c.posts_times.ensures

@@ -1,6 +1,6 @@
 use Rattle.std.proofs.Common.{◌≡◌, ◌∙◌, sym, subst}
 use Rattle.oz_base.specs.IdentLaws.{ident_eq-equal}
-use Rattle.term_store.specs.Closing.{Takes}
+use Rattle.term_store.specs.Taking.{Takes}
 use Rattle.term_store.specs.Logs.{told_in}
 use Rattle.term_store.proofs.ClassLaws.{other_than}
 use Rattle.term_store.proofs.TakingLaws.{skipped, taken_true, taken_false, noted_two}

@@ -1,6 +1,6 @@
 use Rattle.std.proofs.Common.{[], subst}
 use Rattle.term_store.specs.Closing.{Going}
-use Rattle.term_store.proofs.TellingLaws.{partition}
+use Rattle.term_store.proofs.AnswerLaws.{partition}
 use Rattle.term_store.proofs.store.Store.classes.Goals as goal
 
 pub returns : goal.returns

@@ -18,5 +18,5 @@ returns-clause-told c =
     let s = c.args.self.now in
     let e = c.in_ok-push.ensures.ok ∙ ap (λ ts. ts ++ c.args.tell ∷ []) c.in_ok-copy.ensures ∙ ap (λ ts. ts ++ c.args.tell ∷ []) c.self.view_is in
     closed_true s (told_in c.push.new.self) c.args.tell c.self.inside.classes c.in_ok-copied.field-0 c.settle.new.self.classes c.new.result.items c.settle.new.self.touched.items e c.in_ok-copied.ensures c.new.ensures.items
-    (subst (λ ts. Going ts c.self.inside.classes []) c.self.view_is c.self.invariant) c.requires.determined c.in_ok-settle.field-0 c.if-not-branch.false c.in_ok-settle.ensures.settles
+    (subst (λ ts. Going ts c.self.inside.classes []) c.self.view_is c.self.invariant) c.requires.valued c.requires.known c.in_ok-settle.field-0 c.if-not-branch.false c.in_ok-settle.ensures.settles
     (told_in c.settle.new.self.log) c.args.touched.now.items c.append.new.self.items (ap told_in c.in_ok-settle.ensures.log) c.in_ok-append.ensures.items

@@ -1,5 +1,5 @@
 use Rattle.term_store.specs.Logs.{told_in}
-use Rattle.term_store.proofs.TellingLaws.{going_none}
+use Rattle.term_store.proofs.AnswerLaws.{going_none}
 use Rattle.term_store.proofs.store.Store.new.Goals as goal
 
 pub invariant_of-result : goal.invariant_of-result

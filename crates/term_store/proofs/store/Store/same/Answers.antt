@@ -1,6 +1,6 @@
 use Rattle.std.proofs.Common.{◌∙◌, [], subst}
 use Rattle.term_store.specs.Closing.{Going}
-use Rattle.term_store.proofs.TellingLaws.{same_is}
+use Rattle.term_store.proofs.AnswerLaws.{same_is}
 use Rattle.term_store.proofs.store.Store.same.Goals as goal
 
 pub returns : goal.returns

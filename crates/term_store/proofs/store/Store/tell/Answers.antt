@@ -1,6 +1,6 @@
 use Rattle.std.proofs.Common.{◌≡◌, [], length, subst, rules}
 use Rattle.term_store.specs.Closing.{Going}
-use Rattle.term_store.proofs.TellingLaws.{told_empty}
+use Rattle.term_store.proofs.SequenceLaws.{told_empty}
 use Rattle.term_store.proofs.store.Store.tell.Goals as goal
 
 pub returns-then-is_empty-clause-told : goal.returns-then-is_empty-clause-told

@@ -3,7 +3,8 @@ use Rattle.oz_base.specs.IdentLaws.{ident_eq-equal}
 use Rattle.term_store.specs.Closing.{Going}
 use Rattle.term_store.specs.Logs.{told_in}
 use Rattle.term_store.proofs.ClassLaws.{other_than}
-use Rattle.term_store.proofs.TellingLaws.{known_told, equation_told, equation_going, likewise_going}
+use Rattle.term_store.proofs.AnswerLaws.{likewise_going}
+use Rattle.term_store.proofs.TellingLaws.{known_told, equation_told, equation_going}
 use Rattle.term_store.proofs.store.Store.tell_equal.Goals as goal
 
 pub invariant_of-self-then-same_ident : goal.invariant_of-self-then-same_ident

@@ -1,15 +1,19 @@
-use Rattle.std.proofs.Common.{◌∙◌, sym, ap}
-use Rattle.std.specs.Option.{option_and_then}
+use Rattle.std.proofs.Common.{◌∙◌, [], sym, ap, subst}
+use Rattle.std.specs.Prelude.{option_copied}
+use Rattle.term_store.specs.Closing.{Going}
 use Rattle.term_store.specs.Places.{value_at}
-use Rattle.term_store.proofs.PlaceLaws.{value_at_place}
+use Rattle.term_store.proofs.AnswerLaws.{value_only, value_at_first}
 use Rattle.term_store.proofs.store.Store.value.Goals as goal
 
 pub returns-in-None : goal.returns-in-None
-returns-in-None c = ap (option_and_then (value_at c.args.self.now)) (sym c.in-None.is) ∙ value_at_place c.args.self.now c.args.variable.now c.value_place.result c.value_place.ensures
+returns-in-None c =
+    c.only_value.ensures
+    ∙ value_only c.args.self.now c.self.inside.classes (subst (λ ts. Going ts c.self.inside.classes []) c.self.view_is c.self.invariant) c.args.variable.now c.find-found.result.root.now c.find-found.ensures.root
+    (sym c.find-found.ensures.first ∙ c.in-None.is) (option_copied c.domain.result) c.domain.ensures
 
 pub returns-in-Some : goal.returns-in-Some
 returns-in-Some c =
     c.value.ensures
     ∙ ap (λ ts. value_at ts c.in-Some.place) c.self.view_is
-    ∙ ap (option_and_then (value_at c.args.self.now)) (sym c.in-Some.is)
-    ∙ value_at_place c.args.self.now c.args.variable.now c.value_place.result c.value_place.ensures
+    ∙ value_at_first c.args.self.now c.self.inside.classes (subst (λ ts. Going ts c.self.inside.classes []) c.self.view_is c.self.invariant) c.args.variable.now c.find-found.result.root.now c.find-found.ensures.root
+    c.in-Some.place (sym c.find-found.ensures.first ∙ c.in-Some.is)

@@ -1,7 +1,7 @@
 use Rattle.std.proofs.Common.{◌∙◌, [], ap, subst}
 use Rattle.term_store.specs.Classes.{first_in}
 use Rattle.term_store.specs.Closing.{Going}
-use Rattle.term_store.proofs.TellingLaws.{place_at}
+use Rattle.term_store.proofs.AnswerLaws.{place_at}
 use Rattle.term_store.proofs.store.Store.value_place.Goals as goal
 
 pub returns : goal.returns

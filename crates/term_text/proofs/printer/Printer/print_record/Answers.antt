@@ -1,11 +1,11 @@
 use Rattle.std.proofs.Common.{◌∙◌, sym, refl}
 use Rattle.std.proofs.lemmas.List.{append_assoc}
 use Rattle.term_text.specs.Pending.{variables_of}
-use Rattle.term_text.proofs.Placed.{position_placed, value_placed}
+use Rattle.term_text.proofs.Placed.{position_placed, record_placed}
 use Rattle.term_text.proofs.printer.Printer.print_record.Goals as goal
 
 pub unwrap-place-requires : goal.unwrap-place-requires
-unwrap-place-requires c = value_placed c.place_law.ensures.values c.args.store.now c.args.term.now.variable.now _ c.value_place.result c.requires.told c.value_place.ensures
+unwrap-place-requires c = record_placed c.place_law.ensures.values c.args.store.now c.args.term.now.variable.now _ c.value_place.result c.requires.told c.value_place.ensures
 
 pub returns-in-None-clause-written : goal.returns-in-None-clause-written
 returns-in-None-clause-written c =

@@ -1,7 +1,0 @@
-use Rattle.term_store.specs.Classes.{first_in}
-use Rattle.term_store.proofs.ClassLaws.{unites_marks}
-use Rattle.term_store.proofs.classes.Classes.put_at.Goals as goal
-
-pub returns : goal.returns
-returns c =
-    unites_marks c.args.self.now c.put.new.self c.mark.new.self c.args.under.now c.args.over.now (first_in c.args.self.now c.args.over.now) c.args.place c.in_ok-put.ensures.ok c.in_ok-mark.ensures.ok
