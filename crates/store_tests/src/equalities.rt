@@ -1,5 +1,5 @@
 //! Tests of tree_equal.
-use crate::stores::{equation, integer, told, tuple, variable};
+use crate::stores::{told, tuple, variable};
 use oz_base::Ident;
 use oz_language::Literal;
 use std::alloc::{AllocError, Global};
@@ -35,21 +35,6 @@ fn says(
             Ok(decided.is_none() && numbers.as_slice() == waits)
         }
     }
-}
-
-#[test]
-fn values_are_told_apart(rt: HostRuntime) -> Result<(), Fail> {
-    let alloc = rt.alloc();
-    // 0=f(2 4), 1=f(3 4), 2=5, 3=6, 7=5, 8 and 9 are equal
-    let records = [tuple(alloc, 0, F, &[2, 4])?, tuple(alloc, 1, F, &[3, 4])?];
-    let mut store = told(alloc, &records)?;
-    assert!(rt; says(alloc, &store, (0, 1), None, &[2, 3])?);
-    let more = [integer(2, 5), integer(3, 6), integer(7, 5), equation(8, 9)];
-    assert!(rt; store.tell(alloc, &more, &mut Vec::new(alloc))?);
-    assert!(rt; says(alloc, &store, (0, 1), Some(false), &[])?);
-    assert!(rt; says(alloc, &store, (2, 7), Some(true), &[])?);
-    assert!(rt; says(alloc, &store, (8, 9), Some(true), &[])?);
-    Ok(())
 }
 
 #[test]

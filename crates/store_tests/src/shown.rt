@@ -1,8 +1,8 @@
 //! Tests of term_text.
-use crate::stores::{equation, integer, is, record, told, tuple, variable};
-use oz_base::{SpaceName, Words};
+use crate::stores::{equation, is, record, told, tuple, variable};
+use oz_base::Words;
 use oz_language::{Constant, Literal};
-use oz_semantics::{Builtin, Tell, Value};
+use oz_semantics::{Tell, Value};
 use std::alloc::{AllocError, Global};
 use std::test::Fail;
 use term_text::{Text, term_text};
@@ -14,8 +14,6 @@ const G: Literal = Literal::Atom(1);
 const A: Literal = Literal::Atom(2);
 
 const BAR: Literal = Literal::Atom(3);
-
-const HASH: Literal = Literal::Atom(4);
 
 /// `x=a`
 fn atom(x: u64, literal: Literal) -> Tell {
@@ -38,25 +36,6 @@ fn shows(alloc: Global, tells: &[Tell], bytes: &[u8], nodes: u64) -> Result<bool
         None => Ok(false),
         Some(text) => Ok(text.bytes.as_slice() == bytes && text.nodes == nodes),
     }
-}
-
-#[test]
-fn values_of_each_kind(rt: HostRuntime) -> Result<(), Fail> {
-    let alloc = rt.alloc();
-    let tells = [
-        tuple(alloc, 0, F, &[1, 2, 3, 4, 5, 6, 7, 8])?,
-        atom(1, A),
-        integer(2, i128::MIN),
-        is(3, Value::Builtin(Builtin::Show)),
-        is(4, Value::Name(variable(1))),
-        is(5, Value::Cell(variable(0))),
-        is(6, Value::Port(variable(0))),
-        is(7, Value::Space(SpaceName::top().child(alloc, 1)?)),
-    ];
-    let shown =
-        b"f(a ~170141183460469231731687303715884105728 <proc> <name> <cell> <port> <space> _)";
-    assert!(rt; shows(alloc, &tells, shown, 9)?);
-    Ok(())
 }
 
 #[test]
@@ -87,27 +66,6 @@ fn terms_inside_themselves(rt: HostRuntime) -> Result<(), Fail> {
         atom(1, A),
     ];
     assert!(rt; shows(alloc, &list, b"a|_|^2", 5)?);
-    Ok(())
-}
-
-#[test]
-fn lists_and_rows(rt: HostRuntime) -> Result<(), Fail> {
-    let alloc = rt.alloc();
-    let list = [
-        tuple(alloc, 0, BAR, &[1, 3])?,
-        tuple(alloc, 1, BAR, &[2, 2])?,
-        tuple(alloc, 3, HASH, &[2, 2])?,
-        tuple(alloc, 2, F, &[4])?,
-    ];
-    assert!(rt; shows(alloc, &list, b"(f(_)|f(_))|f(_)#f(_)", 11)?);
-    let rows = [
-        tuple(alloc, 0, HASH, &[1, 2, 0])?,
-        tuple(alloc, 1, BAR, &[3, 3])?,
-        tuple(alloc, 2, HASH, &[3, 0])?,
-    ];
-    assert!(rt; shows(alloc, &rows, b"(_|_)#(_#^2)#^1", 8)?);
-    let one = [tuple(alloc, 0, HASH, &[1])?, atom(1, BAR)];
-    assert!(rt; shows(alloc, &one, b"'#'('|')", 2)?);
     Ok(())
 }
 
