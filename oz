@@ -7,7 +7,7 @@ set -u
 unset RT_BACKEND CDPATH
 
 # What the first build took, on which machine.
-first_build='an hour and a half on a machine with four processors that had other work too'
+first_build='a little more than two hours on a machine with four processors that had other work too'
 
 say() {
     printf 'oz: %s\n' "$*" >&2
