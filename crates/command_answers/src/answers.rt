@@ -1,26 +1,31 @@
 //! What a command answers for a program.
-ghost use Rattle.std.specs.Prelude.{◌≡◌, ◌++◌, [], IfOk, OnOk, codes};
+ghost use Rattle.std.specs.Prelude.{◌≡◌, ◌≤◌, ◌^◌, ◌++◌, [], IfOk, OnOk, codes};
+ghost use Rattle.oz_language.specs.Commands.{InRange};
 ghost use Rattle.oz_language.specs.Refusals.{Program};
 ghost use Rattle.oz_language.specs.Translation.{kernel_of};
 ghost use Rattle.oz_semantics.specs.Configurations.{view};
 ghost use Rattle.oz_semantics.specs.Runs.{run, opening};
 ghost use Rattle.oz_semantics.specs.Search.{with_root, search_space};
 ghost use Rattle.oz_semantics.specs.Texts.{term_text};
-ghost use Rattle.machine_search.specs.Visits.{found_below};
+ghost use Rattle.machine_search.specs.Visits.{found_below, leaves_of};
 ghost use Rattle.oz_replies.specs.Replies.{shown_lines, spent, answer_of_raise, searched, all_answer, run_answer, kernel_answer};
 ghost use Rattle.oz_machine.specs.Answers.{IsRun};
-ghost use Rattle.leaf_search.specs.Searching.{leaves_of};
-ghost use Rattle.command_answers.specs.Answers.{answered, answer_of_leaves};
+ghost use Rattle.call_laws.specs.Call.{answered, answer_of_leaves};
 
 use kernel_form::kernel_text;
 use leaf_search::depth_first;
-use oz_base::{Ident, SpaceName};
+use oz_base::{Ident, Sequence, SpaceName};
 use oz_language::{Command, Kernel};
 use oz_machine::{Machine, Ran};
 use oz_outside::Gate;
 use oz_replies::Cause;
+use oz_search::Outcome;
+use recompute::Frozen;
 use reply_text::{add_decimal, add_leaves_reply, lines};
+use search_all::search_all;
 use std::alloc::{AllocError, Global};
+use std::sync::Wait;
+use std::thread::Threads;
 
 /// A cause, and what is to be written for it.
 #[derive(Drop)]
@@ -88,22 +93,57 @@ fn raised(
     }
 }
 
-/// Searches the tree of a script, with so many steps left.
-fn search<G: Gate>(
+/// The leaves of the tree below a space that was just made, from left to right, by so many workers. `None` exactly where it takes more
+/// steps than are left.
+fn leaves_below<R: Threads + Wait + Sync, G: Gate>(
+    rt: &R,
+    alloc: Global,
+    machine: Machine,
+    space: SpaceName,
+    workers: u32,
+    left: u64,
+    gate: &G,
+) -> Result<Option<Sequence<Outcome>>, AllocError>
+    requires workers { (1 ≤ workers) × (workers ≤ 64) }
+    requires small { left ≤ 2 ^ 48 }
+    ensures { IfOk result (λ found. found ≡ leaves_of (found_below machine.kernel space machine.config left)) }
+{
+    if workers == 1 {
+        return depth_first(alloc, machine, &space, left, gate);
+    }
+    let frozen = Frozen::new(machine, space, left);
+    search_all(rt, alloc, &frozen, workers, gate)
+}
+
+/// The same of the tree of a script.
+fn leaves<R: Threads + Wait + Sync, G: Gate>(
+    rt: &R,
     alloc: Global,
     mut machine: Machine,
     script: Ident,
-    budget: u64,
+    workers: u32,
     left: u64,
     gate: &G,
-) -> Result<Plan, AllocError>
-    ensures { IfOk result (λ plan. (plan.cause, plan.reply.items)
-        ≡ answer_of_leaves (shown_lines machine.config) budget
-        (leaves_of (found_below machine.kernel (search_space machine.config) (with_root machine.kernel.statements script machine.config) left))) }
+) -> Result<Option<Sequence<Outcome>>, AllocError>
+    requires workers { (1 ≤ workers) × (workers ≤ 64) }
+    requires small { left ≤ 2 ^ 48 }
+    ensures { IfOk result (λ found. found
+        ≡ leaves_of (found_below machine.kernel (search_space machine.config) (with_root machine.kernel.statements script machine.config) left)) }
 {
-    let mut reply = shown_lines(alloc, &machine)?;
     let space = machine.root(alloc, script)?;
-    match depth_first(alloc, machine, &space, left, gate)? {
+    leaves_below(rt, alloc, machine, space, workers, left, gate)
+}
+
+/// What is written of the leaves that a search found, behind what was shown.
+fn plan_leaves(
+    alloc: Global,
+    mut reply: Vec<u8>,
+    budget: u64,
+    found: Option<Sequence<Outcome>>,
+) -> Result<Plan, AllocError>
+    ensures { IfOk result (λ plan. (plan.cause, plan.reply.items) ≡ answer_of_leaves reply.items budget found) }
+{
+    match found {
         None => spent(alloc, reply, budget),
         Some(leaves) => {
             add_leaves_reply(alloc, leaves.as_slice(), &mut reply)?;
@@ -127,18 +167,26 @@ fn no_script(alloc: Global, machine: &Machine) -> Result<Plan, AllocError>
 }
 
 /// What `all` answers where the top has come to rest.
-fn searched<G: Gate>(
+fn searched<R: Threads + Wait + Sync, G: Gate>(
+    rt: &R,
     alloc: Global,
     machine: Machine,
+    workers: u32,
     budget: u64,
     left: u64,
     gate: &G,
 ) -> Result<Plan, AllocError>
+    requires workers { (1 ≤ workers) × (workers ≤ 64) }
+    requires small { left ≤ 2 ^ 48 }
     ensures { IfOk result (λ plan. (plan.cause, plan.reply.items) ≡ searched machine.kernel budget machine.config left) }
 {
     match machine.script() {
         None => no_script(alloc, &machine),
-        Some(script) => search(alloc, machine, script, budget, left, gate),
+        Some(script) => {
+            let reply = shown_lines(alloc, &machine)?;
+            let found = leaves(rt, alloc, machine, script, workers, left, gate)?;
+            plan_leaves(alloc, reply, budget, found)
+        }
     }
 }
 
@@ -163,12 +211,16 @@ fn run_top(alloc: Global, kernel: Kernel, budget: u64) -> Result<(Machine, Ran),
 }
 
 /// What `all` answers for a kernel.
-fn all_answer<G: Gate>(
+fn all_answer<R: Threads + Wait + Sync, G: Gate>(
+    rt: &R,
     alloc: Global,
     kernel: Kernel,
+    workers: u32,
     budget: u64,
     gate: &G,
 ) -> Result<Plan, AllocError>
+    requires workers { (1 ≤ workers) × (workers ≤ 64) }
+    requires small { budget ≤ 2 ^ 48 }
     ensures { IfOk result (λ plan. (plan.cause, plan.reply.items) ≡ all_answer kernel budget) }
 {
     let (machine, ran) = run_top(alloc, kernel, budget)?;
@@ -181,7 +233,15 @@ fn all_answer<G: Gate>(
             budget,
             budget - steps,
         ),
-        Ran::Ended { steps, .. } => searched(alloc, machine, budget, budget - steps, gate),
+        Ran::Ended { steps, .. } => searched(
+            rt,
+            alloc,
+            machine,
+            workers,
+            budget,
+            budget - steps,
+            gate,
+        ),
     }
 }
 
@@ -214,17 +274,19 @@ fn kernel_answer(alloc: Global, kernel: &Kernel) -> Result<Plan, AllocError>
     })
 }
 
-/// What a command answers for the kernel of a program.
-pub fn answered<G: Gate>(
+/// What a command answers for the kernel of a program. The gate is called round the solving of each node of a search.
+pub fn answered<R: Threads + Wait + Sync, G: Gate>(
+    rt: &R,
     alloc: Global,
     command: Command,
     kernel: Kernel,
     gate: &G,
 ) -> Result<Plan, AllocError>
+    requires { InRange command }
     ensures { (p : Program) → kernel ≡ kernel_of p → IfOk result (λ plan. (plan.cause, plan.reply.items) ≡ answered command p) }
 {
     match command {
-        Command::All { budget, .. } => all_answer(alloc, kernel, budget, gate),
+        Command::All { workers, budget } => all_answer(rt, alloc, kernel, workers, budget, gate),
         Command::Run { budget } => run_answer(alloc, kernel, budget),
         Command::Kernel => kernel_answer(alloc, &kernel),
     }

@@ -1,5 +1,5 @@
 -- What the getters of clap's matches read of an option that was given.
-use Rattle.std.proofs.Common.{◌≡◌, ◌∙◌, ◌^◌, ◌<◌, ◌≤◌, ap, refl, sym, subst, arith, ℕ, Bool, true, false, true≢false, List, [], ◌∷◌, Option, Some, None, cond, ◌&&◌, Result, Ok, Err, Global}
+use Rattle.std.proofs.Common.{◌≡◌, ◌∙◌, ◌^◌, ◌<◌, ◌≤◌, ap, refl, sym, subst, arith, ℕ, Bool, true, false, true≢false, List, [], ◌∷◌, Option, Some, None, IfSome, cond, ◌&&◌, Result, Ok, Err, Global}
 use Rattle.std.proofs.lemmas.Bool.{ltb-true, leb-true}
 use Rattle.std.specs.Prelude.{option_map, option_and_then, find, unwrap_or, Box}
 use Rattle.std.specs.List.{list_all}
@@ -13,7 +13,8 @@ use Rattle.clap.specs.Walk.{row_text}
 use Rattle.clap.specs.declared.parser.matches.ArgMatches.{ArgMatches}
 use Rattle.clap.specs.declared.parser.matches.ArgMatches.TheViews.{out-ArgMatches, out-SubCommand}
 use Rattle.clap.specs.declared.parser.matches.SubCommand.{SubCommand}
-use Rattle.oz_language.specs.Commands.{Given, OptionName, Verb, all, run, kernel, workers, budget, default, fit, is_number, most, same_name, takes, value_in, verb_word}
+use Rattle.oz_language.specs.declared.command.Command.{Command}
+use Rattle.oz_language.specs.Commands.{Given, InRange, IsSpelled, OptionName, Verb, all, run, kernel, workers, budget, command_by, default, fit, is_number, most, same_name, takes, value_in, verb_word}
 use Rattle.command_line.specs.Reading.{number_in, verb_of}
 use Rattle.command_line.specs.Table.{id_of, row_for, rows_for}
 use Rattle.command_line.proofs.Uses.{has_plus, ids_same, most_fits, no_plus}
@@ -59,6 +60,9 @@ digits_no_plus t e = go (has_plus t) refl
 
 number_most : (n : OptionName) (t : Text) → is_number n t ≡ true → digits_value 10 t ≤ most n
 number_most n t e = leb-true _ _ (both _ _ e).1
+
+number_least : (n : OptionName) (t : Text) → is_number n t ≡ true → 1 ≤ digits_value 10 t
+number_least n t e = leb-true _ _ (both _ _ (both _ _ e).0).1
 
 number_digits : (n : OptionName) (t : Text) → is_number n t ≡ true → list_all (λ d. is_digit d 10) t ≡ true
 number_digits n t e = (both _ _ (both _ _ (both _ _ e).0).0).1
@@ -130,6 +134,10 @@ default_most : (n : OptionName) → default n ≤ most n
 default_most workers = omega arith
 default_most budget = omega arith
 
+default_least : (n : OptionName) → 1 ≤ default n
+default_least workers = omega arith
+default_least budget = omega arith
+
 -- the number that an option has is at most its greatest
 pub value_most : (v : Verb) (n : OptionName) (given : List Given) → fit v given ≡ true → value_in given n ≤ most n
 value_most v n given ok = subst (λ o. unwrap_or o (default n) ≤ most n) (number_text n given) (go (text_in given n) refl)
@@ -137,3 +145,21 @@ value_most v n given ok = subst (λ o. unwrap_or o (default n) ≤ most n) (numb
     go : (o : Option Text) → text_in given n ≡ o → unwrap_or (option_map (digits_value 10) o) (default n) ≤ most n
     go None e = default_most n
     go (Some t) e = number_most n t (text_is_number v n given t ok e)
+
+-- and at least 1
+pub value_least : (v : Verb) (n : OptionName) (given : List Given) → fit v given ≡ true → 1 ≤ value_in given n
+value_least v n given ok = subst (λ o. 1 ≤ unwrap_or o (default n)) (number_text n given) (go (text_in given n) refl)
+  where
+    go : (o : Option Text) → text_in given n ≡ o → 1 ≤ unwrap_or (option_map (digits_value 10) o) (default n)
+    go None e = default_least n
+    go (Some t) e = number_least n t (text_is_number v n given t ok e)
+
+-- so the numbers of a command that is spelled are in their ranges
+pub fitting_ranges : (v : Verb) (given : List Given) → fit v given ≡ true → InRange (command_by v given)
+fitting_ranges all given ok = (value_least all workers given ok, value_most all workers given ok, value_most all budget given ok)
+fitting_ranges run given ok = value_most run budget given ok
+fitting_ranges kernel given ok = tt
+
+pub spelled_ranges : (words : List Text) (r : Option Command) → IsSpelled words r → IfSome r InRange
+spelled_ranges words None s = tt
+spelled_ranges words (Some c) s = subst InRange s.meant (fitting_ranges s.verb s.given s.fitting)

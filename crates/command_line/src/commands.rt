@@ -15,7 +15,7 @@ fn workers<'a>(alloc: Global) -> Arg<'a>
 {
     Arg::new(alloc, "workers")
         .long("workers")
-        .value_parser(value_parser!(u64).range(1..=1))
+        .value_parser(value_parser!(u64).range(1..=64))
 }
 
 fn budget<'a>(alloc: Global) -> Arg<'a>

@@ -4,7 +4,7 @@ ghost use Rattle.std.specs.Prelude.{◌≡◌, IfOk, IfSome, List, Some, true, m
 ghost use Rattle.std.specs.String.{string_bytes};
 ghost use Rattle.std.specs.List.{list_any};
 ghost use Rattle.clap.specs.Words.{found_of, rows_of, subcommand_rows_of};
-ghost use Rattle.oz_language.specs.Commands.{Given, IsSpelled, OptionName, Spells, Verb, command_by, fit};
+ghost use Rattle.oz_language.specs.Commands.{Given, InRange, IsSpelled, OptionName, Spells, Verb, command_by, fit};
 ghost use Rattle.command_line.specs.Table.{IsFound, id_of, rows_for};
 ghost use Rattle.command_line.specs.Reading.{command_of, is_odd, number_in};
 
@@ -75,6 +75,7 @@ pub fn read_command(alloc: Global, words: &[String]) -> Result<Option<Command>, 
     ensures spelled { IfOk result (λ command. IsSpelled (map string_bytes words.now) command) }
     ensures only { IfOk result (λ command. IfSome command
         (λ c. (d : Command) → Spells (map string_bytes words.now) d → d ≡ c)) }
+    ensures range { IfOk result (λ command. IfSome command InRange) }
 {
     read(alloc, words)
 }

@@ -2,7 +2,6 @@
 use Rattle.std.specs.Prelude.{ℕ, ◌+◌, ◌≡◌, Bool, true, false, List, [], ◌∷◌, ◌++◌, Option, Some, None, map}
 use Rattle.std.specs.List.{range_with_len}
 use Rattle.oz_language.specs.declared.kernel.Kernel.{Kernel}
-use Rattle.oz_search.specs.Trees.{Found}
 use Rattle.oz_search.specs.declared.leaf.Outcome.{Outcome}
 use Rattle.oz_search.specs.declared.leaf.Outcome.TheVariants as outcome
 use Rattle.oz_semantics.specs.Search.{chosen_in}
@@ -77,8 +76,3 @@ leaf_by states.Failed text = []
 leaf_by (states.Alternatives n) text = []
 leaf_by states.Running text = []
 leaf_by states.Merged text = []
-
--- the leaves that were found
-abbrev pub leaves_of : Found Outcome → Option (List Outcome)
-leaves_of None = None
-leaves_of (Some found) = Some found.0

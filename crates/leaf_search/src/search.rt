@@ -3,8 +3,8 @@
 ghost use Rattle.std.specs.Prelude.{◌≡◌, ◌+◌, ◌<◌, ◌++◌, ◌∷◌, [], ℕ, List, None, IfOk, OnOk, MatchOption};
 ghost use Rattle.oz_language.specs.declared.kernel.Kernel.{Kernel};
 ghost use Rattle.oz_semantics.specs.Search.{node_at};
-ghost use Rattle.machine_search.specs.Visits.{Visits, found_below};
-ghost use Rattle.leaf_search.specs.Searching.{waiting, AreOf, OpensNext, is_no_node, RestsBy, children_by, leaf_by, leaves_of};
+ghost use Rattle.machine_search.specs.Visits.{Visits, found_below, leaves_of};
+ghost use Rattle.leaf_search.specs.Searching.{waiting, AreOf, OpensNext, is_no_node, RestsBy, children_by, leaf_by};
 
 use crate::open::{Open, Rest};
 use oz_base::{Sequence, SpaceName, Stack};

@@ -40,6 +40,11 @@ explored k space (suc bound) c fuel = found_at k space (explored k space bound) 
 unfoldable pub found_below : Kernel → List ℕ → Configuration → ℕ → Found Outcome
 found_below k space c fuel = explored k space (suc fuel) c fuel
 
+-- the leaves alone
+abbrev pub leaves_of : Found Outcome → Option (List Outcome)
+leaves_of None = None
+leaves_of (Some found) = Some found.0
+
 -- The loop
 
 -- the leaves so far, and then what is found below open configurations with the fuel that is left

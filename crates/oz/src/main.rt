@@ -23,6 +23,7 @@ fn main(rt: HostRuntime) -> ExitCode {
         Err(_) => Vec::new(rt.alloc()),
     };
     let outcome = oz_call(
+        &rt,
         rt.alloc(),
         words.as_slice(),
         &mut source,

@@ -1,6 +1,6 @@
 -- The command line: the name of a command, and then its options in any order, each at most once, as two words `--name NUMBER`
 -- or as one word `--name=NUMBER`.
-use Rattle.std.specs.Prelude.{ℕ, ◌≡◌, ◌&&◌, Bool, true, false, not, nat_lt, nat_le, List, [], ◌∷◌, ◌++◌, length, codes, Some, None, Option, option_map, unwrap_or, find}
+use Rattle.std.specs.Prelude.{ℕ, ◌≡◌, ◌≤◌, ◌&&◌, Bool, true, false, not, nat_lt, nat_le, List, [], ◌∷◌, ◌++◌, length, codes, Some, None, Option, option_map, unwrap_or, find}
 use Rattle.std.specs.List.{list_all, list_any, flat_map}
 use Rattle.std.specs.Str.Parse.{digits_value}
 use Rattle.std.specs.Char.{is_digit}
@@ -45,7 +45,7 @@ takes kernel name = false
 
 -- the greatest number that an option takes
 abbrev pub most : OptionName → ℕ
-most workers = 1
+most workers = 64
 most budget = 281474976710656
 
 -- the number where the option is not given
@@ -91,6 +91,12 @@ abbrev pub command_by : Verb → List Given → Command
 command_by all given = command.All (value_in given workers) (value_in given budget)
 command_by run given = command.Run (value_in given budget)
 command_by kernel given = command.Kernel
+
+-- the numbers of a command are in the ranges of their options
+abbrev pub InRange : Command → Type 0
+InRange (command.All count steps) = (1 ≤ count) × (count ≤ most workers) × (steps ≤ most budget)
+InRange (command.Run steps) = steps ≤ most budget
+InRange command.Kernel = Unit {0}
 
 -- the words spell the command
 pub record Spells (words : List Word) (c : Command) : Type 0 where

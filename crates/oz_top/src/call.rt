@@ -6,7 +6,7 @@ ghost use Rattle.oz_outside.specs.Counts.{Rose};
 ghost use Rattle.oz_language.specs.Refusals.{Program, Accepts, IsRefused};
 ghost use Rattle.oz_language.specs.Translation.{statements_of, kernel_of};
 ghost use Rattle.oz_language.specs.KernelTexts.{kernel_text};
-ghost use Rattle.oz_language.specs.Commands.{Spells, IsUsage, AsksAll, AsksRun, AsksKernel};
+ghost use Rattle.oz_language.specs.Commands.{InRange, Spells, IsUsage, AsksAll, AsksRun, AsksKernel};
 ghost use Rattle.oz_semantics.specs.Runs.{Ended, run, opening};
 ghost use Rattle.oz_replies.specs.Replies.{IsReply, Searches, status_of, text_limit, usage_reply, too_large_reply, shown_lines, leaves_reply, kind_text, refused_reply, refused_answer, all_answer, run_answer};
 ghost use Rattle.oz_language.specs.declared.command.Command.{Command};
@@ -15,8 +15,7 @@ ghost use Rattle.oz_language.specs.declared.fault.RefusalKind.{RefusalKind};
 ghost use Rattle.oz_language.specs.declared.fault.Fault.{Fault};
 ghost use Rattle.oz_search.specs.declared.leaf.Outcome.{Outcome as Leaf};
 ghost use Rattle.oz_replies.specs.declared.cause.Cause.{Cause};
-ghost use Rattle.command_answers.specs.Answers.{answered};
-ghost use Rattle.oz_top.specs.Call.{TextGives, AsText, IsCommand, Plans, IsDue, IsRead, IsBounded, Ends, Answers, IsExcused};
+ghost use Rattle.call_laws.specs.Call.{answered, TextGives, AsText, IsCommand, Plans, IsDue, IsRead, IsBounded, Ends, Answers, IsExcused};
 
 use command_answers::{Plan, answered};
 use command_line::read_command;
@@ -27,6 +26,8 @@ use oz_reader::{Program, ReadError, read_program};
 use oz_replies::Cause;
 use reply_text::add_decimal;
 use std::alloc::{AllocError, Global};
+use std::sync::Wait;
+use std::thread::Threads;
 
 fn make_plan(alloc: Global, cause: Cause, reply: &[u8]) -> Result<Plan, AllocError>
     ensures { IfOk result (λ plan. (plan.cause ≡ cause) × (plan.reply.items ≡ reply.now)) }
@@ -64,32 +65,36 @@ fn refused(alloc: Global, fault: Fault) -> Result<Plan, AllocError>
 }
 
 /// What a command answers for the program of a text.
-fn answer_for<G: Gate>(
+fn answer_for<R: Threads + Wait + Sync, G: Gate>(
+    rt: &R,
     alloc: Global,
     command: Command,
     program: Program,
     gate: &G,
 ) -> Result<Plan, AllocError>
+    requires { InRange command }
     ensures { IfOk result (λ plan. (plan.cause, plan.reply.items) ≡ answered command program) }
 {
     let (words, phrase) = program.into_parts();
     let kernel = translate(alloc, words, &phrase)?;
-    answered(alloc, command, kernel, gate)
+    answered(rt, alloc, command, kernel, gate)
 }
 
 /// What a command answers for a text.
-fn answer<G: Gate>(
+fn answer<R: Threads + Wait + Sync, G: Gate>(
+    rt: &R,
     alloc: Global,
     command: Command,
     text: &[u8],
     gate: &G,
 ) -> Result<Plan, AllocError>
-    requires { length text.now ≤ text_limit }
+    requires size { length text.now ≤ text_limit }
+    requires range { InRange command }
     ensures gives { IfOk result (λ plan. TextGives text.now command plan.cause plan.reply.items) }
     ensures due { IfOk result (λ plan. AsText text.now command (plan.cause, plan.reply.items)) }
 {
     match read_program(alloc, text) {
-        Ok(program) => answer_for(alloc, command, program, gate),
+        Ok(program) => answer_for(rt, alloc, command, program, gate),
         Err(ReadError::Refused(fault)) => refused(alloc, fault),
         Err(ReadError::Memory) => Err(AllocError),
     }
@@ -107,12 +112,19 @@ fn silent(alloc: Global, cause: Cause) -> Plan
 }
 
 /// What a command answers for a text. Where memory is refused, that is the answer.
-fn plan_text<G: Gate>(alloc: Global, command: Command, text: &[u8], gate: &G) -> Plan
-    requires { length text.now ≤ text_limit }
+fn plan_text<R: Threads + Wait + Sync, G: Gate>(
+    rt: &R,
+    alloc: Global,
+    command: Command,
+    text: &[u8],
+    gate: &G,
+) -> Plan
+    requires size { length text.now ≤ text_limit }
+    requires range { InRange command }
     ensures gives { TextGives text.now command result.cause result.reply.items }
     ensures due { AsText text.now command (result.cause, result.reply.items) }
 {
-    match answer(alloc, command, text, gate) {
+    match answer(rt, alloc, command, text, gate) {
         Ok(plan) => plan,
         Err(_) => silent(alloc, Cause::NoMemory),
     }
@@ -131,12 +143,14 @@ fn plan_too_large(alloc: Global) -> Plan
 }
 
 /// What a command answers for the text of a source, before anything is written.
-fn plan_command<S: Source, G: Gate>(
+fn plan_command<R: Threads + Wait + Sync, S: Source, G: Gate>(
+    rt: &R,
     alloc: Global,
     command: Command,
     source: &mut S,
     gate: &G,
 ) -> Plan
+    requires { InRange command }
     ensures plans { (words : List (List ℕ)) → IsCommand words command → Plans words
         (record { left = S.left source.old; faults = S.faults source.old })
         (record { left = S.left source.new; faults = S.faults source.new }) result.cause result.reply.items }
@@ -145,7 +159,7 @@ fn plan_command<S: Source, G: Gate>(
     ensures bounded { IsBounded (S.left source.old) (S.left source.new) }
 {
     match read_all(alloc, source) {
-        Ok(text) => plan_text(alloc, command, text.as_slice(), gate),
+        Ok(text) => plan_text(rt, alloc, command, text.as_slice(), gate),
         Err(SourceError::TooLarge) => plan_too_large(alloc),
         Err(SourceError::Fault) => silent(alloc, Cause::ReadFault),
         Err(SourceError::Memory) => silent(alloc, Cause::NoMemory),
@@ -164,7 +178,13 @@ fn plan_usage(alloc: Global) -> Plan
 }
 
 /// What the words ask for, before anything is written.
-fn plan_words<S: Source, G: Gate>(alloc: Global, words: &[String], source: &mut S, gate: &G) -> Plan
+fn plan_words<R: Threads + Wait + Sync, S: Source, G: Gate>(
+    rt: &R,
+    alloc: Global,
+    words: &[String],
+    source: &mut S,
+    gate: &G,
+) -> Plan
     ensures plans { Plans (map string_bytes words.now)
         (record { left = S.left source.old; faults = S.faults source.old })
         (record { left = S.left source.new; faults = S.faults source.new }) result.cause result.reply.items }
@@ -174,7 +194,7 @@ fn plan_words<S: Source, G: Gate>(alloc: Global, words: &[String], source: &mut 
     ensures bounded { IsBounded (S.left source.old) (S.left source.new) }
 {
     match read_command(alloc, words) {
-        Ok(Some(command)) => plan_command(alloc, command, source, gate),
+        Ok(Some(command)) => plan_command(rt, alloc, command, source, gate),
         Ok(None) => plan_usage(alloc),
         Err(_) => silent(alloc, Cause::NoMemory),
     }
@@ -226,11 +246,13 @@ fn finish<K: Sink>(cause: Cause, reply: &[u8], sink: &mut K) -> Outcome
 }
 
 /// Does what the words ask: reads a program from the source, and writes to the sink what it shows, and for `all` then the leaves
-/// of its search; or, for `kernel`, the program's kernel. The words are those after the program's name.
+/// of its search; or, for `kernel`, the program's kernel. The words are those after the program's name. What is written and why the call
+/// ended depends neither on the number of workers nor on how their turns fall.
 ///
 /// A fault of the source or of the sink comes only where its count rose in this call. Want of memory may be answered at any
 /// time before the writing, and then nothing is written.
-pub fn oz_call<S: Source, K: Sink, G: Gate>(
+pub fn oz_call<R: Threads + Wait + Sync, S: Source, K: Sink, G: Gate>(
+    rt: &R,
     alloc: Global,
     words: &[String],
     source: &mut S,
@@ -255,7 +277,8 @@ pub fn oz_call<S: Source, K: Sink, G: Gate>(
         (record { written = K.written sink.new; faults = K.faults sink.new }) result.cause }
 
     // `all` on an accepted text whose top becomes quiescent with a script, and whose tree takes no more than what is left of
-    // the budget, writes what the top has shown and exactly the unfailed leaves, each once, left to right, and their totals.
+    // the budget, writes what the top has shown and exactly the unfailed leaves, each once, left to right, and their totals;
+    // with any number of workers.
     ensures leaves { (budget : ℕ) (bytes before : List ℕ) (p : Program) (found : List (List ℕ × Leaf)) (steps : ℕ) → AsksAll (map string_bytes words.now) budget
         → S.left source.old ≡ Some bytes → K.written sink.old ≡ Some before → length bytes ≤ text_limit → Accepts bytes p
         → (s : Searches (kernel_of p) budget (Some (found, steps)))
@@ -305,6 +328,6 @@ pub fn oz_call<S: Source, K: Sink, G: Gate>(
     ensures write_fault { result.cause ≡ Cause.WriteFault → Rose (K.faults sink.old) (K.faults sink.new) }
     ensures silent { (result.cause ≡ Cause.ReadFault) ⊎ (result.cause ≡ Cause.NoMemory) → Appends (K.written sink.old) (K.written sink.new) [] }
 {
-    let Plan { cause, reply } = plan_words(alloc, words, source, gate);
+    let Plan { cause, reply } = plan_words(rt, alloc, words, source, gate);
     finish(cause, reply.as_slice(), sink)
 }

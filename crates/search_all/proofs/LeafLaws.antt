@@ -14,10 +14,10 @@ use Rattle.oz_search.specs.declared.history.StopCause.TheVariants as causes
 use Rattle.oz_search.specs.declared.leaf.Outcome.{Outcome}
 use Rattle.search_law.specs.Law.{IsSpent}
 use Rattle.search_law.specs.NodeLaw.{leaves_alone}
-use Rattle.machine_search.specs.Visits.{found_below}
+use Rattle.machine_search.specs.Visits.{found_below, leaves_of}
 use Rattle.machine_search.proofs.SpaceLaws.{space_law}
 use Rattle.recompute.specs.Origins.{Origin, tree_of}
-use Rattle.search_all.specs.Answers.{leaves_of, leaves_in, answer_of, IsOver, Closes}
+use Rattle.search_all.specs.Answers.{leaves_in, answer_of, IsOver, Closes}
 
 -- the entry at a place is the leaf there
 pub entry_there : (h : History ℕ Outcome) (place : ℕ) (x : List ℕ × Outcome) (e : Entry (List ℕ) Outcome) → leaf_at_place outcomes h place ≡ Some x → e ≡ slice_index_or h place e → leaf_of outcomes e ≡ Some x

@@ -1,19 +1,13 @@
 -- What a search finds, and what a worker has found out at its end.
 use Rattle.std.specs.Prelude.{◌≡◌, ◌⊎◌, ℕ, List, Option, Some, None}
-use Rattle.oz_search.specs.Trees.{Found}
 use Rattle.oz_search.specs.Histories.{History, IsNothingOpen, IsNothingOut, stop_of}
 use Rattle.oz_search.specs.Leaves as noted
 use Rattle.oz_search.specs.Plain.{outcomes, itself}
 use Rattle.oz_search.specs.declared.history.Halt.{Halt}
 use Rattle.oz_search.specs.declared.leaf.Outcome.{Outcome}
-use Rattle.machine_search.specs.Visits.{found_below}
+use Rattle.machine_search.specs.Visits.{found_below, leaves_of}
 use Rattle.recompute.specs.Origins.{Origin, tree_of}
 use Rattle.search_law.specs.Law.{HoldsTree, StopsRightly}
-
--- the leaves that were found
-abbrev pub leaves_of : {A : Type 0} → Found A → Option (List A)
-leaves_of None = None
-leaves_of (Some found) = Some found.0
 
 -- the leaves below the root from left to right. None where the tree takes more steps than there are for the search
 abbrev pub answer_of : Origin → Option (List Outcome)

@@ -6,7 +6,7 @@ ghost use Rattle.recompute.specs.Ways.{answer_of};
 ghost use Rattle.node_pool.specs.Workers.{IsOf, claim};
 ghost use Rattle.search_all.specs.Crews.{IsFor, IsReady, IsSame, HasExplored, IsTold, GoesOn};
 
-use crossbeam_utils::Backoff;
+use crate::patience::Patience;
 use node_pool::{Claimed, Settled, SharedPool, Worker};
 use oz_base::Path;
 use oz_outside::Gate;
@@ -137,14 +137,14 @@ fn take_nodes<R: Wait, G: Gate>(
     requires ready { IsReady pool.now first }
     ensures { HasExplored pool.now first result }
 {
-    let backoff = Backoff::new();
+    let mut patience = Patience::new();
     let mut worker = first;
     let mut nth: u64 = 0;
     'nodes: for _ in rt.forever() {
         let (taken, answer) = pool.claim(rt, worker);
         match answer {
             Ok(Claimed::Node(path)) => {
-                backoff.reset();
+                patience.reset();
                 nth = nth.saturating_add(1);
                 gate.before(number, nth);
                 let solved = explorer.solve(alloc, &path, budget);
@@ -155,7 +155,7 @@ fn take_nodes<R: Wait, G: Gate>(
                 }
             }
             Ok(Claimed::Idle) => {
-                backoff.snooze();
+                patience.wait(rt);
                 worker = taken;
             }
             Ok(Claimed::Finished) => return taken,

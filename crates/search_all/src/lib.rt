@@ -6,6 +6,7 @@ mod crew;
 mod crossing;
 mod ending;
 mod explore;
+mod patience;
 mod search;
 
 pub use search::search_all;

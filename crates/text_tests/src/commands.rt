@@ -42,7 +42,7 @@ fn words_that_spell_none(rt: HostRuntime) -> Result<(), Fail> {
         &["all", "--budget", "+5"],
         &["all", "--budget", "5", "--budget", "5"],
         &["all", "--budget", "281474976710657"],
-        &["all", "--workers", "2"],
+        &["all", "--workers", "65"],
         &["all", "--help"],
         &["--version"],
         &["--budget", "5", "all"],

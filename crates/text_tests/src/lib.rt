@@ -1,10 +1,13 @@
-//! Tests of what reads the words and the text of a call, of the translation, and of how kernels are written.
+//! Tests of what reads the words and the text of a call, of the translation, of how kernels are written, and of the form of
+//! finite-domain scripts.
 #![tactic(auto)]
 
 #[cfg(test)]
 mod commands;
 #[cfg(test)]
 mod kernels;
+#[cfg(test)]
+mod problems;
 #[cfg(test)]
 mod programs;
 #[cfg(test)]

@@ -9,7 +9,7 @@ overflow_cast-workers c =
     let (verb, given, (rows, ok)) = c.requires in
     let found = found_rows c.args.matches.now _ verb given c.in_ok-name.ensures.rows rows in
     let count : c.unwrap_or-workers.result ≡ value_in given workers = c.unwrap_or-workers.ensures ∙ ap (λ o. unwrap_or o 1) (c.number-in-all.ensures verb workers given refl found ok) in
-    let most : value_in given workers ≤ 1 = value_most verb workers given ok in
+    let most : value_in given workers ≤ 64 = value_most verb workers given ok in
     omega (arith, count, most)
 
 -- no other command was found

@@ -3,10 +3,10 @@ use Rattle.oz_language.specs.declared.kernel.Kernel.{Kernel}
 use Rattle.oz_search.specs.declared.leaf.Outcome.{Outcome}
 use Rattle.oz_semantics.specs.Search.{node_at}
 use Rattle.oz_semantics.specs.declared.configuration.Configuration.{Configuration}
-use Rattle.machine_search.specs.Visits.{Visits, found_from}
+use Rattle.machine_search.specs.Visits.{Visits, found_from, leaves_of}
 use Rattle.machine_search.proofs.VisitLaws.{begins_law, visits_law, stops_law}
 use Rattle.leaf_search.specs.declared.open.Open.{Open}
-use Rattle.leaf_search.specs.Searching.{waiting, AreOf, leaves_of}
+use Rattle.leaf_search.specs.Searching.{waiting, AreOf}
 use Rattle.leaf_search.proofs.search.depth_first.Goals as goal
 
 pub returns-in_default : goal.returns-in_default

@@ -1,7 +1,7 @@
 use Rattle.std.proofs.Common.{◌∙◌, ap}
 use Rattle.std.proofs.lemmas.Result.{IfOk-weaker}
 use Rattle.oz_replies.specs.Replies.{refused_answer}
-use Rattle.oz_top.proofs.Answering.{refused_gives, refused_due, accepted_gives, accepted_due}
+use Rattle.call_laws.proofs.Answering.{refused_gives, refused_due, accepted_gives, accepted_due}
 use Rattle.oz_top.proofs.call.answer.Goals as goal
 
 pub returns-in-Ok-clause-gives : goal.returns-in-Ok-clause-gives

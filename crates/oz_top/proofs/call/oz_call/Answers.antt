@@ -7,8 +7,8 @@ use Rattle.oz_language.specs.Translation.{statements_of, kernel_of}
 use Rattle.oz_language.specs.KernelTexts.{kernel_text}
 use Rattle.oz_language.specs.declared.command.Command.TheVariants as commands
 use Rattle.oz_replies.specs.declared.cause.Cause.TheVariants as causes
-use Rattle.oz_top.specs.Call.{Reading, Writing, Plans, Ends, IsExcused}
-use Rattle.oz_top.proofs.Answering.{Replied, replied, read_by, usage_ended, asked_large, asked_refused, asked_accepted, written, searched_all, ended_run}
+use Rattle.call_laws.specs.Call.{Reading, Writing, Plans, Ends, IsExcused}
+use Rattle.call_laws.proofs.Answering.{Replied, replied, read_by, usage_ended, asked_large, asked_refused, asked_accepted, written, searched_all, ended_run}
 use Rattle.oz_top.proofs.call.oz_call.Given as given
 use Rattle.oz_top.proofs.call.oz_call.Goals as goal
 

@@ -1,7 +1,7 @@
 use Rattle.std.proofs.Common.{◌≤◌, ap, subst, Err, List, ℕ, length, arith}
 use Rattle.oz_replies.specs.Replies.{text_limit}
-use Rattle.oz_top.specs.Call.{TextGives, AsText}
-use Rattle.oz_top.proofs.Answering.{plans_text, due_text, read_text, plans_large, due_large, read_large}
+use Rattle.call_laws.specs.Call.{TextGives, AsText}
+use Rattle.call_laws.proofs.Answering.{plans_text, due_text, read_text, plans_large, due_large, read_large}
 use Rattle.oz_top.proofs.call.plan_command.Goals as goal
 
 pub returns-in-Ok-clause-plans : goal.returns-in-Ok-clause-plans

@@ -1,7 +1,7 @@
 use Rattle.std.proofs.Common.{map}
 use Rattle.std.specs.String.{string_bytes}
-use Rattle.oz_top.specs.Call.{IsCommand}
-use Rattle.oz_top.proofs.Answering.{usage_due, no_usage}
+use Rattle.call_laws.specs.Call.{IsCommand}
+use Rattle.call_laws.proofs.Answering.{usage_due, no_usage}
 use Rattle.oz_top.proofs.call.plan_words.Given as given
 use Rattle.oz_top.proofs.call.plan_words.Goals as goal
 

@@ -1,0 +1,4 @@
+pub mod Parts
+pub mod Sums
+pub mod FdScripts
+pub mod Steps

@@ -1,0 +1,3 @@
+pub mod FuelLaws
+pub mod ReportLaws
+pub mod NodeLaws

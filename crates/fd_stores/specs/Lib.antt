@@ -1,0 +1,4 @@
+pub mod Stores
+pub mod Choices
+pub mod Notes
+pub mod Laws

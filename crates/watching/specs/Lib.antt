@@ -1,0 +1,3 @@
+pub mod Watching
+pub mod Lists
+pub mod Changes
