@@ -1,0 +1,2 @@
+//! The kernel statements that a finite-domain script becomes.
+#![tactic(auto)]

@@ -1,0 +1,10 @@
+pub mod ScopeLaws
+pub mod StatementLaws
+pub mod UntoldLaws
+pub mod PartLaws
+pub mod PostedLaws
+pub mod IndexLaws
+pub mod CompareLaws
+pub mod ConfineLaws
+pub mod ItemLaws
+pub mod DistributeLaws
