@@ -1,20 +1,15 @@
 -- An environment as recent bindings over a map with the older ones.
-use Rattle.std.specs.Prelude.{ℕ, List, [], ◌∷◌, map}
+use Rattle.std.specs.Prelude.{ℕ, ◌+◌}
 use Rattle.std.specs.FinMap as maps
-use Rattle.oz_base.specs.declared.names.Ident.{Ident}
 use Rattle.environments.specs.Environments.{Environment}
-use Rattle.environments.specs.declared.recent.Recent.{Recent, Nothing, Newest'}
+use Rattle.environments.specs.declared.recent.Recent.{Recent, Over, Newest'}
 
--- the bindings that the cells hold, the newest first: of each the identifier's number, and the variable
-abbrev pub bindings : Recent → List (ℕ × Ident)
-bindings Nothing = []
-bindings (Newest' p code variable older) = (code, variable) ∷ bindings older
+-- which variables the numbers of identifiers stand for: what stands further in front counts
+abbrev pub meant : Recent → Environment
+meant (Over older) = older
+meant (Newest' p code variable older) = maps.insert (meant older) code variable
 
--- the map after these were put into it, from the last to the first
-abbrev pub put_over : List (ℕ × Ident) → Environment → Environment
-put_over [] older = older
-put_over (b ∷ bs) older = maps.insert (put_over bs older) b.0 b.1
-
--- each variable gives way to another
-abbrev pub renamed_bindings : (Ident → Ident) → List (ℕ × Ident) → List (ℕ × Ident)
-renamed_bindings rename bs = map (λ (b : ℕ × Ident). (b.0, rename b.1)) bs
+-- how many bindings stand before the map
+abbrev pub cells : Recent → ℕ
+cells (Over older) = 0
+cells (Newest' p code variable older) = cells older + 1

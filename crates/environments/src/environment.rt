@@ -7,8 +7,7 @@ ghost use Rattle.renamings.specs.declared.given.Kind.TheVariants.{Variable};
 use crate::recent::Recent;
 use oz_base::{Copies, Ident};
 use oz_language::Identifier;
-use renamings::{Kind, Renaming};
-use shared_map::{Change, SharedMap};
+use renamings::Renaming;
 use std::alloc::{AllocError, Global};
 use std::marker::Model;
 
@@ -24,25 +23,25 @@ const MOST_RECENT: u64 = 16;
 #[derive(Drop)]
 pub struct Environment {
     recent: Recent,
+    /// How many stand before the map.
     count: u64,
-    older: SharedMap<Ident>,
 }
 
 impl Model for Environment {
-    ghost use Rattle.std.specs.Prelude.{◌≡◌, ◌≤◌, length};
+    ghost use Rattle.std.specs.Prelude.{◌≡◌, ◌≤◌};
     ghost use Rattle.std.specs.FinMap as maps;
     ghost use Rattle.std.specs.Coded.{codes};
     ghost use Rattle.environments.specs.Environments.{Environment};
-    ghost use Rattle.environments.specs.Recents.{bindings, put_over};
+    ghost use Rattle.environments.specs.Recents.{cells, meant};
     ghost use Rattle.environments.specs.declared.environment.TheConstants.{MOST_RECENT};
 
     ghost Value = { Environment };
 
     ghost coded = { Prim.hlevel (codes, maps.code) };
 
-    ghost view = { λ e. put_over (bindings e.recent) e.older };
+    ghost view = { λ e. meant e.recent };
 
-    ghost invariant = { λ e. (e.count ≡ length (bindings e.recent)) × (e.count ≤ MOST_RECENT) };
+    ghost invariant = { λ e. (e.count ≡ cells e.recent) × (e.count ≤ MOST_RECENT) };
 }
 
 /// The number of an identifier.
@@ -61,9 +60,8 @@ impl Environment {
         ensures { result ≡ unbound }
     {
         Environment {
-            recent: Recent::Nothing,
+            recent: Recent::nothing(),
             count: 0,
-            older: SharedMap::new(),
         }
     }
 
@@ -71,11 +69,7 @@ impl Environment {
     pub fn bound(&self, name: Identifier) -> Option<&Ident>
         ensures { option_copied result ≡ bound_in self.now name }
     {
-        let code = code(name);
-        match self.recent.get(code) {
-            Some(variable) => Some(variable),
-            None => self.older.get(code),
-        }
+        self.recent.get(code(name))
     }
 
     /// The identifier stands for the variable from now on. An error is for lack of memory, and leaves the environment.
@@ -94,9 +88,8 @@ impl Environment {
             self.count += 1;
             return Ok(());
         }
-        let mut recent = Recent::Nothing;
+        let mut recent = Recent::Over(self.recent.gathered(alloc)?);
         recent.push(alloc, code, variable)?;
-        self.older = self.recent.put_into(alloc, self.older.copied(alloc)?)?;
         self.recent = recent;
         self.count = 1;
         Ok(())
@@ -110,9 +103,7 @@ impl Environment {
         if self.count <= MOST_RECENT / 2 {
             return Ok(());
         }
-        let older = self.older.copied(alloc)?;
-        self.older = self.recent.put_into(alloc, older)?;
-        self.recent = Recent::Nothing;
+        self.recent = Recent::Over(self.recent.gathered(alloc)?);
         self.count = 0;
         Ok(())
     }
@@ -138,24 +129,6 @@ impl Environment {
     }
 }
 
-/// The new names of variables.
-#[derive(Drop)]
-struct Variables<'a> {
-    by: &'a Renaming,
-}
-
-impl<'a> Change<Ident> for Variables<'a> {
-    ghost changed = { λ variables. ident_by Variable variables.by.now };
-
-    fn changed(&self, alloc: Global, variable: &Ident) -> Result<Ident, AllocError> {
-        self.by.ident(alloc, Kind::Variable, variable)
-    }
-
-    fn keeps(&self, variable: &Ident) -> bool {
-        self.by.keeps(variable)
-    }
-}
-
 impl Environment {
     /// An environment in which each identifier stands for the variable of the new name. It takes a time that grows with the number of
     /// bindings, and shares of the older ones what keeps its names. It refuses a number above 2^64 - 1.
@@ -165,7 +138,6 @@ impl Environment {
         Ok(Environment {
             recent: self.recent.renamed(alloc, by)?,
             count: self.count,
-            older: self.older.changed(alloc, &Variables { by })?,
         })
     }
 }
@@ -174,9 +146,8 @@ impl Copies for Environment {
     /// In constant time.
     fn copied(&self, alloc: Global) -> Result<Self, AllocError> {
         Ok(Environment {
-            recent: self.recent.shared()?,
+            recent: self.recent.shared(alloc)?,
             count: self.count,
-            older: self.older.copied(alloc)?,
         })
     }
 }

@@ -1,6 +1,9 @@
--- The name of a space as it is kept: the top's as nothing.
-use Rattle.std.specs.Prelude.{ℕ, List, [], Option, Some, None}
+-- The name of a space as it is kept: the top's as nothing, that of a child of the top as its number, and a longer one as a list.
+use Rattle.std.specs.Prelude.{ℕ, List, [], ◌∷◌}
+use Rattle.oz_base.specs.declared.names.Numbers.{Numbers}
+use Rattle.oz_base.specs.declared.names.Numbers.TheVariants.{Top, Child, Deeper}
 
-abbrev pub listed : Option (List ℕ) → List ℕ
-listed None = []
-listed (Some numbers) = numbers
+abbrev pub listed : Numbers → List ℕ
+listed Top = []
+listed (Child number) = number ∷ []
+listed (Deeper numbers) = numbers
