@@ -16,7 +16,7 @@ use std::cmp::Ordering;
 fn name_order(level: &Level, space: &SpaceName) -> Ordering
     ensures { result ≡ slice_cmp nat_cmp level.now.space space.now }
 {
-    level.space.as_slice().cmp(space.as_slice())
+    level.space.order(space)
 }
 
 /// The place of a space. The spaces stand in the order of their names, so that half of those that are left fall away with each look.
