@@ -1,2 +1,4 @@
+mod EntryLaws
 mod NodeLaws
+mod PlaceLaws
 mod WayLaws

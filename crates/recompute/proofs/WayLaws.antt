@@ -1,12 +1,12 @@
 -- Ways, and what is at the paths that go on from them.
-use Rattle.std.proofs.Common.{◌≡◌, ◌≢◌, ℕ, zero, suc, ◌+◌, ◌-◌, ◌≤◌, ◌==◌, ◌&&◌, Bool, true, false, cond, List, [], ◌∷◌, ◌++◌, length, slice_get, Option, Some, None, refl, sym, ap, subst, arith, ◌∙◌}
+use Rattle.std.proofs.Common.{◌≡◌, ℕ, suc, ◌+◌, ◌-◌, ◌==◌, ◌&&◌, Bool, true, false, cond, List, [], ◌∷◌, ◌++◌, length, slice_get, Option, Some, None, refl, sym, ap, subst, arith, ◌∙◌}
 use lib.Dec.{leb}
 use Rattle.std.proofs.lemmas.Bool.Decides.{nat_tests}
 use Rattle.std.proofs.lemmas.Option.{same_Some}
 use Rattle.oz_language.specs.declared.kernel.Kernel.{Kernel}
 use Rattle.oz_machine.specs.Courses.{Loaded}
 use Rattle.oz_search.specs.Trees.{report}
-use Rattle.oz_search.specs.Nodes.{Reached, Met, Node, OutOfFuel, NotANode, met_last, met_by_kind, met_next, met_from}
+use Rattle.oz_search.specs.Nodes.{Reached, Met, OutOfFuel, NotANode, met_last, met_by_kind, met_next, met_from}
 use Rattle.oz_search.specs.Plain.{outcomes}
 use Rattle.oz_search.specs.declared.leaf.Outcome.{Outcome}
 use Rattle.oz_search.specs.declared.tree.Kind.{Kind}
@@ -52,7 +52,7 @@ met_missing o fuel at c (b ∷ p) e = ap (met_next outcomes at b (λ d. met_belo
 
 -- ---- one branch
 
-by_offer : (at b : ℕ) (kind : Kind Outcome) (next : Met Configuration Outcome) → offers kind b ≡ true → met_by_kind outcomes at b kind next ≡ next
+pub by_offer : (at b : ℕ) (kind : Kind Outcome) (next : Met Configuration Outcome) → offers kind b ≡ true → met_by_kind outcomes at b kind next ≡ next
 by_offer at b (Alternatives n) next e = ap (λ t. cond t next (NotANode (suc at))) e
 by_offer at b (End l) next e = absurd (cc)
 
@@ -61,10 +61,10 @@ by_refusal at b (Alternatives n) next e = ap (λ t. cond t next (NotANode (suc a
 by_refusal at b (End l) next e = refl
 
 -- a node is left by a branch that it offers
-offered : (o : Origin) (fuel at : ℕ) (x : Waypoint) (b : ℕ) (p : List ℕ) → offers x.report.kind b ≡ true → met_behind o fuel at x (b ∷ p) ≡ met_below o fuel (suc at) (committed_to o b x) p
+pub offered : (o : Origin) (fuel at : ℕ) (x : Waypoint) (b : ℕ) (p : List ℕ) → offers x.report.kind b ≡ true → met_behind o fuel at x (b ∷ p) ≡ met_below o fuel (suc at) (committed_to o b x) p
 offered o fuel at x b p e = by_offer at b x.report.kind (met_below o fuel (suc at) (committed_to o b x) p) e
 
-refused : (o : Origin) (fuel at : ℕ) (x : Waypoint) (b : ℕ) (p : List ℕ) → offers x.report.kind b ≡ false → met_behind o fuel at x (b ∷ p) ≡ NotANode (suc at)
+pub refused : (o : Origin) (fuel at : ℕ) (x : Waypoint) (b : ℕ) (p : List ℕ) → offers x.report.kind b ≡ false → met_behind o fuel at x (b ∷ p) ≡ NotANode (suc at)
 refused o fuel at x b p e = by_refusal at b x.report.kind (met_below o fuel (suc at) (committed_to o b x) p) e
 
 -- from a node to the one below it
@@ -75,7 +75,7 @@ below o fuel at x y p offer made fits =
 
 -- ---- along a way
 
-both_true : (a b : Bool) → (a && b) ≡ true → (a ≡ true) × (b ≡ true)
+pub both_true : (a b : Bool) → (a && b) ≡ true → (a ≡ true) × (b ≡ true)
 both_true true b e = (refl, e)
 both_true false b e = absurd (cc (e))
 
@@ -208,7 +208,7 @@ begins o fuel way new m space x p none n k c s made =
 
 -- ---- a step
 
-opened_node : (o : Origin) (fuel b : ℕ) (y : Waypoint) (m : Loaded) (space : List ℕ) (r : Option (Reached Configuration Outcome)) → y.machine.kernel ≡ o.kernel → space ≡ o.space → Opens y space b (Some m)
+pub opened_node : (o : Origin) (fuel b : ℕ) (y : Waypoint) (m : Loaded) (space : List ℕ) (r : Option (Reached Configuration Outcome)) → y.machine.kernel ≡ o.kernel → space ≡ o.space → Opens y space b (Some m)
     → node_at m.kernel space fuel m.config ≡ r → node_at o.kernel o.space fuel (committed_to o b y) ≡ r
 opened_node o fuel b y m space r k s opens e =
     let at : m.config ≡ committed_to o b y =

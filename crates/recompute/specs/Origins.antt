@@ -1,5 +1,5 @@
 -- Where a search starts, and the tree that it goes through.
-use Rattle.std.specs.Prelude.{ℕ, List}
+use Rattle.std.specs.Prelude.{ℕ, List, []}
 use Rattle.oz_language.specs.declared.kernel.Kernel.{Kernel}
 use Rattle.oz_search.specs.Nodes.{Met, met, Fuelled}
 use Rattle.oz_search.specs.Plain.{outcomes}
@@ -15,6 +15,15 @@ pub record Origin : Type 0 where
   pub config : Configuration
   pub space : List ℕ
   pub budget : ℕ
+
+-- that of no program
+abbrev pub nowhere : Origin
+nowhere = record {
+  kernel = record { words = []; statements = []; body = [] };
+  config = record { layers = []; queue = []; shown = [] };
+  space = [];
+  budget = 0;
+}
 
 -- that of a machine
 abbrev pub origin : Loaded → List ℕ → ℕ → Origin

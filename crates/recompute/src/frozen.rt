@@ -86,4 +86,11 @@ impl Frozen {
     {
         self.budget
     }
+
+    /// Nothing: its clause says that there are no more steps for the search than a pool counts.
+    pub fn small(&self)
+        ensures { self.now.budget ≤ 2 ^ 48 }
+    {
+        let _ = &self.budget;
+    }
 }

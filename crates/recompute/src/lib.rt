@@ -1,9 +1,13 @@
 //! Recomputation (Schulte, LNCS 2302): from where a search starts, it goes to any node of its tree by the node's path.
 #![tactic(auto)]
 
+mod board;
 mod explorer;
 mod frozen;
+mod placed;
 mod waypoint;
 
+pub use board::Board;
 pub use explorer::{Explorer, Solved};
 pub use frozen::Frozen;
+pub use placed::{Found, Placed, Start, solve_root};

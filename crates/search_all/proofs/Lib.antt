@@ -1,4 +1,6 @@
+mod BoardLaws
 mod EndLaws
 mod LeafLaws
 mod CrewLaws
+mod NearLaws
 mod PartLaws

@@ -26,6 +26,7 @@ ghost use Rattle.term_store.specs.contracts.store.Store as store;
 ghost use Rattle.space_core.specs.contracts.levels.Levels as levels;
 ghost use Rattle.oz_threads.specs.contracts.queue.Queue as queue;
 ghost use Rattle.oz_machine.specs.contracts.machine.Machine as machine;
+ghost use Rattle.recompute.specs.contracts.board.Board as board;
 ghost use Rattle.recompute.specs.contracts.frozen.Frozen as frozen;
 
 use environments::Environment;
@@ -34,7 +35,7 @@ use oz_base::{Ident, Interval, Sequence, Shared, SpaceName};
 use oz_language::Kernel;
 use oz_semantics::{Procedure, Propagator, Status, Tell, Thread, Trigger, Value};
 use oz_threads::Queue;
-use recompute::Frozen;
+use recompute::{Frozen, Start};
 use shared_list::SharedList;
 
 /// Nothing, as all functions here: its clause says that a type may be sent to another thread.
@@ -293,4 +294,11 @@ pub fn frozen_crosses()
     machine_crosses();
     sends::<Frozen>();
     shares::<Frozen>();
+}
+
+/// Nothing: its clause says that threads may share the board of a search.
+pub fn board_crosses<S: Start>()
+    ensures { IsSend (board.the_row S.row S.Start) }
+{
+    machine_crosses();
 }

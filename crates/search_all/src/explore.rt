@@ -11,9 +11,9 @@ use node_pool::{Claimed, Settled, SharedPool, Worker};
 use oz_base::Path;
 use oz_outside::Gate;
 use oz_search::{Kind, Outcome, Report, StopCause};
-use recompute::{Explorer, Frozen, Solved};
+use recompute::{Board, Explorer, Found, Frozen, Solved, Start, solve_root};
 use std::alloc::{AllocError, Global};
-use std::sync::Wait;
+use std::sync::{Mutex, Wait};
 
 /// A worker that was told something of the pool.
 #[derive(Drop)]
@@ -121,22 +121,79 @@ fn close_claim<R: Wait>(
     }
 }
 
+/// What there is at a path, by the way to it from the root.
+fn solve_from_root<S: Start>(
+    alloc: Global,
+    frozen: &Frozen,
+    path: &Path,
+) -> Result<Found<S>, AllocError>
+    ensures { IfOk result (λ found. found.solved ≡ answer_of (met_at frozen.now frozen.now.budget path.now)) }
+{
+    let mut explorer = Explorer::new(alloc, frozen)?;
+    let solved = explorer.solve(alloc, path, frozen.budget())?;
+    Ok(Found {
+        solved,
+        choice: None,
+    })
+}
+
+/// What there is at a path, by the node before it, if the board has that. The board is locked while it is asked, and no longer.
+fn solve_near<R: Wait, S: Start>(
+    rt: &R,
+    alloc: Global,
+    board: &Mutex<Board<S>>,
+    frozen: &Frozen,
+    path: &Path,
+) -> Result<Found<S>, AllocError>
+    requires start { frozen.now ≡ S.start }
+    ensures { IfOk result (λ found. found.solved ≡ answer_of (met_at frozen.now frozen.now.budget path.now)) }
+{
+    let Some((alternative, before)) = path.as_slice().split_last() else {
+        return solve_root(alloc, frozen);
+    };
+    let found = board.lock(rt).take(alloc, before)?;
+    let Some(choice) = found else {
+        return solve_from_root(alloc, frozen, path);
+    };
+    choice.get().solve_child(alloc, frozen, *alternative)
+}
+
+/// What there is at a path. A choice is put on the board, before anybody can be told of its alternatives. Where memory is refused
+/// for that, whoever takes one goes to it from the root.
+fn solve<R: Wait, S: Start>(
+    rt: &R,
+    alloc: Global,
+    board: &Mutex<Board<S>>,
+    frozen: &Frozen,
+    path: &Path,
+) -> Result<Solved, AllocError>
+    requires start { frozen.now ≡ S.start }
+    ensures { IfOk result (λ solved. solved ≡ answer_of (met_at frozen.now frozen.now.budget path.now)) }
+{
+    let Found { solved, choice } = solve_near(rt, alloc, board, frozen, path)?;
+    if let Some(choice) = choice {
+        let _ = board.lock(rt).put(choice);
+    }
+    Ok(solved)
+}
+
 /// Takes nodes and settles them, until the search is over. The gate is called round the solving of each.
-fn take_nodes<R: Wait, G: Gate>(
+pub fn explore<R: Wait, G: Gate, S: Start>(
     rt: &R,
     alloc: Global,
     pool: &SharedPool<Frozen>,
     first: Worker<Frozen>,
-    explorer: &mut Explorer,
-    budget: u64,
+    board: &Mutex<Board<S>>,
+    frozen: &Frozen,
     number: u32,
     gate: &G,
 ) -> Worker<Frozen>
-    requires small { budget ≤ 2 ^ 48 }
-    requires tree { IsFor explorer.old pool.now × (budget ≡ pool.now.budget) }
+    requires start { frozen.now ≡ S.start }
+    requires tree { IsFor frozen.now pool.now }
     requires ready { IsReady pool.now first }
     ensures { HasExplored pool.now first result }
 {
+    frozen.small();
     let mut patience = Patience::new();
     let mut worker = first;
     let mut nth: u64 = 0;
@@ -147,7 +204,7 @@ fn take_nodes<R: Wait, G: Gate>(
                 patience.reset();
                 nth = nth.saturating_add(1);
                 gate.before(number, nth);
-                let solved = explorer.solve(alloc, &path, budget);
+                let solved = solve(rt, alloc, board, frozen, &path);
                 gate.after(number, nth);
                 match close_claim(rt, pool, taken, path, solved) {
                     After::Free(free) => worker = free,
@@ -164,33 +221,4 @@ fn take_nodes<R: Wait, G: Gate>(
         }
     }
     unreachable!()
-}
-
-/// Explores the tree, until the search is over.
-pub fn explore<R: Wait, G: Gate>(
-    rt: &R,
-    alloc: Global,
-    pool: &SharedPool<Frozen>,
-    worker: Worker<Frozen>,
-    frozen: &Frozen,
-    number: u32,
-    gate: &G,
-) -> Worker<Frozen>
-    requires tree { IsFor frozen.now pool.now }
-    requires ready { IsReady pool.now worker }
-    ensures { HasExplored pool.now worker result }
-{
-    match Explorer::new(alloc, frozen) {
-        Err(_) => give_up(rt, pool, worker),
-        Ok(mut explorer) => take_nodes(
-            rt,
-            alloc,
-            pool,
-            worker,
-            &mut explorer,
-            frozen.budget(),
-            number,
-            gate,
-        ),
-    }
 }
