@@ -321,6 +321,16 @@ asked words bytes before after cause answer only h = go (excused_or cause)
     go (inr e) = inr e
     go (inl n) = inl (answered_with words bytes before after cause answer only h n.0 n.1 n.2).0
 
+-- what is done is no fault, and no want of memory
+done_no_fault : {cause : Cause} → cause ≡ causes.Done → cause ≡ causes.ReadFault → ⊥
+done_no_fault is k = cc
+
+done_no_write : {cause : Cause} → cause ≡ causes.Done → cause ≡ causes.WriteFault → ⊥
+done_no_write is k = cc
+
+done_no_memory : {cause : Cause} → cause ≡ causes.Done → cause ≡ causes.NoMemory → ⊥
+done_no_memory is k = cc
+
 -- Where they spell a command
 
 module _ (words : List (List ℕ)) (c : Command) (bytes : List ℕ) (before after : Writing) (cause : Cause) (w : Spells words c) (h : Replied words bytes before after cause) where
@@ -343,6 +353,13 @@ module _ (words : List (List ℕ)) (c : Command) (bytes : List ℕ) (before afte
     written front answer is o f n m =
         let d = answered_with words bytes before after cause answer (λ x r. only_answer x r ∙ is) h f n m in
         (d.0, whole_written before.written after.written front answer.1 o d.1)
+
+    -- the call ended as done: that is the answer, and it was written whole
+    pub done_written : (front : List ℕ) → cause ≡ causes.Done → before.written ≡ Some front
+        → (reply : List ℕ) × (◌≡◌ {A = Answer} (answered c p) (causes.Done, reply)) × (after.written ≡ Some (front ++ reply))
+    done_written front is o =
+        let all = written front (answered c p) refl o (λ k. done_no_fault is k) (λ k. done_no_write is k) (λ k. done_no_memory is k) in
+        ((answered c p).1, ap (λ (x : Cause). (x, (answered c p).1)) (sym all.0 ∙ is), all.1)
 
 -- the tree of the script is searched
 pub searched_all : (k : Kernel) (budget : ℕ) (found : Found (List ℕ × Outcome)) (s : Searches k budget found) → all_answer k budget ≡ answer_of_tree (shown_lines s.top) budget found

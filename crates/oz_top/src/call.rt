@@ -8,6 +8,9 @@ ghost use Rattle.oz_language.specs.Translation.{statements_of, kernel_of};
 ghost use Rattle.oz_language.specs.KernelTexts.{kernel_text};
 ghost use Rattle.oz_language.specs.Commands.{InRange, Spells, IsUsage, AsksAll, AsksRun, AsksKernel};
 ghost use Rattle.oz_semantics.specs.Runs.{Ended, run, opening};
+ghost use Rattle.fd_form.specs.FdScripts.{fd_form};
+ghost use Rattle.fd_form.specs.declared.script.FdScript.{FdScript};
+ghost use Rattle.fd_form_law.specs.FdCompleteness.{AreAnswers};
 ghost use Rattle.oz_replies.specs.Replies.{IsReply, Searches, status_of, text_limit, usage_reply, too_large_reply, shown_lines, leaves_reply, kind_text, refused_reply, refused_answer, all_answer, run_answer};
 ghost use Rattle.oz_language.specs.declared.command.Command.{Command};
 ghost use Rattle.oz_semantics.specs.declared.configuration.Configuration.{Configuration};
@@ -289,6 +292,13 @@ pub fn oz_call<R: Threads + Wait + Sync, S: Source, K: Sink, G: Gate>(
     ensures spent { (budget : ℕ) (bytes : List ℕ) (p : Program) → AsksAll (map string_bytes words.now) budget
         → S.left source.old ≡ Some bytes → length bytes ≤ text_limit → Accepts bytes p → Searches (kernel_of p) budget None
         → (result.cause ≡ Cause.Spent budget) ⊎ IsExcused result.cause }
+
+    // Where it is done on a finite-domain script, what was written is a line for each assignment that meets every relation which the
+    // script posts, each once, for `naive` in lexicographic order, and the totals.
+    ensures assignments { (budget : ℕ) (bytes before : List ℕ) (p : Program) (script : FdScript) → AsksAll (map string_bytes words.now) budget
+        → S.left source.old ≡ Some bytes → K.written sink.old ≡ Some before → length bytes ≤ text_limit → Accepts bytes p → fd_form p ≡ Some script
+        → result.cause ≡ Cause.Done
+        → (leaves : List Leaf) × AreAnswers p.words script leaves × (K.written sink.new ≡ Some (before ++ leaves_reply leaves)) }
 
     // `run` on an accepted text whose top becomes quiescent within the budget writes exactly what the top has shown.
     ensures shown { (budget : ℕ) (bytes before : List ℕ) (p : Program) (top : Configuration) (left : ℕ) → AsksRun (map string_bytes words.now) budget

@@ -8,7 +8,8 @@ use Rattle.oz_language.specs.KernelTexts.{kernel_text}
 use Rattle.oz_language.specs.declared.command.Command.TheVariants as commands
 use Rattle.oz_replies.specs.declared.cause.Cause.TheVariants as causes
 use Rattle.call_laws.specs.Call.{Reading, Writing, Plans, Ends, IsExcused}
-use Rattle.call_laws.proofs.Answering.{Replied, replied, read_by, usage_ended, asked_large, asked_refused, asked_accepted, written, searched_all, ended_run}
+use Rattle.call_laws.proofs.Answering.{Replied, replied, read_by, usage_ended, asked_large, asked_refused, asked_accepted, written, done_written, searched_all, ended_run}
+use Rattle.fd_tie.proofs.TieLaws.{fd_reply}
 use Rattle.oz_top.proofs.call.oz_call.Given as given
 use Rattle.oz_top.proofs.call.oz_call.Goals as goal
 
@@ -54,6 +55,12 @@ pub returns-clause-spent : goal.returns-clause-spent
 returns-clause-spent g c budget bytes p w told l a s =
     subst (λ (x : Answer). (c.finish.result.cause ≡ x.0) ⊎ IsExcused c.finish.result.cause) (searched_all (kernel_of p) budget None s)
     (asked_accepted (words_of g c) (commands.All w.workers budget) bytes (before_of g c) (after_of g c) c.finish.result.cause w.spelled (replies g c bytes told) p l a)
+
+pub returns-clause-assignments : goal.returns-clause-assignments
+returns-clause-assignments g c budget bytes before p script w told o l a form is =
+    let d = done_written (words_of g c) (commands.All w.workers budget) bytes (before_of g c) (after_of g c) c.finish.result.cause w.spelled (replies g c bytes told) p l a before is o in
+    let r = fd_reply bytes p script budget d.0 a form d.1 in
+    (r.0, r.1, d.2 ∙ ap (λ (x : List ℕ). Some (before ++ x)) r.2)
 
 pub returns-clause-shown : goal.returns-clause-shown
 returns-clause-shown g c budget bytes before p top left w told o l a e f n m =

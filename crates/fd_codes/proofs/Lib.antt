@@ -1,0 +1,3 @@
+pub mod PartCodes
+pub mod StatementCodes
+pub mod RecordCodes

@@ -1,0 +1,13 @@
+pub mod ScopeLaws
+pub mod StatementLaws
+pub mod UntoldLaws
+pub mod PartLaws
+pub mod PostedLaws
+pub mod IndexLaws
+pub mod CompareLaws
+pub mod ConfineLaws
+pub mod ItemLaws
+pub mod DistributeLaws
+pub mod NameLaws
+pub mod RecordLaws
+pub mod ScriptLaws

@@ -1,0 +1,7 @@
+pub mod FormLaws
+pub mod ProgramLaws
+pub mod AnswerLaws
+pub mod PostLaws
+pub mod NumberLaws
+pub mod VariableLaws
+pub mod ShapeLaws

@@ -1,0 +1,5 @@
+pub mod FdCompleteness
+pub mod Laws
+pub mod Posts
+pub mod Numbered
+pub mod Shapes

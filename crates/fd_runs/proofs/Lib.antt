@@ -1,0 +1,4 @@
+pub mod RunLaws
+pub mod ToldRuns
+pub mod DueLaws
+pub mod OfferLaws

@@ -1,0 +1,9 @@
+pub mod HeldLaws
+pub mod RestLaws
+pub mod BackLaws
+pub mod StateLaws
+pub mod OfferLaws
+pub mod EndLaws
+pub mod RunLaws
+pub mod TreeLaws
+pub mod TextLaws

@@ -1,0 +1,2 @@
+//! Laws of the steps of a search's space, as steps of the store that it stands for.
+#![tactic(auto)]
