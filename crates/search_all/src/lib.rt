@@ -1,5 +1,5 @@
-//! The search for all leaves by many workers. They share one pool of open nodes, and each goes to the nodes that it takes by
-//! recomputation.
+//! The search for all leaves by many workers. They share one pool of open nodes, and a board of choices that were solved: each goes on
+//! from the node before the one that it takes.
 #![tactic(auto)]
 
 mod crew;
