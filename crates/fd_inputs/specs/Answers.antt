@@ -1,7 +1,9 @@
 -- What the code's answers say.
-use Rattle.std.specs.Prelude.{ℤ, Option, option_map}
+use Rattle.std.specs.Prelude.{◌≡◌, ◌⊎◌, ℤ, Option, Some, None, option_map}
 use Rattle.std.specs.Borrow.{Bor}
 use Rattle.oz_base.specs.declared.names.Ident.{Ident}
+use Rattle.oz_domains.specs.Domains.{single}
+use Rattle.oz_semantics.specs.Store.{View, domain_of}
 use Rattle.oz_semantics.specs.Inputs.{Input, Known, Unknown, OtherKind}
 use Rattle.oz_semantics.specs.Distributors.{Distribution, Widens, Finished, Splits}
 use Rattle.fd_inputs.specs.declared.input.Input as inputs
@@ -32,6 +34,10 @@ as_it_is a = a
 
 abbrev pub bounds_of : Range → ℤ × ℤ
 bounds_of b = (b.low, b.high)
+
+-- a variable has no domain, or is one integer
+abbrev pub IsUntold : View → Ident → Type 0
+IsUntold view x = (domain_of view x ≡ None) ⊎ ((i : ℤ) × (domain_of view x ≡ Some (single i)))
 
 abbrev pub distribution_of : distributions.Distribution → Distribution
 distribution_of (distribution.Widens xs) = Widens xs.items

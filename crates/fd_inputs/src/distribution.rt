@@ -1,9 +1,9 @@
 //! What a distributor does.
-ghost use Rattle.std.specs.Prelude.{◌≡◌, false, [], IfOk, filter, map};
+ghost use Rattle.std.specs.Prelude.{◌≡◌, false, [], IfOk, MatchOption, filter, map};
 ghost use Rattle.std.specs.List.{list_any};
 ghost use Rattle.oz_semantics.specs.Distributors.{distribution, distribution_of as distributed, is_bare, is_foreign, rule_in, rule_input, splits, undetermined};
 ghost use Rattle.oz_semantics.specs.Propagation.{domain_in};
-ghost use Rattle.fd_inputs.specs.Answers.{as_it_is, distribution_of, input_of};
+ghost use Rattle.fd_inputs.specs.Answers.{as_it_is, distribution_of, input_of, IsUntold};
 
 use crate::input::{Input, both};
 use crate::parts::{confinement, first_part, second_part};
@@ -110,13 +110,24 @@ fn undetermined(alloc: Global, store: &Store, xs: &[Ident]) -> Result<Vec<Ident>
     Ok(ones)
 }
 
-/// The domain of an element that is not determined. It refuses one that has none.
+/// The domain that an element was told. None where it has none, or is one integer.
+fn told_domain<'a>(store: &'a Store, x: &Ident) -> Option<&'a Domain>
+    ensures { MatchOption result (IsUntold store.now x.now) (λ domain. domain.now ≡ domain_in store.now x.now) }
+{
+    match store.domain(x) {
+        Some(VariableDomain::Told(domain)) => Some(domain),
+        Some(VariableDomain::Integer(_)) => None,
+        None => None,
+    }
+}
+
+/// The domain of an element that is not determined. It refuses one that was told none.
 fn domain_of(alloc: Global, store: &Store, x: &Ident) -> Result<Domain, AllocError>
     ensures { IfOk result (λ domain. domain ≡ domain_in store.now x.now) }
 {
-    match store.domain(x) {
-        Some(VariableDomain::Told(domain)) => domain.copied(alloc),
-        _ => Err(AllocError),
+    match told_domain(store, x) {
+        Some(domain) => domain.copied(alloc),
+        None => Err(AllocError),
     }
 }
 

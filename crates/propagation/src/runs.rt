@@ -1,6 +1,6 @@
 //! Runs of propagators.
 ghost use Rattle.std.specs.Prelude.{◌≡◌, Some, IfOk, length};
-ghost use Rattle.oz_domains.specs.Domains.{single};
+ghost use Rattle.oz_domains.specs.Domains.{is_domain_value, single};
 ghost use Rattle.oz_semantics.specs.Propagation.{if_consistent, narrowed, run_of};
 ghost use Rattle.oz_semantics.specs.Store.{domain_of, news};
 ghost use Rattle.propagation.specs.Runs.{run_as, AreDomainsOf, IsOneTold};
@@ -23,11 +23,18 @@ pub enum Run {
     Narrows(Vec<Tell>),
 }
 
-/// The domain of one integer. It refuses one that no domain has.
+/// Whether an integer is a domain value.
+fn is_domain_value(integer: i128) -> bool
+    ensures { result ≡ is_domain_value integer }
+{
+    LEAST_VALUE as i128 <= integer && integer <= GREATEST_VALUE as i128
+}
+
+/// The domain of one integer. It refuses one that is no domain value.
 fn domain_of_one(alloc: Global, integer: i128) -> Result<Domain, AllocError>
     ensures { IfOk result (λ domain. domain ≡ single integer) }
 {
-    if integer < LEAST_VALUE as i128 || (GREATEST_VALUE as i128) < integer {
+    if !is_domain_value(integer) {
         return Err(AllocError);
     }
     let value = integer as i64;

@@ -1,6 +1,6 @@
 -- One edit of a space after another, at the place that was looked up.
-use Rattle.std.proofs.Common.{◌≡◌, ℕ, ◌+◌, ◌<◌, ◌≤◌, arith, length, true, false, List, [], ◌∷◌, ◌++◌, slice_set, slice_index_or, refl, sym, ap, ap₂, subst, ◌∙◌, drop, take, Option, Some, None, unwrap_or, Bool}
-use Rattle.std.specs.Prelude.{MatchOption}
+use Rattle.std.proofs.Common.{◌≡◌, ℕ, ◌+◌, ◌<◌, ◌≤◌, arith, length, true, false, List, [], ◌∷◌, ◌++◌, slice_set, slice_index_or, refl, sym, ap, ap₂, subst, ◌∙◌, drop, take, Option, Some, None, unwrap_or, Bool, Result, Ok, Err}
+use Rattle.std.specs.Prelude.{IfOk, MatchOption}
 use Rattle.std.specs.List.{list_all}
 use Rattle.std.proofs.Math.Seq.{take-length, take-append_seam}
 use Rattle.std.proofs.lemmas.List.{get_or-set_same, get_or_default, set-set, set-get_or}
@@ -27,7 +27,7 @@ use Rattle.space_core.specs.Giving.{giving, objects_after, propagators_after, af
 use Rattle.space_core.specs.Places.{IsFirst}
 use Rattle.space_core.specs.Shown.{shown, shown_all, is_home, IsSound, IsQuiet}
 use Rattle.space_core.specs.Stacks.{cut_out}
-use Rattle.space_core.specs.Telling.{after_giving_at, IsToldMore, IsLeft, ToldThrough, ToldAt, ClashesAt, HasThread}
+use Rattle.space_core.specs.Telling.{after_giving_at, IsToldMore, IsLeft, IsToldThrough, IsToldAt, ToldThrough, ToldAt, ClashesAt, HasThread}
 use Rattle.space_core.specs.declared.given.Given.{Given}
 use Rattle.space_core.specs.declared.given.Given.TheVariants.{Nothing, Variables, Procedure, Name, Cell, Content, Port, End, Propagator}
 use Rattle.space_core.specs.declared.level.Level.{Level}
@@ -270,6 +270,27 @@ module _ (levels : List Level) (place : ℕ) (within : place < length levels) (g
     left = subst (λ (n : Level). IsLeft place n t.told (after_giving_at place given l1 levels) news) told_given (subst (λ (n : Level). IsLeft place t.before t.told (slice_set levels place n) news) e t.left);
   }
 
+-- A space that gives out nothing was told
+module _ (levels : List Level) (place : ℕ) (within : place < length levels) (ts : List Tell) (l : Level) (r : l ≡ slice_index_or levels place l)
+    (seen : List Level) (at : seen ≡ levels) (home : Bool) (homes : home ≡ list_all (λ t. list_all (is_home (shown_all seen) l.space) (named_by t)) ts) (news : List Level) where
+  gave_nothing : (before : Level) → before ≡ slice_index_or levels place before → levels ≡ after_giving_at place Nothing before levels
+  gave_nothing before read = sym (ap (slice_set levels place) read ∙ set-get_or levels place before)
+
+  pub told_nothing : {E : Type 0} (answer : Result Bool E) → IfOk answer (IsToldThrough place home ts levels news) → IfOk answer (IsToldAt place ts Nothing levels news)
+  told_nothing (Ok true) t = record {
+    before = t.before;
+    told = t.told;
+    home = home;
+    read = t.read;
+    homes = homes
+        ∙ ap₂ (λ (ls : List Level) (s : List ℕ). list_all (λ u. list_all (is_home (shown_all ls) s) (named_by u)) ts) (at ∙ gave_nothing t.before t.read)
+        (ap (λ (n : Level). n.space) (r ∙ get_or_default levels place l t.before within ∙ sym t.read));
+    tells = t.tells;
+    left = subst (λ (ls : List Level). IsLeft place t.before t.told ls news) (gave_nothing t.before t.read) t.left;
+  }
+  told_nothing (Ok false) t = t
+  told_nothing (Err e) t = t
+
 -- What the cells and ports were, where what is given out changes them
 abbrev pub IsBefore : Given → Contents → Option Contents → Type 0
 IsBefore given objects before = MatchOption before (objects_after given objects ≡ objects) (λ same. same ≡ objects)
@@ -300,15 +321,15 @@ module _ (levels : List Level) (place : ℕ) (within : place < length levels) (g
   pub given_level : (l2 : Level) → l2 ≡ slice_index_or (slice_set levels place g) place l2 → l2 ≡ after_giving given l0
   given_level l2 r2 = read_set levels place g l2 within r2 ∙ e ∙ ap (after_giving given) same_level
 
-  module _ (l3 : Level) (r3 : l3 ≡ slice_index_or news place l3) (before : Option Contents) (b : IsBefore given l1.objects before) (posted : ℕ) (p : posted ≡ length l0.propagators) (m : Level)
-      (back : m ≡ record l3 { numbers = l0.numbers; objects = unwrap_or before l3.objects; propagators = take posted l3.propagators }) where
+  module _ (l3 : Level) (r3 : l3 ≡ slice_index_or news place l3) (before : Option Contents) (b : IsBefore given l1.objects before) (posted : ℕ) (p : posted ≡ length l0.constraints.propagators) (m : Level)
+      (back : m ≡ record l3 { numbers = l0.numbers; objects = unwrap_or before l3.objects; constraints = record l3.constraints { propagators = take posted l3.constraints.propagators } }) where
     set_back_level : m ≡ l0
     set_back_level =
         back
-        ∙ ap₂ (λ (n : Level) (count : ℕ). record n { numbers = l0.numbers; objects = unwrap_or before n.objects; propagators = take count n.propagators })
+        ∙ ap₂ (λ (n : Level) (count : ℕ). record n { numbers = l0.numbers; objects = unwrap_or before n.objects; constraints = record n.constraints { propagators = take count n.constraints.propagators } })
         (given_level l3 (subst (λ (ls : List Level). l3 ≡ slice_index_or ls place l3) same r3)) p
-        ∙ ap₂ (λ (o : Contents) (ps : List propagators.Propagator). record l0 { objects = o; propagators = ps })
-        (set_back_is given l0.objects before (subst (λ (n : Level). IsBefore given n.objects before) same_level b)) (kept_first given l0.propagators)
+        ∙ ap₂ (λ (o : Contents) (ps : List propagators.Propagator). record l0 { objects = o; constraints = record l0.constraints { propagators = ps } })
+        (set_back_is given l0.objects before (subst (λ (n : Level). IsBefore given n.objects before) same_level b)) (kept_first given l0.constraints.propagators)
 
     pub restored : slice_set news place m ≡ levels
     restored =

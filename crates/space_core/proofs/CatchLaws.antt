@@ -53,12 +53,11 @@ pub quiet_same : (l m : Level) → IsQuiet (λ k. k) l m → m ≡ l
 quiet_same l m q = λ i. record {
   space = q.space i;
   status = (q.becomes i).status;
-  store = q.store i;
+  constraints = record { store = q.store i; propagators = (q.becomes i).propagators };
   told_from = q.told_from i;
   touched = q.touched i;
   threads = record { list = (q.becomes i).threads; next = (q.becomes i).next.thread };
   triggers = (q.becomes i).triggers;
-  propagators = (q.becomes i).propagators;
   objects = record { cells = (q.becomes i).cells; ports = (q.becomes i).ports };
   numbers = record { variable = (q.becomes i).next.variable; procedure = (q.becomes i).next.procedure; name = (q.becomes i).next.name; child = (q.becomes i).next.child };
   traced = q.traced i;

@@ -72,7 +72,7 @@ view_parent (k ∷ ls) space h =
 -- Creation
 
 module _ (levels : List Level) (s : IsSound levels) (parent : List ℕ) (place : ℕ) (x : Layer) (h : IsFirst (is_of parent) (shown_all levels) place x) (l : Level) (e : l ≡ slice_index_or levels place l)
-    (procedure : Ident) (m : Level) (child : IsChild (next_child (shown l)) procedure l.store m) (kept : l.bare ≡ false) (news : List Level) (added : IsAdded levels news m)
+    (procedure : Ident) (m : Level) (child : IsChild (next_child (shown l)) procedure l.constraints.store m) (kept : l.bare ≡ false) (news : List Level) (added : IsAdded levels news m)
     (place2 : ℕ) (x2 : Layer) (h2 : IsFirst (is_of parent) (shown_all news) place2 x2) (l2 : Level) (e2 : l2 ≡ slice_index_or news place2 l2) where
   abbrev layers : List Layer
   layers = shown_all levels
@@ -143,10 +143,10 @@ module _ (levels : List Level) (s : IsSound levels) (parent : List ℕ) (place :
     | inr q ↦ q
   ]
 
-  sees_parent : view layers parent ≡ l.store
+  sees_parent : view layers parent ≡ l.constraints.store
   sees_parent = sym (own_fits.seen kept ∙ ap (view layers) own_name)
 
-  above_child : seen_above after name ≡ l.store
+  above_child : seen_above after name ≡ l.constraints.store
   above_child = above_is after name (not_top_child l.space l.numbers.child) ∙ after_view (parent_of name) ∙ ap (view layers) child_parent ∙ sees_parent
 
   child_view : view after name ≡ view layers parent

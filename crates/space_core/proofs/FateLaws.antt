@@ -148,7 +148,7 @@ module _ (space : List ℕ) (levels : List Level) (stale : IsStale space levels)
       by : (above : Fate) → IsFate space layers d.parent above → IsAfter layers d.parent above l fate → IsFate space layers l fate
       by Stays f a =
           let own = stale.seen d.parent among f a.0 in
-          under_right d.parent.store (own ∙ ap (view layers) d.name) (ap is_consistent own ∙ stale.consistent d.parent among f)
+          under_right d.parent.constraints.store (own ∙ ap (view layers) d.name) (ap is_consistent own ∙ stale.consistent d.parent among f)
           (parent_stands (apart_stands space layers stale.below d.parent.space f)) fate a.1
       by (Sees seen) f a =
           let own = f.1.fits.seen f.1.kept in
@@ -174,7 +174,7 @@ shown_seeing seen l e = λ i. record {
   tells = e i;
   threads = l.threads.list;
   triggers = l.triggers;
-  propagators = l.propagators;
+  propagators = l.constraints.propagators;
   cells = l.objects.cells;
   ports = l.objects.ports;
   next = next_with l.threads.next l.numbers;

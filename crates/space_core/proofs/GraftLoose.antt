@@ -31,7 +31,7 @@ module _ (levels : List Level) (space : List ℕ) (place : ℕ) (s : IsSound lev
   name_at : (l : Level) → l ≡ slice_index_or levels place l → l.space ≡ space
   name_at l e = ap (λ (k : Layer). k.space) (read_shown levels space place h.0 h.1 l e) ∙ space_of (shown_all levels) space h.0 h.1.found
 
-  pub sees_changed : (l m : Level) → l ≡ slice_index_or levels place l → IsQuiet change l m → m.bare ≡ false → view (shown_all levels) space ≡ m.store
+  pub sees_changed : (l m : Level) → l ≡ slice_index_or levels place l → IsQuiet change l m → m.bare ≡ false → view (shown_all levels) space ≡ m.constraints.store
   sees_changed l m e q b = sym (q.store ∙ (s.fits l (place_member levels space place h.0 h.1 l e)).seen (sym q.bare ∙ b) ∙ ap (view (shown_all levels)) (name_at l e))
 
   pub clash_alone : (ts : List Tell) → ClashesAlone change place ts levels → is_consistent (view (shown_all levels) space ++ ts) ≡ false

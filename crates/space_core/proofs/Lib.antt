@@ -2,6 +2,8 @@ pub mod IntervalLaws
 pub mod FiringLaws
 pub mod PostingLaws
 pub mod Firsts
+pub mod ConstraintLaws
+pub mod PathLaws
 pub mod HalvingLaws
 pub mod BehindLaws
 pub mod ThreadLaws

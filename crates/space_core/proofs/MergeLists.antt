@@ -106,7 +106,7 @@ kept_none ts next ended h = record { ascends = ascends_low 1 next ts h.ascends; 
 module _ (r : Renaming) (child l m : Level) (number : ℕ) (q : IsQuiet (with_frames number (λ stack. drop 1 stack)) l m)
     (threads : Running) (are_threads : threads ≡ with_joined r child.threads m.threads)
     (triggers : List Trigger) (are_triggers : triggers ≡ m.triggers ++ map (renamed_trigger r) child.triggers)
-    (propagators : List Propagator) (are_propagators : propagators ≡ m.propagators ++ map (renamed_propagator r) child.propagators)
+    (propagators : List Propagator) (are_propagators : propagators ≡ m.constraints.propagators ++ map (renamed_propagator r) child.constraints.propagators)
     (objects : Contents) (are_objects : objects ≡ record { cells = m.objects.cells ++ map r.variable child.objects.cells; ports = m.objects.ports ++ map r.variable child.objects.ports })
     (numbers : Numbers) (are_numbers : numbers ≡ record {
       variable = m.numbers.variable + child.numbers.variable;
@@ -115,13 +115,13 @@ module _ (r : Renaming) (child l m : Level) (number : ℕ) (q : IsQuiet (with_fr
       child = m.numbers.child + (child.numbers.child - 1);
     }) where
   abbrev new : Level
-  new = record m { threads = threads; triggers = triggers; propagators = propagators; objects = objects; numbers = numbers }
+  new = record m { constraints = record m.constraints { propagators = propagators }; threads = threads; triggers = triggers; objects = objects; numbers = numbers }
 
   shows_joined : shown new ≡ joined (renamed_layer r (shown child)) (shown m)
   shows_joined = λ i. record {
     space = m.space;
     status = m.status;
-    tells = drop m.told_from m.store;
+    tells = drop m.told_from m.constraints.store;
     threads = (are_threads i).list;
     triggers = are_triggers i;
     propagators = are_propagators i;

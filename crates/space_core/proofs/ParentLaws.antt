@@ -1,12 +1,14 @@
 -- The name of the parent of a space.
-use Rattle.std.proofs.Common.{◌≡◌, ℕ, suc, ◌-◌, ◌<◌, arith, Bool, true, false, List, [], ◌∷◌, take, length, refl, sym, ◌∙◌, ap, Contains, slice_index_or}
+use Rattle.std.proofs.Common.{◌≡◌, ℕ, suc, ◌-◌, ◌<◌, arith, Bool, true, false, List, [], ◌∷◌, take, length, refl, sym, ◌∙◌, ap, Contains, Option, Some, None, slice_get, slice_index_or}
+use Rattle.std.proofs.lemmas.Bool.{false≢true}
 use Rattle.std.proofs.lemmas.List.{get_or_default}
-use Rattle.oz_base.specs.Lists.{is_empty, list_eq}
+use Rattle.std.proofs.lemmas.Option.{slice_get_within, get_or_from_slice_get}
+use Rattle.oz_base.specs.Lists.{holds_of, is_empty, list_eq}
 use Rattle.oz_semantics.specs.Names.{is_top, parent_of}
 use Rattle.oz_laws.proofs.SameLaws.{contains-from_In}
 use Rattle.view_laws.proofs.NameLaws.{equal_names}
 use Rattle.view_laws.proofs.ListLaws.{found_in}
-use Rattle.space_core.specs.Fates.{IsParentAt}
+use Rattle.space_core.specs.Fates.{IsParentAt, is_parent_at}
 use Rattle.space_core.specs.Places.{IsFirst}
 use Rattle.space_core.specs.Shown.{is_named}
 use Rattle.space_core.specs.declared.level.Level.{Level}
@@ -43,3 +45,10 @@ parent_at levels place space within l r e = record {
   within = within;
   name = λ k q. ap (λ (j : Level). j.space) (q ∙ get_or_default levels place k l within ∙ sym r) ∙ equal_names l.space (parent_of space) e;
 }
+
+pub parent_by : (levels : List Level) (place : ℕ) (space : List ℕ) → is_parent_at levels space place ≡ true → IsParentAt levels place space
+parent_by levels place space e = by (slice_get levels place) refl e
+  where
+    by : (o : Option Level) → slice_get levels place ≡ o → holds_of (λ (l : Level). list_eq l.space (parent_of space)) o ≡ true → IsParentAt levels place space
+    by None at t = absurd (false≢true t)
+    by (Some l) at t = parent_at levels place space (slice_get_within levels place l at) l (sym (get_or_from_slice_get levels place l l at)) t

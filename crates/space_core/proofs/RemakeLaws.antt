@@ -156,7 +156,7 @@ module _ (levels : List Level) (space : List ℕ) (place : ℕ) (x : Layer) (h :
   tree : IsTree after
   tree = after_tree levels space place x h l m e (telling ts) shows told.space told.numbers s
 
-  own_view : view layers space ≡ l.store
+  own_view : view layers space ≡ l.constraints.store
   own_view = sym ((s.fits l (place_member levels space place x h l e)).seen told.kept ∙ ap (view layers) name)
 
   below : (t : List ℕ) → Contains (inconsistent_spaces after) t → is_properly_below space t ≡ true
@@ -180,7 +180,7 @@ module _ (levels : List Level) (space : List ℕ) (place : ℕ) (x : Layer) (h :
 
   -- Those below it have their fates
   abbrev seeing_level : Level
-  seeing_level = record l { store = m.store }
+  seeing_level = record l { constraints = record l.constraints { store = m.constraints.store } }
 
   abbrev seen_levels : List Level
   seen_levels = slice_set levels place seeing_level
@@ -190,14 +190,14 @@ module _ (levels : List Level) (space : List ℕ) (place : ℕ) (x : Layer) (h :
       own_shows levels space place x h l seeing_level e (telling ts) (ap (λ (us : List Tell). record (shown l) { tells = us }) tells_more) refl refl s
     where
       tells_more : (shown seeing_level).tells ≡ (telling ts (shown l)).tells
-      tells_more = ap (λ (n : ℕ). drop n m.store) (sym told.told_from) ∙ ap (λ (k : Layer). k.tells) shows
+      tells_more = ap (λ (n : ℕ). drop n m.constraints.store) (sym told.told_from) ∙ ap (λ (k : Layer). k.tells) shows
 
   stale : IsStale space seen_levels
   stale = record {
     tree = subst IsTree (sym seen_shows) tree;
     below = subst (λ (ls : List Layer). (t : List ℕ) → Contains (inconsistent_spaces ls) t → is_properly_below space t ≡ true) (sym seen_shows) below;
-    seen = λ n c a b. subst (λ (ls : List Layer). n.store ≡ view ls n.space) (sym seen_shows) (elim (set_member levels place seeing_level n within c) [
-      | inl k ↦ subst (λ (j : Level). j.store ≡ view after j.space) (sym k) (fits.seen (told.bare ∙ told.kept) ∙ ap (view after) told.space)
+    seen = λ n c a b. subst (λ (ls : List Layer). n.constraints.store ≡ view ls n.space) (sym seen_shows) (elim (set_member levels place seeing_level n within c) [
+      | inl k ↦ subst (λ (j : Level). j.constraints.store ≡ view after j.space) (sym k) (fits.seen (told.bare ∙ told.kept) ∙ ap (view after) told.space)
       | inr k ↦ (apart_fits n k a).seen b
     ]);
     consistent = λ n c a. subst (λ (ls : List Layer). is_consistent (view ls n.space) ≡ true) (sym seen_shows) (elim (set_member levels place seeing_level n within c) [

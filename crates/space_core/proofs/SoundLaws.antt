@@ -56,7 +56,7 @@ set_shown levels space place x h l m e change b =
 -- the same store, and what belongs to it
 pub record IsAlike (old new : Level) : Type 0 where
   pub space : new.space ≡ old.space
-  pub store : new.store ≡ old.store
+  pub store : new.constraints.store ≡ old.constraints.store
   pub told_from : new.told_from ≡ old.told_from
   pub touched : new.touched ≡ old.touched
   pub traced : new.traced ≡ old.traced
@@ -65,18 +65,17 @@ pub record IsAlike (old new : Level) : Type 0 where
 
 pub fits_alike : (layers : List Layer) (l m : Level) → IsAlike l m → Fits layers l → Fits layers m
 fits_alike layers l m e f =
-    let l' : Level = record l { status = m.status; threads = m.threads; triggers = m.triggers; propagators = m.propagators; objects = m.objects; numbers = m.numbers } in
+    let l' : Level = record l { status = m.status; constraints = record l.constraints { propagators = m.constraints.propagators }; threads = m.threads; triggers = m.triggers; objects = m.objects; numbers = m.numbers } in
     let bare : l'.bare ≡ true → IsBare l' = λ b. (let k = f.bare b in record { inner = k.inner; store = k.store; touched = k.touched }) in
     let f' : Fits layers l' = record { seen = f.seen; from = f.from; bare = bare; consistent = f.consistent; home = f.home; touches = f.touches; known = f.known } in
     let same : l' ≡ m = λ i. record {
       space = sym e.space i;
       status = m.status;
-      store = sym e.store i;
+      constraints = record { store = sym e.store i; propagators = m.constraints.propagators };
       told_from = sym e.told_from i;
       touched = sym e.touched i;
       threads = m.threads;
       triggers = m.triggers;
-      propagators = m.propagators;
       objects = m.objects;
       numbers = m.numbers;
       traced = sym e.traced i;

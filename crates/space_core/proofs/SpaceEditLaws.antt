@@ -1,6 +1,6 @@
 -- Edits of the tree of spaces, by calls that stand.
 use Rattle.std.proofs.Common.{◌≡◌, inl, inr, ℕ, Bool, true, false, not, List, [], ◌∷◌, ◌++◌, drop, refl, sym, ap, ap₂, subst, ◌∙◌, arith, Option, Some, None, is_some, unwrap_or, slice_get}
-use Rattle.std.specs.Prelude.{position}
+use Rattle.std.specs.Prelude.{◌&&◌, ◌==◌, position}
 use Rattle.std.proofs.lemmas.Bool.{false≢true}
 use Rattle.std.proofs.lemmas.List.{append-nil}
 use Rattle.std.proofs.lemmas.Option.{slice_get-get_or}
@@ -36,7 +36,7 @@ use Rattle.space_core.specs.Levels.{OfLayer}
 use Rattle.space_core.specs.Places.{IsFirst}
 use Rattle.space_core.specs.SpaceEdits.{IsEdited}
 use Rattle.space_core.proofs.CreateSettles.{create_settles}
-use Rattle.space_core.proofs.Firsts.{found_at, found_edited, edit_same}
+use Rattle.space_core.proofs.Firsts.{Found, found_at, found_by_position, found_edited, edit_same}
 
 -- What stands where a space was looked up
 pub record StandsAt (layers : List Layer) (space : List ℕ) (place : ℕ) : Type 0 where
@@ -159,10 +159,21 @@ advanced_by id {before} {old} {given} {ts} mid {b} {d} e f g a =
     subst (IsAdvanced id ts [] old mid) g (subst (λ (ls : List Layer). IsAdvanced id ts [] ls mid b) e (subst (λ (us : List Tell). IsAdvanced id us [] before mid b) f a))
 
 -- Whether a space is a child of one that is there
-pub named_child : (parent child : List ℕ) → is_top child ≡ false → list_eq parent (parent_of child) ≡ true → is_child_of parent child ≡ true
-named_child parent child inner e =
-    let same : parent_of child ≡ parent = sym (equal_names parent (parent_of child) e) in
-    and_both _ _ (ap not inner) (subst (λ (p : List ℕ). list_eq (parent_of child) p ≡ true) same (names_equal (parent_of child)))
+
+same_either : (s t : List ℕ) → list_eq s t ≡ list_eq t s
+same_either [] [] = refl
+same_either [] (n ∷ t) = refl
+same_either (n ∷ s) [] = refl
+same_either (n ∷ s) (m ∷ t) = ap₂ (λ (b c : Bool). b && c) (same_number n m) (same_either s t)
+  where
+    same_number : (n m : ℕ) → (n == m) ≡ (m == n)
+    same_number n m = grind arith
+
+pub child_is : (parent child : List ℕ) → is_top child ≡ false → list_eq parent (parent_of child) ≡ is_child_of parent child
+child_is parent child inner = same_either parent (parent_of child) ∙ sym (ap (λ (b : Bool). b && list_eq (parent_of child) parent) (ap not inner))
+
+pub child_not : (parent child : List ℕ) → is_top child ≡ true → false ≡ is_child_of parent child
+child_not parent child top = sym (ap (λ (b : Bool). b && list_eq (parent_of child) parent) (ap not top))
 
 pub position_there : (layers : List Layer) (space : List ℕ) → is_some (position (is_of space) layers) ≡ true → is_some (layer_at layers space) ≡ true
 position_there layers space e = by (position (is_of space) layers) refl e
@@ -170,6 +181,13 @@ position_there layers space e = by (position (is_of space) layers) refl e
     by : (o : Option ℕ) → o ≡ position (is_of space) layers → is_some o ≡ true → is_some (layer_at layers space) ≡ true
     by None p k = absurd (false≢true k)
     by (Some place) p k = ap is_some (stands_at layers space place p).found
+
+pub there_position : (layers : List Layer) (space : List ℕ) → is_some (layer_at layers space) ≡ true → is_some (position (is_of space) layers) ≡ true
+there_position layers space e = by (position (is_of space) layers) (found_by_position (is_of space) layers)
+  where
+    by : (o : Option ℕ) → Found (is_of space) layers o → is_some o ≡ true
+    by None h = absurd (false≢true (sym (ap is_some h.none) ∙ e))
+    by (Some place) h = refl
 
 pub has_child_by : (layers : List Layer) (parent child : List ℕ) → is_child_of parent child ≡ true → is_some (position (is_of parent) layers) ≡ true → is_some (position (is_of child) layers) ≡ true → HasChild layers parent child
 has_child_by layers parent child c p q = record { below = c; parent_there = position_there layers parent p; child_there = position_there layers child q }

@@ -182,7 +182,7 @@ module _ (levels : List Level) (space : List ℕ) (place : ℕ) (x : Layer) (h :
 
 -- What is kept of one space, by the name of the space
 pub record FitsAt (layers : List Layer) (space : List ℕ) (l : Level) : Type 0 where
-  pub seen : l.bare ≡ false → l.store ≡ view layers space
+  pub seen : l.bare ≡ false → l.constraints.store ≡ view layers space
   pub from : l.bare ≡ false → l.told_from ≡ length (seen_above layers space)
   pub bare : l.bare ≡ true → IsBare l
   pub consistent : is_consistent (view layers space) ≡ true
@@ -192,7 +192,7 @@ pub record FitsAt (layers : List Layer) (space : List ℕ) (l : Level) : Type 0 
 
 pub fits_at : (layers : List Layer) (space : List ℕ) (l : Level) → space ≡ l.space → FitsAt layers space l → Fits layers l
 fits_at layers space l e f = record {
-  seen = subst (λ (s : List ℕ). l.bare ≡ false → l.store ≡ view layers s) e f.seen;
+  seen = subst (λ (s : List ℕ). l.bare ≡ false → l.constraints.store ≡ view layers s) e f.seen;
   from = subst (λ (s : List ℕ). l.bare ≡ false → l.told_from ≡ length (seen_above layers s)) e f.from;
   bare = f.bare;
   consistent = subst (λ (s : List ℕ). is_consistent (view layers s) ≡ true) e f.consistent;
@@ -203,7 +203,7 @@ fits_at layers space l e f = record {
 
 pub at_fits : (layers : List Layer) (space : List ℕ) (l : Level) → l.space ≡ space → Fits layers l → FitsAt layers space l
 at_fits layers space l e f = record {
-  seen = subst (λ (s : List ℕ). l.bare ≡ false → l.store ≡ view layers s) e f.seen;
+  seen = subst (λ (s : List ℕ). l.bare ≡ false → l.constraints.store ≡ view layers s) e f.seen;
   from = subst (λ (s : List ℕ). l.bare ≡ false → l.told_from ≡ length (seen_above layers s)) e f.from;
   bare = f.bare;
   consistent = subst (λ (s : List ℕ). is_consistent (view layers s) ≡ true) e f.consistent;
@@ -214,7 +214,7 @@ at_fits layers space l e f = record {
 
 -- What fits what its parent sees, where its layer is one of the tree's
 pub record FitsAbove (layers : List Layer) (space : List ℕ) (m : Level) : Type 0 where
-  pub store : m.bare ≡ false → m.store ≡ seen_above layers space ++ (shown m).tells
+  pub store : m.bare ≡ false → m.constraints.store ≡ seen_above layers space ++ (shown m).tells
   pub from : m.bare ≡ false → m.told_from ≡ length (seen_above layers space)
   pub bare : m.bare ≡ true → IsBare m
   pub consistent : is_consistent (seen_above layers space ++ (shown m).tells) ≡ true
@@ -251,14 +251,14 @@ module _ (levels : List Level) (space : List ℕ) (place : ℕ) (x : Layer) (h :
   fitted : FitsAt (shown_all levels) space l
   fitted = at_fits (shown_all levels) space l own_name (s.fits l (place_member levels space place x h l e))
 
-  parts : l.store ≡ seen_above (shown_all levels) space ++ (shown l).tells
+  parts : l.constraints.store ≡ seen_above (shown_all levels) space ++ (shown l).tells
   parts = fitted.seen told.kept ∙ view_is (shown_all levels) space (shown l) s.tree (h.found ∙ ap (λ (n : Layer). Some n) (sym (read_shown levels space place x h l e)))
 
-  told_within : l.told_from ≤ length l.store
+  told_within : l.told_from ≤ length l.constraints.store
   told_within = omega (arith, fitted.from told.kept, ap length parts ∙ length-append (seen_above (shown_all levels) space) (shown l).tells)
 
   more_tells : (shown m).tells ≡ (shown l).tells ++ ts
-  more_tells = ap₂ (λ (n : ℕ) (us : List Tell). drop n us) told.told_from told.store ∙ drop-append-le l.told_from l.store ts told_within
+  more_tells = ap₂ (λ (n : ℕ) (us : List Tell). drop n us) told.told_from told.store ∙ drop-append-le l.told_from l.constraints.store ts told_within
 
   pub shows_more : shown m ≡ telling ts (shown l)
   shows_more = λ i. record { space = told.space i; status = told.status i; tells = more_tells i; threads = (told.threads i).list; triggers = told.triggers i; propagators = told.propagators i; cells = (told.objects i).cells; ports = (told.objects i).ports; next = next_with (told.threads i).next (told.numbers i) }
@@ -273,7 +273,7 @@ module _ (levels : List Level) (space : List ℕ) (place : ℕ) (x : Layer) (h :
   none_told : l.knows_space ≡ false → list_any gives_space ts ≡ false → list_any gives_space (shown m).tells ≡ false
   none_told k n = ap (list_any gives_space) more_tells ∙ list_any-append gives_space (shown l).tells ts ∙ or_false _ _ (fitted.known k) n
 
-  sees_more : l.store ++ ts ≡ seen_above (shown_all levels) space ++ (shown m).tells
+  sees_more : l.constraints.store ++ ts ≡ seen_above (shown_all levels) space ++ (shown m).tells
   sees_more = ap (λ (us : List Tell). us ++ ts) parts ∙ append_assoc (seen_above (shown_all levels) space) (shown l).tells ts ∙ ap (λ (us : List Tell). seen_above (shown_all levels) space ++ us) (sym more_tells)
 
   tell_above : FitsAbove (shown_all levels) space m

@@ -2,16 +2,16 @@
 use Rattle.std.proofs.Common.{◌≡◌, ◌⊎◌, inl, inr, ℕ, zero, suc, ◌+◌, ◌<◌, ◌≤◌, Bool, true, false, List, [], ◌∷◌, ◌++◌, length, filter, slice_get, slice_set, slice_index_or, refl, sym, ap, ap₂, subst, ◌∙◌, arith, Some, Result, Ok, Err, length-append}
 use Rattle.std.specs.Prelude.{◌||◌, OnErr, IfOk}
 use Rattle.std.specs.List.{list_any}
-use Rattle.std.proofs.lemmas.List.{length-set, set-set, get_or_default}
+use Rattle.std.proofs.lemmas.List.{length-set, set-set, get_or-set_same}
 use Rattle.std.proofs.lemmas.Option.{get_or_from_slice_get}
 use Rattle.oz_base.specs.declared.names.Ident.{Ident}
 use Rattle.oz_semantics.specs.Names.{is_top}
 use Rattle.oz_semantics.specs.declared.value.Tell.{Tell}
 use Rattle.view_laws.specs.Spaceless.{gives_space}
-use Rattle.term_store.specs.Telling.{IsTold}
+use Rattle.space_core.specs.Constraints.{Held, IsStoreTold}
 use Rattle.space_core.specs.Fates.{IsChosen, IsFate, IsStale, EachFate, AreFates, with_fates}
 use Rattle.space_core.specs.Shown.{shown_all, is_other}
-use Rattle.space_core.specs.Telling.{has_below, IsMarked, IsToldMore, IsLevelTold, IsStoreAt, sees_at, ToldThrough, IsToldThrough}
+use Rattle.space_core.specs.Telling.{has_below, IsMarked, IsToldMore, IsLevelTold, IsFated, IsSetBack, ToldThrough, IsToldThrough}
 use Rattle.space_core.specs.declared.fates.Fate.{Fate}
 use Rattle.space_core.specs.declared.level.Level.{Level}
 use Rattle.space_core.proofs.AnswerLaws.{unchanged}
@@ -53,80 +53,75 @@ one_more space levels fates news n l fate within e so_far chosen more = subst (�
 pub all_so_far : (space : List ℕ) (levels : List Level) (fates : List Fate) (n : ℕ) → n ≡ length levels → AreSoFar space levels fates n → AreFates space levels fates
 all_so_far space levels fates n e so_far = record { as_many = so_far.as_many ∙ e; right = so_far.right }
 
--- A store in the place of another
-
-module _ (levels : List Level) (place : ℕ) (within : place < length levels) (before m : Level) (read : before ≡ slice_index_or levels place before) (store : List Tell) (put : m ≡ record before { store = store }) where
-  pub store_at : (now : List Level) → now ≡ slice_set levels place m → (k : Level) → k ≡ slice_index_or (slice_set levels place m) place k → (fates : List Fate) → AreFates k.space now fates
-      → IsStoreAt place store levels (slice_set levels place m) fates
-  store_at now e k r fates are = record {
-    before = before;
-    read = read;
-    left = ap (slice_set levels place) put;
-    are = subst (λ (ls : List Level). AreFates before.space ls fates) e
-        (subst (λ (s : List ℕ). AreFates s now fates) (ap (λ (n : Level). n.space) (read_set levels place m k within r ∙ put)) are);
-  }
-
-  pub store_back : (k : Level) → k ≡ slice_index_or (slice_set levels place m) place k → (kept : List Tell) → kept ≡ before.store → (n : Level) → n ≡ record k { store = kept }
-      → slice_set (slice_set levels place m) place n ≡ levels
-  store_back k r kept e n back =
-      set-set levels place m n
-      ∙ unchanged levels place before n read
-      (back ∙ ap (λ (j : Level). record j { store = kept }) (read_set levels place m k within r ∙ put) ∙ ap (λ (us : List Tell). record before { store = us }) e)
-
 -- What was told, and then noted
 
-pub told_marked : (home : Bool) (ts : List Tell) (l k m : Level) (store : List Tell) (noted : List Ident) → k ≡ record l { store = store } → IsTold l.store ts store [] noted true → IsMarked home ts noted k m
+pub told_marked : (home : Bool) (ts : List Tell) (l k m : Level) (held : Held) (noted : List Ident) → k ≡ record l { constraints = held } → IsStoreTold ts noted l.constraints held → IsMarked home ts noted k m
     → l.bare ≡ false → IsToldMore home ts l m
-told_marked home ts l k m store noted e t q b =
+told_marked home ts l k m held noted e t q b =
     let kept : k.space ≡ l.space = ap (λ (n : Level). n.space) e in
     record {
-      store = q.store ∙ ap (λ (n : Level). n.store) e ∙ t.0;
-      consistent = t.1;
+      store = q.store ∙ ap (λ (n : Level). n.constraints.store) e ∙ ap (λ (h : Held). h.store) t.becomes;
+      consistent = t.consistent;
       space = q.space ∙ kept;
       status = q.status ∙ ap (λ (n : Level). n.status) e;
       told_from = q.told_from ∙ ap (λ (n : Level). n.told_from) e;
       threads = q.threads ∙ ap (λ (n : Level). n.threads) e;
       triggers = q.triggers ∙ ap (λ (n : Level). n.triggers) e;
-      propagators = q.propagators ∙ ap (λ (n : Level). n.propagators) e;
+      propagators = q.propagators ∙ ap (λ (n : Level). n.constraints.propagators) e ∙ ap (λ (h : Held). h.propagators) t.becomes;
       objects = q.objects ∙ ap (λ (n : Level). n.objects) e;
       numbers = q.numbers ∙ ap (λ (n : Level). n.numbers) e;
       traced = λ t. let r = q.traced t in (sym (ap (λ (n : Level). n.traced) e) ∙ r.0, r.1);
       notes = λ u n. record {
-        more = filter (is_other l.space) t.2.more;
+        more = filter (is_other l.space) noted;
         noted = q.notes u (ap is_top kept ∙ n)
-            ∙ ap₂ (λ (xs ys : List Ident). xs ++ ys) (ap (λ (n : Level). n.touched) e) (ap₂ (λ (s : List ℕ) (xs : List Ident). filter (is_other s) xs) kept t.2.noted);
-        traces = record { all = t.2.more; touches = t.2.touches; others = refl };
+            ∙ ap₂ (λ (xs ys : List Ident). xs ++ ys) (ap (λ (n : Level). n.touched) e) (ap (λ (s : List ℕ). filter (is_other s) noted) kept);
+        traces = record { all = noted; touches = t.touches; others = refl };
       };
       knows = q.knows ∙ ap (λ (n : Level). n.knows_space || list_any gives_space ts) e;
       kept = b;
       bare = q.bare ∙ ap (λ (n : Level). n.bare) e;
     }
 
-module _ (levels : List Level) (place : ℕ) (within : place < length levels) (store : List Tell) (put : List Level) (fates : List Fate) (p : IsStoreAt place store levels put fates) where
-  pub fates_fit : (m : Level) → length fates ≤ length (slice_set put place m)
-  fates_fit m = omega (arith, p.are.as_many, length-set put place m)
+-- A space that was told more, and then sees what it saw
 
-  pub put_within : place < length put
-  put_within = omega (arith, within, ap length p.left, length-set levels place (record p.before { store = store }))
+module _ (levels : List Level) (place : ℕ) (within : place < length levels) (l m : Level) (read : l ≡ slice_index_or levels place l) (held : Held) (put : m ≡ record l { constraints = held }) where
+  -- nothing was told
+  pub none_told : held ≡ l.constraints → slice_set levels place m ≡ levels
+  none_told e = unchanged levels place l m read (put ∙ ap (λ (h : Held). record l { constraints = h }) e)
 
-  pub told_below : (home : Bool) (ts : List Tell) (noted : List Ident) (l k m : Level) → l ≡ slice_index_or levels place l → IsTold l.store ts store [] noted true → k ≡ slice_index_or put place k → IsMarked home ts noted k m
-      → l.bare ≡ false → (news : List Level) → news ≡ with_fates fates (slice_set put place m) → ToldThrough place home ts levels news
-  told_below home ts noted l k m r t rk q b news e =
-      let same : k ≡ record p.before { store = store } = read_set levels place (record p.before { store = store }) k within (subst (λ (ls : List Level). k ≡ slice_index_or ls place k) p.left rk) in
-      let first : l ≡ p.before = r ∙ get_or_default levels place l p.before within ∙ sym p.read in
-      let tells : IsToldMore home ts p.before m = told_marked home ts p.before k m store noted same (subst (λ (n : Level). IsTold n.store ts store [] noted true) first t) q (subst (λ (n : Level). n.bare ≡ false) first b) in
-      let sees : m.store ≡ store = q.store ∙ ap (λ (n : Level). n.store) same in
-      record {
-        before = p.before;
-        told = m;
-        read = p.read;
-        tells = tells;
-        left = inr (record {
-          fates = fates;
-          are = subst (λ (us : List Tell). AreFates p.before.space (sees_at place p.before us levels) fates) (sym sees) (subst (λ (ls : List Level). AreFates p.before.space ls fates) p.left p.are);
-          left = e ∙ ap (λ (ls : List Level). with_fates fates (slice_set ls place m)) p.left ∙ ap (with_fates fates) (set-set levels place (record p.before { store = store }) m);
-        });
-      }
+  module _ (ts : List Tell) (noted : List Ident) (told : IsStoreTold ts noted l.constraints held) where
+    pub set_back : (before : List Tell) → before ≡ l.constraints.store → (news : List Level) → IsSetBack place before (slice_set levels place m) news → news ≡ levels
+    set_back before e news back =
+        back m (sym (get_or-set_same levels place m m within))
+        ∙ set-set levels place m (record m { constraints = record m.constraints { store = before } })
+        ∙ unchanged levels place l (record m { constraints = record m.constraints { store = before } }) read
+        (ap (λ (k : Level). record k { constraints = record k.constraints { store = before } }) put
+        ∙ ap₂ (λ (h : Held) (us : List Tell). record l { constraints = record h { store = us } }) told.becomes e)
+
+    -- and so are those below it
+    pub told_below : (home : Bool) (fates : List Fate) (now : List Level) → IsFated place (slice_set levels place m) now fates → (k n : Level) → k ≡ slice_index_or now place k → IsMarked home ts noted k n
+        → l.bare ≡ false → (news : List Level) → news ≡ with_fates fates (slice_set now place n) → ToldThrough place home ts levels news
+    told_below home fates now fated k n rk q b news e =
+        let same : k ≡ record l { constraints = held } = read_set levels place m k within (subst (λ (ls : List Level). k ≡ slice_index_or ls place k) fated.left rk) ∙ put in
+        let tells : IsToldMore home ts l n = told_marked home ts l k n held noted same told q b in
+        let sees : record l { constraints = record l.constraints { store = n.constraints.store } } ≡ m =
+        ap (λ (us : List Tell). record l { constraints = record l.constraints { store = us } }) tells.store ∙ ap (λ (h : Held). record l { constraints = h }) (sym told.becomes) ∙ sym put in
+        record {
+          before = l;
+          told = n;
+          read = read;
+          tells = tells;
+          left = inr (record {
+            fates = fates;
+            are = subst (λ (s : List ℕ). AreFates s (slice_set levels place (record l { constraints = record l.constraints { store = n.constraints.store } })) fates) (ap (λ (j : Level). j.space) put)
+                (subst (λ (ls : List Level). AreFates m.space ls fates) (ap (slice_set levels place) (sym sees)) (fated.are m (sym (get_or-set_same levels place m m within))));
+            left = e ∙ ap (λ (ls : List Level). with_fates fates (slice_set ls place n)) fated.left ∙ ap (with_fates fates) (set-set levels place m n);
+          });
+        }
+
+    pub fates_within : (fates : List Fate) (now : List Level) → IsFated place (slice_set levels place m) now fates → (n : Level) → length fates ≤ length (slice_set now place n)
+    fates_within fates now fated n =
+        omega (arith, (fated.are m (sym (get_or-set_same levels place m m within))).as_many, ap length fated.left, length-set now place n)
 
 -- A space that has none below it
 

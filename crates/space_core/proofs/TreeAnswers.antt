@@ -45,7 +45,7 @@ module _ (levels : List Level) (value : List Layer) (viewed : shown_all levels �
   sees_told : (t : ToldThrough place home ts levels news) → is_consistent (view value space ++ ts) ≡ true
   sees_told t =
       let name : t.before.space ≡ space = ap (λ (k : Layer). k.space) (read_shown levels space place h.0 h.1 t.before t.read) ∙ space_of (shown_all levels) space h.0 h.1.found in
-      let own : view value space ≡ t.before.store =
+      let own : view value space ≡ t.before.constraints.store =
       ap (λ (ls : List Layer). view ls space) (sym viewed) ∙ sym ((s.fits t.before (place_member levels space place h.0 h.1 t.before t.read)).seen t.tells.kept ∙ ap (view (shown_all levels)) name) in
       ap (λ (us : List Tell). is_consistent (us ++ ts)) own ∙ t.tells.consistent
 
@@ -127,7 +127,7 @@ added_before levels now news new place seen h e =
 
 -- the parent stays where it is found
 pub parent_stays : (levels : List Level) (parent : List ℕ) (place : ℕ) (x : Layer) → IsFirst (is_of parent) (shown_all levels) place x → (l : Level) → l ≡ slice_index_or levels place l → (procedure : Ident)
-    (m : Level) → IsChild (next_child (shown l)) procedure l.store m → (news : List Level) → IsAdded levels news m → IsAbsent (is_of parent) (shown_all news) → ⊥
+    (m : Level) → IsChild (next_child (shown l)) procedure l.constraints.store m → (news : List Level) → IsAdded levels news m → IsAbsent (is_of parent) (shown_all news) → ⊥
 parent_stays levels parent place x h l e procedure m child news added a =
     let own : l.space ≡ parent = ap (λ (k : Layer). k.space) (read_shown levels parent place x h l e) ∙ space_of (shown_all levels) parent x h.found in
     let other : is_of parent (shown m) ≡ false = ap (is_of parent) child.shows ∙ subst (λ (p : List ℕ). list_eq (next_child (shown l)) p ≡ false) own (not_own_child l.space l.numbers.child) in
@@ -163,7 +163,7 @@ held_at levels now value seen viewed s place within x e space variable r f k at 
 -- A new space
 
 module _ (levels now : List Level) (value : List Layer) (seen : now ≡ levels) (viewed : shown_all levels ≡ value) (s : IsSound levels) (parent : List ℕ) (place : ℕ) (h : PlaceIn now parent place)
-    (l : Level) (e : l ≡ slice_index_or levels place l) (procedure : Ident) (m : Level) (child : IsChild (next_child (shown l)) procedure l.store m) (kept : l.bare ≡ false) (news now2 : List Level) (added : IsAdded levels news m)
+    (l : Level) (e : l ≡ slice_index_or levels place l) (procedure : Ident) (m : Level) (child : IsChild (next_child (shown l)) procedure l.constraints.store m) (kept : l.bare ≡ false) (news now2 : List Level) (added : IsAdded levels news m)
     (seen2 : now2 ≡ news) where
   at_parent : PlaceIn levels parent place
   at_parent = subst (λ (ls : List Level). PlaceIn ls parent place) seen h

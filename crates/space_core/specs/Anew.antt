@@ -47,7 +47,7 @@ pub record ClashesAlone (change : Layer → Layer) (place : ℕ) (ts : List Tell
   pub read : before ≡ slice_index_or old place before
   pub quiet : IsQuiet change before changed
   pub kept : changed.bare ≡ false
-  pub clash : is_consistent (changed.store ++ ts) ≡ false
+  pub clash : is_consistent (changed.constraints.store ++ ts) ≡ false
 
 abbrev pub IsToldAlone : (Layer → Layer) → ℕ → List Tell → List Level → List Level → Bool → Type 0
 IsToldAlone change place ts old new true = ToldAlone change place ts old new

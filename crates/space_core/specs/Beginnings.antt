@@ -6,6 +6,6 @@ use Rattle.space_core.specs.declared.level.Level.{Level}
 
 pub record IsTopLevel (l : Level) : Type 0 where
   pub shows : shown l ≡ new_layer []
-  pub store : l.store ≡ []
+  pub store : l.constraints.store ≡ []
   pub told_from : l.told_from ≡ 0
   pub kept : l.bare ≡ false

@@ -14,12 +14,11 @@ abbrev pub fallen : Level → Level
 fallen l =
     record l {
       status = Failed;
-      store = [];
+      constraints = record { store = []; propagators = [] };
       told_from = 0;
       touched = [];
       threads = record l.threads { list = [] };
       triggers = [];
-      propagators = [];
       objects = record { cells = []; ports = [] };
       traced = true;
       knows_space = false;
@@ -28,7 +27,7 @@ fallen l =
 
 -- the store is what the space above sees, and the space was told nothing
 pub record IsUntold (tells : List Tell) (l : Level) : Type 0 where
-  pub store : l.store ≡ tells
+  pub store : l.constraints.store ≡ tells
   pub told_from : l.told_from ≡ length tells
   pub touched : l.touched ≡ []
   pub kept : l.bare ≡ false

@@ -1,6 +1,7 @@
 -- What becomes of the spaces below one that was told more.
 use Rattle.std.specs.Prelude.{ℕ, zero, suc, ◌≡◌, ◌<◌, ◌⊎◌, Bool, true, false, List, [], ◌∷◌, ◌++◌, Option, Some, None, length, slice_get, slice_index_or, Contains}
 use Rattle.std.specs.List.{list_any, list_all, flat_map}
+use Rattle.oz_base.specs.Lists.{holds_of, list_eq}
 use Rattle.oz_semantics.specs.Names.{is_below, is_properly_below, parent_of}
 use Rattle.oz_semantics.specs.Store.{is_consistent, named_by}
 use Rattle.oz_semantics.specs.Configurations.{view}
@@ -46,7 +47,7 @@ IsUnder layers above l Stays = ⊥
 
 -- and by what becomes of the parent, which is not bare
 abbrev pub IsAfter : List Layer → Level → Fate → Level → Fate → Type 0
-IsAfter layers parent Stays l fate = (parent.bare ≡ false) × IsUnder layers parent.store l fate
+IsAfter layers parent Stays l fate = (parent.bare ≡ false) × IsUnder layers parent.constraints.store l fate
 IsAfter layers parent (Sees seen) l fate = IsUnder layers seen.store l fate
 IsAfter layers parent Fails l fate = fate ≡ Gone
 IsAfter layers parent Gone l fate = fate ≡ Gone
@@ -56,6 +57,35 @@ IsAfter layers parent Bare l fate = ⊥
 pub record IsParentAt (levels : List Level) (place : ℕ) (space : List ℕ) : Type 0 where
   pub within : place < length levels
   pub name : (l : Level) → l ≡ slice_index_or levels place l → l.space ≡ parent_of space
+
+-- whether it is
+abbrev pub is_parent_at : List Level → List ℕ → ℕ → Bool
+is_parent_at levels space place = holds_of (λ (l : Level). list_eq l.space (parent_of space)) (slice_get levels place)
+
+-- These are the front of others, up to the last that passes, which is this
+pub record EndsWith (test : ℕ → Bool) (place : ℕ) (old new : List ℕ) : Type 0 where
+  pub front : List ℕ
+  pub behind : List ℕ
+  pub before : old ≡ front ++ place ∷ behind
+  pub passes : test place ≡ true
+  pub others : list_any test behind ≡ false
+  pub left : new ≡ front ++ place ∷ []
+
+-- the last that passes; or none does
+abbrev pub IsUpTo : (ℕ → Bool) → List ℕ → List ℕ → Option ℕ → Type 0
+IsUpTo test old new None = list_any test old ≡ false
+IsUpTo test old new (Some place) = EndsWith test place old new
+
+-- of the places that led to the space before, those that lead to the parent of a space are left
+pub record IsLedTo (levels : List Level) (space : List ℕ) (old new : List ℕ) : Type 0 where
+  pub place : ℕ
+  pub ends : EndsWith (is_parent_at levels space) place old new
+
+-- where it is below the one that was told, its own place comes to them, and else nothing changes
+abbrev pub IsPathTo : List ℕ → List Level → ℕ → List ℕ → List ℕ → List ℕ → Type 0
+IsPathTo space levels n other old new =
+    ((is_properly_below space other ≡ false) × (new ≡ old))
+    ⊎ ((is_properly_below space other ≡ true) × ((front : List ℕ) × IsLedTo levels other old front × (new ≡ front ++ n ∷ [])))
 
 -- it is found out by what becomes of the parent
 pub record IsDecided (levels : List Level) (fates : List Fate) (l : Level) (fate : Fate) : Type 0 where
@@ -76,7 +106,7 @@ IsChosen space levels fates l fate =
 
 -- what is kept of a space, with what it sees now
 abbrev pub seeing : Seen → Level → Level
-seeing seen l = record l { store = seen.store; told_from = seen.told_from; touched = seen.touched; traced = seen.traced }
+seeing seen l = record l { constraints = record l.constraints { store = seen.store }; told_from = seen.told_from; touched = seen.touched; traced = seen.traced }
 
 -- a space or one above it sees what is inconsistent
 abbrev pub falls : List Layer → List ℕ → Bool
@@ -116,7 +146,7 @@ IsFate space layers l Bare = (is_properly_below space l.space ≡ true) × IsLef
 pub record IsStale (space : List ℕ) (levels : List Level) : Type 0 where
   pub tree : IsTree (shown_all levels)
   pub below : (t : List ℕ) → Contains (inconsistent_spaces (shown_all levels)) t → is_properly_below space t ≡ true
-  pub seen : (l : Level) → Contains levels l → is_properly_below space l.space ≡ false → l.bare ≡ false → l.store ≡ view (shown_all levels) l.space
+  pub seen : (l : Level) → Contains levels l → is_properly_below space l.space ≡ false → l.bare ≡ false → l.constraints.store ≡ view (shown_all levels) l.space
   pub consistent : (l : Level) → Contains levels l → is_properly_below space l.space ≡ false → is_consistent (view (shown_all levels) l.space) ≡ true
   pub home : (l : Level) → Contains levels l → l.traced ≡ true → is_properly_below space l.space ≡ true → list_all (is_home (shown_all levels) l.space) (flat_map named_by (shown l).tells) ≡ true
   pub known : (l : Level) → Contains levels l → l.knows_space ≡ false → is_properly_below space l.space ≡ true → list_any gives_space (shown l).tells ≡ false

@@ -92,7 +92,7 @@ objects_after given objects = record { cells = cells_after given objects.cells; 
 abbrev pub after_giving : Given → Level → Level
 after_giving given l =
     record l {
-      propagators = propagators_after given l.propagators;
+      constraints = record l.constraints { propagators = propagators_after given l.constraints.propagators };
       objects = objects_after given l.objects;
       numbers = numbers_after given l.numbers;
     }

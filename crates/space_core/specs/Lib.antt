@@ -6,6 +6,7 @@ pub mod Shown
 pub mod Stacks
 pub mod Unwinding
 pub mod Beginnings
+pub mod Constraints
 pub mod Giving
 pub mod Telling
 pub mod Silence

@@ -29,6 +29,6 @@ joining_by r other number l = joined (renamed_layer r other) (with_frames number
 -- of the space its name is left, and nothing is kept of what it sees
 pub record IsMergedAway (old new : Level) : Type 0 where
   pub shows : shown new ≡ merged_away (shown old)
-  pub store : new.store ≡ []
+  pub store : new.constraints.store ≡ []
   pub touched : new.touched ≡ []
   pub bare : new.bare ≡ true

@@ -21,7 +21,7 @@ pub record IsRenamed (r : meant.Renaming) (old new : Level) : Type 0 where
   pub shows : shown new ≡ renamed_layer r (shown old)
   pub traced : new.traced ≡ false
   pub knows : new.knows_space ≡ old.knows_space
-  pub store : new.store ≡ (shown new).tells
+  pub store : new.constraints.store ≡ (shown new).tells
   pub touched : new.touched ≡ []
   pub bare : new.bare ≡ old.bare
 

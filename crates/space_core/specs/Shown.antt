@@ -28,10 +28,10 @@ shown l =
     record {
       space = l.space;
       status = l.status;
-      tells = drop l.told_from l.store;
+      tells = drop l.told_from l.constraints.store;
       threads = l.threads.list;
       triggers = l.triggers;
-      propagators = l.propagators;
+      propagators = l.constraints.propagators;
       cells = l.objects.cells;
       ports = l.objects.ports;
       next = next_of l;
@@ -73,13 +73,13 @@ pub record Traces (space : List ℕ) (before more : List Tell) (noted : List Ide
 -- Nothing is kept of what a space sees: it is not the top, and was told nothing
 pub record IsBare (l : Level) : Type 0 where
   pub inner : is_top l.space ≡ false
-  pub store : l.store ≡ []
+  pub store : l.constraints.store ≡ []
   pub touched : l.touched ≡ []
 
 -- What is kept of a space fits the layers
 pub record Fits (layers : List Layer) (l : Level) : Type 0 where
   -- the store is what the space sees, after what its parent sees, or the space is bare
-  pub seen : l.bare ≡ false → l.store ≡ view layers l.space
+  pub seen : l.bare ≡ false → l.constraints.store ≡ view layers l.space
   pub from : l.bare ≡ false → l.told_from ≡ length (seen_above layers l.space)
   pub bare : l.bare ≡ true → IsBare l
   pub consistent : is_consistent (view layers l.space) ≡ true
@@ -99,7 +99,7 @@ pub record IsSound (levels : List Level) : Type 0 where
 pub record IsQuiet (change : Layer → Layer) (old new : Level) : Type 0 where
   pub becomes : shown new ≡ change (shown old)
   pub space : new.space ≡ old.space
-  pub store : new.store ≡ old.store
+  pub store : new.constraints.store ≡ old.constraints.store
   pub told_from : new.told_from ≡ old.told_from
   pub touched : new.touched ≡ old.touched
   pub traced : new.traced ≡ old.traced

@@ -24,18 +24,18 @@ has_below layers space = list_any (λ (l : Layer). is_properly_below space l.spa
 pub record IsNoted (ts : List Tell) (old new : Level) : Type 0 where
   pub more : List Ident
   pub noted : new.touched ≡ old.touched ++ more
-  pub traces : Traces old.space old.store ts more
+  pub traces : Traces old.space old.constraints.store ts more
 
 -- it was told this, of which home says whether the variables are those of the space or of spaces above it, and of these variables those
 -- of other spaces were noted
 pub record IsMarked (home : Bool) (ts : List Tell) (noted : List Ident) (old new : Level) : Type 0 where
-  pub store : new.store ≡ old.store
+  pub store : new.constraints.store ≡ old.constraints.store
   pub space : new.space ≡ old.space
   pub status : new.status ≡ old.status
   pub told_from : new.told_from ≡ old.told_from
   pub threads : new.threads ≡ old.threads
   pub triggers : new.triggers ≡ old.triggers
-  pub propagators : new.propagators ≡ old.propagators
+  pub propagators : new.constraints.propagators ≡ old.constraints.propagators
   pub objects : new.objects ≡ old.objects
   pub numbers : new.numbers ≡ old.numbers
   pub traced : new.traced ≡ true → (old.traced ≡ true) × (home ≡ true)
@@ -45,14 +45,14 @@ pub record IsMarked (home : Bool) (ts : List Tell) (noted : List Ident) (old new
 
 -- the store was told this; home says whether the variables are those of the space or of spaces above it
 pub record IsToldMore (home : Bool) (ts : List Tell) (old new : Level) : Type 0 where
-  pub store : new.store ≡ old.store ++ ts
-  pub consistent : is_consistent (old.store ++ ts) ≡ true
+  pub store : new.constraints.store ≡ old.constraints.store ++ ts
+  pub consistent : is_consistent (old.constraints.store ++ ts) ≡ true
   pub space : new.space ≡ old.space
   pub status : new.status ≡ old.status
   pub told_from : new.told_from ≡ old.told_from
   pub threads : new.threads ≡ old.threads
   pub triggers : new.triggers ≡ old.triggers
-  pub propagators : new.propagators ≡ old.propagators
+  pub propagators : new.constraints.propagators ≡ old.constraints.propagators
   pub objects : new.objects ≡ old.objects
   pub numbers : new.numbers ≡ old.numbers
   pub traced : new.traced ≡ true → (old.traced ≡ true) × (home ≡ true)
@@ -65,7 +65,7 @@ pub record IsToldMore (home : Bool) (ts : List Tell) (old new : Level) : Type 0 
 -- it was told this; or that is inconsistent with what the space sees
 abbrev pub IsLevelTold : Bool → List Tell → Level → Level → Bool → Type 0
 IsLevelTold home ts old new true = IsToldMore home ts old new
-IsLevelTold home ts old new false = (new ≡ old) × (is_consistent (old.store ++ ts) ≡ false) × (old.bare ≡ false)
+IsLevelTold home ts old new false = (new ≡ old) × (is_consistent (old.constraints.store ++ ts) ≡ false) × (old.bare ≡ false)
 
 -- no other space is below the one at a place, which became this
 pub record IsAlone (place : ℕ) (before told : Level) (old new : List Level) : Type 0 where
@@ -74,20 +74,22 @@ pub record IsAlone (place : ℕ) (before told : Level) (old new : List Level) : 
 
 -- the space at a place sees this
 abbrev pub sees_at : ℕ → Level → List Tell → List Level → List Level
-sees_at place l store levels = slice_set levels place (record l { store = store })
+sees_at place l store levels = slice_set levels place (record l { constraints = record l.constraints { store = store } })
 
 -- the space at a place became this, and each space below it has its fate by what it sees then
 pub record IsRemade (place : ℕ) (before told : Level) (old new : List Level) : Type 0 where
   pub fates : List Fate
-  pub are : AreFates before.space (sees_at place before told.store old) fates
+  pub are : AreFates before.space (sees_at place before told.constraints.store old) fates
   pub left : new ≡ with_fates fates (slice_set old place told)
 
--- the space at a place sees what is in the store, and this becomes of the spaces by that
-pub record IsStoreAt (place : ℕ) (store : List Tell) (old new : List Level) (fates : List Fate) : Type 0 where
-  pub before : Level
-  pub read : before ≡ slice_index_or old place before
-  pub left : new ≡ sees_at place before store old
-  pub are : AreFates before.space new fates
+-- this becomes of the spaces by what the space at a place sees
+pub record IsFated (place : ℕ) (old new : List Level) (fates : List Fate) : Type 0 where
+  pub left : new ≡ old
+  pub are : (l : Level) → l ≡ slice_index_or old place l → AreFates l.space old fates
+
+-- the space at a place sees this again
+abbrev pub IsSetBack : ℕ → List Tell → List Level → List Level → Type 0
+IsSetBack place store old new = (l : Level) → l ≡ slice_index_or old place l → new ≡ sees_at place l store old
 
 abbrev pub IsLeft : ℕ → Level → Level → List Level → List Level → Type 0
 IsLeft place before told old new = IsAlone place before told old new ⊎ IsRemade place before told old new
@@ -119,7 +121,7 @@ pub record ClashesAt (place : ℕ) (ts : List Tell) (old new : List Level) : Typ
   pub before : Level
   pub read : before ≡ slice_index_or old place before
   pub kept : before.bare ≡ false
-  pub clash : is_consistent (before.store ++ ts) ≡ false
+  pub clash : is_consistent (before.constraints.store ++ ts) ≡ false
   pub left : new ≡ old
 
 abbrev pub IsToldThrough : ℕ → Bool → List Tell → List Level → List Level → Bool → Type 0

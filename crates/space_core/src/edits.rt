@@ -12,7 +12,7 @@ ghost use Rattle.space_core.specs.Unwinding.{IsLevelCaught};
 use crate::declarations::number_after;
 use crate::given::Given;
 use crate::level::{Level, Numbers};
-use crate::posting::{keep_first, post};
+use crate::posting::post;
 use crate::stacks::Landing;
 use cells_ports::Objects;
 use oz_base::{Copies, Ident};
@@ -150,7 +150,7 @@ pub fn give(alloc: Global, level: &mut Level, given: &Given) -> Result<Option<Ob
     let numbers = numbers_after(level.numbers, given)?;
     let before = objects_before(alloc, &level.objects, given)?;
     change_objects(alloc, &mut level.objects, given)?;
-    post(alloc, &mut level.propagators, given)?;
+    post(alloc, &mut level.constraints, given)?;
     level.numbers = numbers;
     Ok(before)
 }
@@ -163,13 +163,13 @@ pub fn set_back(
     objects: Option<Objects>,
     propagators: usize,
 )
-    ensures { level.new ≡ record level.old { numbers = numbers; objects = unwrap_or objects level.old.objects; propagators = take propagators level.old.propagators } }
+    ensures { level.new ≡ record level.old { numbers = numbers; objects = unwrap_or objects level.old.objects; constraints = record level.old.constraints { propagators = take propagators level.old.constraints.propagators } } }
 {
     level.numbers = numbers;
     if let Some(objects) = objects {
         level.objects = objects;
     }
-    keep_first(alloc, &mut level.propagators, propagators);
+    level.constraints.keep_first(alloc, propagators);
 }
 
 /// A new thread with these statements, the first of them uppermost.

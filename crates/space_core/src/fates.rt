@@ -1,10 +1,10 @@
 //! What becomes of the spaces below one that was told more.
-ghost use Rattle.std.specs.Prelude.{◌≡◌, ◌⊎◌, true, drop, IfOk, IfSome};
+ghost use Rattle.std.specs.Prelude.{◌≡◌, ◌⊎◌, true, drop, length, IfOk, IfSome, OnOk};
 ghost use Rattle.std.specs.List.{list_all};
 ghost use Rattle.oz_semantics.specs.Store.{named_by};
 ghost use Rattle.oz_semantics.specs.Settling.{may_fail};
 ghost use Rattle.space_core.specs.Shown.{shown, shown_all, is_home};
-ghost use Rattle.space_core.specs.Fates.{IsSeenUnder, IsUnder, IsAfter, IsParentAt, IsDecided, IsChosen, AreFates};
+ghost use Rattle.space_core.specs.Fates.{IsSeenUnder, IsUnder, IsAfter, IsParentAt, IsDecided, IsChosen, IsUpTo, IsLedTo, IsPathTo, AreFates, is_parent_at};
 ghost use Rattle.space_core.specs.declared.fates.Fate.TheVariants.{Stays};
 
 use crate::homes::{all_home, is_properly_above};
@@ -74,7 +74,7 @@ fn seen_under(
 ) -> Result<Option<Seen>, AllocError>
     ensures { IfOk result (IsSeenUnder (shown_all levels.now) above.now level.now) }
 {
-    let tells = told_from(alloc, &level.store, level.told_from)?;
+    let tells = told_from(alloc, level.constraints.store(), level.told_from)?;
     let mut store = above.copied(alloc)?;
     let mut touched = Vec::new(alloc);
     if !store.tell(alloc, tells.as_slice(), &mut touched)? {
@@ -142,7 +142,7 @@ fn fate_beside(
     if parent.bare {
         return Err(AllocError);
     }
-    fate_under(alloc, levels, &parent.store, level)
+    fate_under(alloc, levels, parent.constraints.store(), level)
 }
 
 /// What becomes of a space, by what becomes of its parent. It refuses where the parent is bare.
@@ -163,16 +163,21 @@ fn fate_after(
     }
 }
 
+/// Whether the space at a place is there, and is the parent of a space.
 fn is_parent_at(levels: &[Level], place: usize, space: &SpaceName) -> bool
-    ensures { result ≡ true → IsParentAt levels.now place space.now }
+    ensures { result ≡ is_parent_at levels.now space.now place }
 {
-    place < levels.len() && is_parent(&levels[place], space)
+    match levels.get(place) {
+        None => false,
+        Some(level) => is_parent(level, space),
+    }
 }
 
 /// The place of the parent of a space among these, which are those of the space before it and of the spaces above that. What is not
 /// above the space is taken off.
 fn parent_on(levels: &[Level], path: &mut Vec<usize>, space: &SpaceName) -> Option<usize>
-    ensures { IfSome result (λ place. IsParentAt levels.now place space.now) }
+    ensures place { IfSome result (λ place. IsParentAt levels.now place space.now) }
+    ensures path { IsUpTo (is_parent_at levels.now space.now) path.old.items path.new.items result }
 {
     while !path.is_empty() {
         let place = path[path.len() - 1];
@@ -192,7 +197,8 @@ fn fate_below(
     path: &mut Vec<usize>,
     level: &Level,
 ) -> Result<Fate, AllocError>
-    ensures { IfOk result (IsDecided levels.now fates.now level.now) }
+    ensures decided { IfOk result (IsDecided levels.now fates.now level.now) }
+    ensures path { OnOk result (IsLedTo levels.now level.now.space path.old.items path.new.items) }
 {
     let Some(place) = parent_on(levels, path, &level.space) else {
         return Err(AllocError);
@@ -203,7 +209,8 @@ fn fate_below(
     fate_after(alloc, levels, &levels[place], above, level)
 }
 
-/// What becomes of the next space, by what becomes of those before it.
+/// What becomes of the next space, by what becomes of those before it. If it is below the one that was told, its place comes to those of
+/// the spaces above it, and what is not above it is taken off.
 fn next_fate(
     alloc: Global,
     levels: &[Level],
@@ -212,7 +219,8 @@ fn next_fate(
     space: &SpaceName,
     level: &Level,
 ) -> Result<Fate, AllocError>
-    ensures { IfOk result (IsChosen space.now levels.now fates.now level.now) }
+    ensures chosen { IfOk result (IsChosen space.now levels.now fates.now level.now) }
+    ensures path { OnOk result (IsPathTo space.now levels.now (length fates.now) level.now.space path.old.items path.new.items) }
 {
     if !is_properly_above(space, &level.space) {
         return Ok(Fate::Stays);

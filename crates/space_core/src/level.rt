@@ -3,12 +3,12 @@ ghost use Rattle.std.specs.Prelude.{◌≡◌};
 ghost use Rattle.space_core.specs.Beginnings.{IsTopLevel};
 ghost use Rattle.space_core.specs.Shown.{next_of};
 
+use crate::constraints::Constraints;
 use crate::threads::Threads;
 use cells_ports::Objects;
 use oz_base::{Copies, Ident, Sequence, SpaceName};
-use oz_semantics::{Next, Propagator, Status, Trigger};
+use oz_semantics::{Next, Status, Trigger};
 use std::alloc::{AllocError, Global};
-use term_store::Store;
 
 /// The next number that a space gives out, by kind. A thread's is kept with the threads.
 #[derive(Clone, Copy)]
@@ -24,8 +24,8 @@ pub struct Numbers {
 pub struct Level {
     pub space: SpaceName,
     pub status: Status,
-    /// What the space sees. Empty where the space is bare.
-    pub store: Store,
+    /// What the space sees, and its propagators. What it sees is empty where the space is bare.
+    pub constraints: Constraints,
     /// The place in the store from which on the space was told itself what stands there. What stands before is what its parent sees.
     pub told_from: u64,
     /// Variables of the classes of its parent's view that are touched by what the space was told, but for the space's own. The
@@ -34,8 +34,6 @@ pub struct Level {
     pub threads: Threads,
     /// By-need computations that have not begun, in the order in which they came.
     pub triggers: Sequence<Trigger>,
-    /// Propagators, in the order in which they came.
-    pub propagators: Sequence<Propagator>,
     pub objects: Objects,
     pub numbers: Numbers,
     /// Whether all variables that were told of are those of the space and of spaces above it, and all of other spaces that is touched
@@ -68,12 +66,11 @@ impl Copies for Level {
         Ok(Level {
             space: self.space.copied(alloc)?,
             status: self.status.copied(alloc)?,
-            store: self.store.copied(alloc)?,
+            constraints: self.constraints.copied(alloc)?,
             told_from: self.told_from,
             touched: self.touched.copied(alloc)?,
             threads: self.threads.copied(alloc)?,
             triggers: self.triggers.copied(alloc)?,
-            propagators: self.propagators.copied(alloc)?,
             objects: self.objects.copied(alloc)?,
             numbers: self.numbers,
             traced: self.traced,
@@ -90,12 +87,11 @@ pub fn top_level(alloc: Global) -> Level
     Level {
         space: SpaceName::top(),
         status: Status::Open,
-        store: Store::new(alloc),
+        constraints: Constraints::new(alloc),
         told_from: 0,
         touched: Sequence::new(alloc),
         threads: Threads::new(alloc),
         triggers: Sequence::new(alloc),
-        propagators: Sequence::new(alloc),
         objects: Objects::new(),
         numbers: Numbers {
             variable: 1,

@@ -36,7 +36,7 @@ use crate::plain::{are_plain, has_spaces};
 use crate::posting::{has_propagators, note_run};
 use crate::remaking::{remake, tell_through};
 use crate::renaming::add_all_renamed;
-use crate::sights::store_of;
+use crate::sights::{first_due_of, store_of};
 use crate::spaces::space_tell;
 use crate::stacks::Landing;
 use crate::tree::{self, add_level, child_count, child_of, drop_below, is_child};
@@ -206,7 +206,8 @@ impl Levels {
 
     /// Whether a space is there, and a child of it.
     pub fn has_child(&self, parent: &SpaceName, child: &SpaceName) -> bool
-        ensures { result ≡ true → HasChild self.now parent.now child.now }
+        ensures child { result ≡ true → HasChild self.now parent.now child.now }
+        ensures all { HasChild self.now parent.now child.now → result ≡ true }
     {
         if !is_child(parent, child) {
             return false;
@@ -479,7 +480,16 @@ impl Levels {
         requires { place < length self.now }
         ensures { OfLayer self.now place (λ l. result.now ≡ l.propagators) }
     {
-        self.levels[place].propagators.as_slice()
+        self.levels[place].constraints.propagators().as_slice()
+    }
+
+    /// The place of the first propagator of the space at a place that is due. It looks at those that may be due, up to that; where the
+    /// space has failed or was merged, at all.
+    pub fn first_due_at(&self, place: usize) -> Option<usize>
+        requires { place < length self.now }
+        ensures { OfLayer self.now place (λ l. result ≡ position (is_due (view self.now l.space)) l.propagators) }
+    {
+        first_due_of(self.levels.as_slice(), &self.levels[place])
     }
 
     /// The last run of the propagator at an index of the space at a place saw these domains. It takes no memory.

@@ -3,6 +3,7 @@
 #![tactic(auto)]
 
 mod advances;
+mod constraints;
 mod copying;
 mod declarations;
 mod domains;

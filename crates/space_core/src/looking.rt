@@ -1,5 +1,5 @@
 //! Where spaces stand among the others.
-ghost use Rattle.std.specs.Prelude.{◌≡◌, MatchOption, position};
+ghost use Rattle.std.specs.Prelude.{◌≡◌, true, Some, MatchOption, position};
 ghost use Rattle.std.specs.Ordering.{nat_cmp};
 ghost use Rattle.std.specs.Cmp.Lexicographic.{slice_cmp};
 ghost use Rattle.oz_semantics.specs.Configurations.{is_of};
@@ -19,11 +19,40 @@ fn name_order(level: &Level, space: &SpaceName) -> Ordering
     level.space.order(space)
 }
 
-/// The place of a space. The spaces stand in the order of their names, so that half of those that are left fall away with each look.
+/// Whether a space is the top, and stands first.
+fn is_first(levels: &[Level], space: &SpaceName) -> bool
+    ensures { result ≡ true → position (is_of space.now) (shown_all levels.now) ≡ Some 0 }
+{
+    match levels {
+        [] => false,
+        [level, ..] => space.is_top() && level.space.is_top(),
+    }
+}
+
+/// Whether a space stands behind the first one.
+fn is_second(levels: &[Level], space: &SpaceName) -> bool
+    ensures { result ≡ true → position (is_of space.now) (shown_all levels.now) ≡ Some 1 }
+{
+    match levels {
+        [first, level, ..] => {
+            !same_space(&first.space, space) && same_space(&level.space, space)
+        }
+        _ => false,
+    }
+}
+
+/// The place of a space. The spaces stand in the order of their names, so that half of those that are left fall away with each look. The
+/// top, and the space behind it, are found at once.
 pub fn level_position(levels: &[Level], space: &SpaceName) -> Option<usize>
     requires { IsSound levels.now }
     ensures { result ≡ position (is_of space.now) (shown_all levels.now) }
 {
+    if is_first(levels, space) {
+        return Some(0);
+    }
+    if is_second(levels, space) {
+        return Some(1);
+    }
     levels
         .binary_search_by(|level| name_order(level, space))
         .ok()

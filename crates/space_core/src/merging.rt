@@ -9,6 +9,7 @@ ghost use Rattle.space_core.specs.Anew.{IsToldAlone};
 ghost use Rattle.space_core.specs.Merging.{joining_by, IsMergedAway};
 ghost use Rattle.space_core.specs.Shown.{shown, IsQuiet};
 
+use crate::constraints::Constraints;
 use crate::edits::drop_top;
 use crate::homes::all_home;
 use crate::level::{Level, Numbers};
@@ -21,7 +22,6 @@ use oz_semantics::{Status, Tell};
 use renamed_terms::Renamed;
 use renamings::{GivenOut, Renaming};
 use std::alloc::{AllocError, Global};
-use term_store::Store;
 
 /// One less, or none.
 fn one_less(number: u64) -> u64
@@ -157,10 +157,10 @@ fn join(
     drop_top(level, number);
     let objects = renamed_objects(alloc, by, &child.objects)?;
     let triggers = child.triggers.renamed(alloc, by)?;
-    let propagators = child.propagators.renamed(alloc, by)?;
+    let propagators = child.constraints.propagators().renamed(alloc, by)?;
     level.threads.join(alloc, by, &child.threads)?;
     level.triggers.append(triggers.into_vec())?;
-    level.propagators.append(propagators.into_vec())?;
+    level.constraints.append(alloc, propagators.into_vec())?;
     add_cells(alloc, &mut level.objects, &objects)?;
     add_ports(alloc, &mut level.objects, &objects)?;
     level.numbers = numbers_with(level.numbers, child.numbers)?;
@@ -192,12 +192,11 @@ pub fn merge_away(alloc: Global, level: &mut Level)
     ensures { IsMergedAway level.old level.new }
 {
     level.status = Status::Merged;
-    level.store = Store::new(alloc);
+    level.constraints = Constraints::new(alloc);
     level.told_from = 0;
     level.touched = Sequence::new(alloc);
     level.threads = Threads::new(alloc);
     level.triggers = Sequence::new(alloc);
-    level.propagators = Sequence::new(alloc);
     level.objects = Objects::new();
     level.numbers = Numbers {
         variable: 1,

@@ -2,7 +2,7 @@
 ghost use Rattle.std.specs.Prelude.{◌≡◌, ◌<◌, ◌≤◌, length, slice_index_or, IfOk, OnOk, OnErr};
 ghost use Rattle.space_core.specs.Anew.{IsAnew};
 ghost use Rattle.space_core.specs.Fates.{seeing, with_fate, with_fates};
-ghost use Rattle.space_core.specs.Telling.{IsToldThrough, IsStoreAt};
+ghost use Rattle.space_core.specs.Telling.{IsToldThrough, IsFated, IsSetBack};
 ghost use Rattle.space_core.specs.declared.level.Level.{Level};
 
 use crate::fates::{Fate, Seen, fates_below};
@@ -13,14 +13,13 @@ use crate::tree::fail;
 use oz_base::{Copies, SpaceName};
 use oz_semantics::Tell;
 use std::alloc::{AllocError, Global};
-use std::mem;
 use term_store::Store;
 
 /// The space sees this from now on.
-fn see(level: &mut Level, seen: Seen)
+fn see(alloc: Global, level: &mut Level, seen: Seen)
     ensures { level.new ≡ seeing seen level.old }
 {
-    level.store = seen.store;
+    level.constraints.see(alloc, seen.store);
     level.told_from = seen.told_from;
     level.touched = seen.touched;
     level.traced = seen.traced;
@@ -37,7 +36,7 @@ fn meet(alloc: Global, levels: &mut Vec<Level>, place: usize, fate: Fate)
             let _gone = levels.remove(place);
         }
         Fate::Fails => fail(alloc, &mut levels[place]),
-        Fate::Sees(seen) => see(&mut levels[place], seen),
+        Fate::Sees(seen) => see(alloc, &mut levels[place], seen),
     }
 }
 
@@ -68,30 +67,21 @@ pub fn remake(
     Ok(())
 }
 
-/// The space sees what is in the store. What it saw before.
-fn swap_store(level: &mut Level, store: Store) -> Store
-    ensures before { result ≡ level.old.store }
-    ensures level { level.new ≡ record level.old { store = store } }
-{
-    mem::replace(&mut level.store, store)
-}
-
-/// The space at a place sees what is in the store, and what becomes of the spaces by that. Where that is refused, it sees what it saw.
-fn put_store(
+/// What becomes of the spaces by what the one at a place was told. Where that is refused, the space sees what it saw before.
+fn fates_or_back(
     alloc: Global,
     levels: &mut Vec<Level>,
     place: usize,
-    store: Store,
+    before: Store,
 ) -> Result<Vec<Fate>, AllocError>
     requires { place < length levels.old.items }
-    ensures put { IfOk result (λ fates. IsStoreAt place store levels.old.items levels.new.items fates.items) }
-    ensures err { OnErr result (levels.new.items ≡ levels.old.items) }
+    ensures fates { IfOk result (λ fates. IsFated place levels.old.items levels.new.items fates.items) }
+    ensures err { OnErr result (IsSetBack place before levels.old.items levels.new.items) }
 {
-    let before = swap_store(&mut levels[place], store);
     match fates_below(alloc, levels.as_slice(), place, &levels[place].space) {
         Ok(fates) => Ok(fates),
         Err(refused) => {
-            let _refused = swap_store(&mut levels[place], before);
+            levels[place].constraints.see(alloc, before);
             Err(refused)
         }
     }
@@ -110,16 +100,15 @@ fn tell_all(
     ensures told { IfOk result (IsToldThrough place home tells.now levels.old.items levels.new.items) }
     ensures err { OnErr result (levels.new.items ≡ levels.old.items) }
 {
-    let level = &levels[place];
+    let level = &mut levels[place];
     if level.bare {
         return Err(AllocError);
     }
-    let mut store = level.store.copied(alloc)?;
-    let mut noted = Vec::new(alloc);
-    if !store.tell(alloc, tells, &mut noted)? {
+    let before = level.constraints.store().copied(alloc)?;
+    let Some(noted) = level.constraints.tell(alloc, tells)? else {
         return Ok(false);
-    }
-    let fates = put_store(alloc, levels, place, store)?;
+    };
+    let fates = fates_or_back(alloc, levels, place, before)?;
     note(&mut levels[place], home, tells, noted);
     meet_all(alloc, levels, fates);
     Ok(true)

@@ -6,6 +6,7 @@ ghost use Rattle.renamed_terms.specs.Meanings.{renaming_of};
 ghost use Rattle.space_core.specs.Shown.{shown};
 ghost use Rattle.space_core.specs.Renamed.{gives_name, IsRenamed, IsPlacedBy, ArePlacedBy};
 
+use crate::constraints::Constraints;
 use crate::fates::told_from;
 use crate::homes::is_properly_above;
 use crate::level::Level;
@@ -80,7 +81,7 @@ pub fn renamed_tells(
 ) -> Result<Sequence<Tell>, AllocError>
     ensures { IfOk result (λ tells. tells ≡ map (renamed_tell (renaming_of by.now)) (shown level.now).tells) }
 {
-    let tells = told_from(alloc, &level.store, level.told_from)?;
+    let tells = told_from(alloc, level.constraints.store(), level.told_from)?;
     Sequence::from_vec(tells).renamed(alloc, by)
 }
 
@@ -103,15 +104,16 @@ fn renamed_level(alloc: Global, by: &Renaming, level: &Level) -> Result<Level, A
     ensures { IfOk result (IsRenamed (renaming_of by.now) level.now) }
 {
     let tells = renamed_tells(alloc, by, level)?;
+    let store = store_of(alloc, tells.as_slice())?;
+    let propagators = level.constraints.propagators().renamed(alloc, by)?;
     Ok(Level {
         space: by.space(alloc, &level.space)?,
         status: level.status.renamed(alloc, by)?,
-        store: store_of(alloc, tells.as_slice())?,
+        constraints: Constraints::of(alloc, store, propagators),
         told_from: 0,
         touched: Sequence::new(alloc),
         threads: level.threads.renamed(alloc, by)?,
         triggers: level.triggers.renamed(alloc, by)?,
-        propagators: level.propagators.renamed(alloc, by)?,
         objects: renamed_objects(alloc, by, &level.objects)?,
         numbers: level.numbers,
         traced: false,

@@ -70,10 +70,9 @@ pub fn tell(
     if level.bare {
         return Err(AllocError);
     }
-    let mut noted = Vec::new(alloc);
-    if !level.store.tell(alloc, tells, &mut noted)? {
+    let Some(noted) = level.constraints.tell(alloc, tells)? else {
         return Ok(false);
-    }
+    };
     note(level, home, tells, noted);
     Ok(true)
 }

@@ -10,6 +10,7 @@ ghost use Rattle.space_core.specs.Places.{IsAbsent, IsFirst};
 ghost use Rattle.space_core.specs.Shown.{shown, shown_all, is_named, IsQuiet};
 ghost use Rattle.space_core.specs.declared.level.Level.{Level};
 
+use crate::constraints::Constraints;
 use crate::homes::is_properly_above;
 use crate::level::{Level, Numbers};
 use crate::threads::Threads;
@@ -46,7 +47,7 @@ pub fn is_parent(level: &Level, space: &SpaceName) -> bool
 
 /// Whether a space is a child of another one.
 pub fn is_child(parent: &SpaceName, child: &SpaceName) -> bool
-    ensures { result ≡ true → is_child_of parent.now child.now ≡ true }
+    ensures { result ≡ is_child_of parent.now child.now }
 {
     !child.is_top() && is_front(parent.as_slice(), child.as_slice())
 }
@@ -77,12 +78,11 @@ pub fn fail(alloc: Global, level: &mut Level)
     ensures { level.new ≡ fallen level.old }
 {
     level.status = Status::Failed;
-    level.store = Store::new(alloc);
+    level.constraints = Constraints::new(alloc);
     level.told_from = 0;
     level.touched = Sequence::new(alloc);
     level.threads.stop_all(alloc);
     level.triggers = Sequence::new(alloc);
-    level.propagators = Sequence::new(alloc);
     level.objects = Objects::new();
     level.traced = true;
     level.knows_space = false;
@@ -96,7 +96,7 @@ pub fn raise(alloc: Global, level: &mut Level, exception: Ident)
     level.status = Status::Raised(exception);
     level.threads.stop_all(alloc);
     level.triggers = Sequence::new(alloc);
-    level.propagators = Sequence::new(alloc);
+    level.constraints.drop_propagators(alloc);
 }
 
 /// `{P X}` of the procedure and the space's root variable.
@@ -147,11 +147,10 @@ fn child_level(
         space,
         status: Status::Open,
         told_from: store.len(),
-        store,
+        constraints: Constraints::seeing(alloc, store),
         touched: Sequence::new(alloc),
         threads,
         triggers: Sequence::new(alloc),
-        propagators: Sequence::new(alloc),
         objects: Objects::new(),
         numbers: Numbers {
             variable: 1,
@@ -200,7 +199,7 @@ pub fn child_of(alloc: Global, level: &Level, procedure: Ident) -> Result<Level,
     ensures { IfOk result (IsChild (next_child (shown level.now)) procedure level.now.store) }
 {
     let space = level.space.child(alloc, level.numbers.child)?;
-    let store = level.store.copied(alloc)?;
+    let store = level.constraints.store().copied(alloc)?;
     child_level(alloc, space, store, procedure)
 }
 

@@ -1,6 +1,7 @@
 -- Which thread offers, and what a commitment changes.
-use Rattle.std.specs.Prelude.{ℕ, ◌≡◌, Bool, is_some, List, [], ◌∷◌, Some, None, MatchOption, position}
+use Rattle.std.specs.Prelude.{ℕ, ◌≡◌, Bool, false, is_some, List, [], ◌∷◌, Some, None, MatchOption, position}
 use Rattle.std.specs.List.{find}
+use Rattle.oz_base.specs.Lists.{is_empty}
 use Rattle.oz_base.specs.declared.names.Ident.{Ident}
 use Rattle.oz_language.specs.declared.kernel.Statement.{Statement}
 use Rattle.oz_semantics.specs.Names.{named}
@@ -64,6 +65,12 @@ IsChoice s i threads (Tells tell) = TellsOf s i threads tell
 abbrev pub Commits : List Statement → List Layer → List ℕ → ℕ → Choice → Type 0
 Commits statements layers space i choice =
     MatchOption (layer_at layers space) (choice ≡ Nothing) (λ l. IsChoice (sight statements layers space) i l.threads choice)
+
+-- the space is there, and has a thread
+pub record HasThread (layers : List Layer) (space : List ℕ) : Type 0 where
+  pub layer : Layer
+  pub there : layer_at layers space ≡ Some layer
+  pub some : is_empty layer.threads ≡ false
 
 -- what it changes
 abbrev pub choice_made : List ℕ → Choice → List Layer → List Layer

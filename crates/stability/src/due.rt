@@ -14,7 +14,6 @@ use crate::parts::end_of;
 use crate::places::place_of;
 use oz_base::SpaceName;
 use oz_semantics::Status;
-use propagation::first_due;
 use space_core::Levels;
 
 /// A propagator that is due: the place of its space, and its own among the propagators of that.
@@ -30,13 +29,13 @@ fn due_at(levels: &Levels, place: usize) -> Option<usize>
     ensures { OfLayer levels.now place (λ l. result ≡ due_place (view levels.now l.space) l) }
 {
     match levels.status_at(place) {
-        Status::Open => first_due(levels.store_at(place), levels.propagators_at(place)),
+        Status::Open => levels.first_due_at(place),
         Status::Failed | Status::Raised(_) | Status::Merged => None,
     }
 }
 
 /// The least propagator that is due: of the first space in the order of names that has one, the first that came. It looks at the domains
-/// of the variables of all propagators until one is due.
+/// of the variables of those propagators alone that may be due.
 pub fn least_due(levels: &Levels) -> Option<DuePropagator>
     ensures { MatchOption result (least_due levels.now ≡ None) (IsLeastDue levels.now) }
 {

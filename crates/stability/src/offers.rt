@@ -1,8 +1,8 @@
 //! Which thread of a space offers alternatives, and what a commitment of the space comes to (CTM 12.5; Schulte 4). What is offered does not
 //! go by the states of spaces.
-ghost use Rattle.std.specs.Prelude.{ℕ, ◌≡◌, ◌↔◌, ◌<◌, List, Some, slice_get, length, position, option_map, IsTrue, IfOk, MatchOption};
+ghost use Rattle.std.specs.Prelude.{ℕ, ◌≡◌, ◌↔◌, ◌<◌, false, List, Some, slice_get, length, position, option_map, IsTrue, IfOk, OnErr, MatchOption};
 ghost use Rattle.std.specs.List.{filter_map, find};
-ghost use Rattle.oz_base.specs.Lists.{first};
+ghost use Rattle.oz_base.specs.Lists.{first, is_empty};
 ghost use Rattle.oz_semantics.specs.Names.{named};
 ghost use Rattle.oz_semantics.specs.Store.{View};
 ghost use Rattle.oz_semantics.specs.Configurations.{is_numbered};
@@ -16,7 +16,7 @@ ghost use Rattle.oz_threads.specs.Sights.{sight_of};
 ghost use Rattle.space_core.specs.Levels.{OfLayer};
 ghost use Rattle.stability.specs.Places.{IsAbsent, IsFirst};
 ghost use Rattle.statements.specs.Offers.{IsChosen};
-ghost use Rattle.stability.specs.Offers.{offers, IsChoice, GoesOnAs, Commits};
+ghost use Rattle.stability.specs.Offers.{offers, IsChoice, GoesOnAs, Commits, HasThread};
 
 use crate::places::place_of;
 use builtins::Readiness;
@@ -92,7 +92,8 @@ fn offering(
     store: &Store,
     threads: &[Thread],
 ) -> Result<Option<usize>, AllocError>
-    ensures { IfOk result (λ found. found ≡ position (offers (sight_of statements.now space.now store.now)) threads.now) }
+    ensures found { IfOk result (λ found. found ≡ position (offers (sight_of statements.now space.now store.now)) threads.now) }
+    ensures err { OnErr result (is_empty threads.now ≡ false) }
 {
     for place in 0..threads.len() {
         if offers_where(alloc, statements, space, store, &threads[place])? {
@@ -110,8 +111,9 @@ fn first_offering(
     store: &Store,
     threads: &[Thread],
 ) -> Result<Option<usize>, AllocError>
-    ensures { IfOk result (λ found. MatchOption found (IsAbsent (offers (sight_of statements.now space.now store.now)) threads.now)
+    ensures found { IfOk result (λ found. MatchOption found (IsAbsent (offers (sight_of statements.now space.now store.now)) threads.now)
         (λ place. (t : running.Thread) × IsFirst (offers (sight_of statements.now space.now store.now)) threads.now place t)) }
+    ensures err { OnErr result (is_empty threads.now ≡ false) }
 {
     offering(alloc, statements, space, store, threads)
 }
@@ -243,7 +245,8 @@ fn choice_where(
     threads: &[Thread],
     index: u64,
 ) -> Result<Choice, AllocError>
-    ensures { IfOk result (IsChoice (sight_of statements.now space.now store.now) index threads.now) }
+    ensures choice { IfOk result (IsChoice (sight_of statements.now space.now store.now) index threads.now) }
+    ensures err { OnErr result (is_empty threads.now ≡ false) }
 {
     let Some(place) = first_offering(alloc, statements, space, store, threads)? else {
         return Ok(Choice::Nothing);
@@ -252,7 +255,8 @@ fn choice_where(
 }
 
 /// What committing a space to its alternative of this index, from 1, comes to; nothing where it offers none. Besides for want of
-/// memory it refuses where an earlier thread of the space has the number of the one that goes on: a machine gives no number twice.
+/// memory it refuses where an earlier thread of the space has the number of the one that goes on: a machine gives no number twice. Of a
+/// space that is not there, or has no thread, it refuses nothing.
 pub fn chosen(
     alloc: Global,
     statements: &[Statement],
@@ -260,7 +264,8 @@ pub fn chosen(
     space: &SpaceName,
     index: u64,
 ) -> Result<Choice, AllocError>
-    ensures { IfOk result (Commits statements.now levels.now space.now index) }
+    ensures commits { IfOk result (Commits statements.now levels.now space.now index) }
+    ensures err { OnErr result (HasThread levels.now space.now) }
 {
     let Some(place) = place_of(levels, space) else {
         return Ok(Choice::Nothing);

@@ -9,19 +9,19 @@ pub returns-in-Nothing-clause-ok : goal.returns-in-Nothing-clause-ok
 returns-in-Nothing-clause-ok c =
     let space = c.args.space.now in
     let old = c.args.levels.now in
-    commit_left c.args.statements.now space c.args.index _ old old (rw c.in-Nothing.is at c.in_ok-choice.ensures) (nothing_fails space old c.consistent.ensures)
+    commit_left c.args.statements.now space c.args.index _ old old (rw c.in-Nothing.is at c.in_ok-choice.ensures.commits) (nothing_fails space old c.consistent.ensures)
 
 pub returns-in_ok-replace_top-in-GoesOn-clause-ok : goal.returns-in_ok-replace_top-in-GoesOn-clause-ok
 returns-in_ok-replace_top-in-GoesOn-clause-ok c =
     let space = c.args.space.now in
     let old = c.args.levels.now in
     let new = c.replace_top.new.self in
-    commit_left c.args.statements.now space c.args.index _ old new (rw c.in-GoesOn.is at c.in_ok-choice.ensures)
+    commit_left c.args.statements.now space c.args.index _ old new (rw c.in-GoesOn.is at c.in_ok-choice.ensures.commits)
     (subst (λ (ls : List Layer). Settles space ls new) c.in_ok-replace_top-in-GoesOn.ensures.ok (nothing_fails space new c.consistent-in-GoesOn.ensures))
 
 pub tell_part-requires : goal.tell_part-requires
-tell_part-requires c = commit_there c.args.statements.now c.args.space.now c.args.index _ c.args.levels.now (rw c.in-Tells.is at c.in_ok-choice.ensures)
+tell_part-requires c = commit_there c.args.statements.now c.args.space.now c.args.index _ c.args.levels.now (rw c.in-Tells.is at c.in_ok-choice.ensures.commits)
 
 pub returns-in-Tells-clause-ok : goal.returns-in-Tells-clause-ok
 returns-in-Tells-clause-ok c =
-    on_ok c.tell_part.result (commit_left c.args.statements.now c.args.space.now c.args.index _ c.args.levels.now c.tell_part.new.levels (rw c.in-Tells.is at c.in_ok-choice.ensures)) c.tell_part.ensures.ok
+    on_ok c.tell_part.result (commit_left c.args.statements.now c.args.space.now c.args.index _ c.args.levels.now c.tell_part.new.levels (rw c.in-Tells.is at c.in_ok-choice.ensures.commits)) c.tell_part.ensures.ok

@@ -1,9 +1,9 @@
 use Rattle.stability.proofs.offers.choice_where.Goals as goal
 
-pub returns-in_default : goal.returns-in_default
-returns-in_default c = (rw c.in_default.is at c.in_ok-place.ensures).none
+pub returns-in_default-clause-choice : goal.returns-in_default-clause-choice
+returns-in_default-clause-choice c = (rw c.in_default.is at c.in_ok-place.ensures.found).none
 
-pub returns : goal.returns
-returns c =
-    let here = rw c.in-Some.is at c.in_ok-place.ensures in
+pub returns-clause-choice : goal.returns-clause-choice
+returns-clause-choice c =
+    let here = rw c.in-Some.is at c.in_ok-place.ensures.found in
     c.choice_at.ensures here.0 here.1

@@ -3,7 +3,7 @@ use Rattle.oz_semantics.specs.Store.{is_consistent}
 use Rattle.space_core.specs.Telling.{IsToldThrough}
 use Rattle.space_core.specs.declared.level.Level.{Level}
 use Rattle.space_core.proofs.AdvanceLaws.{told_at, restored, given_level}
-use Rattle.space_core.proofs.advances.tell_at.Goals as goal
+use Rattle.space_core.proofs.advances.tell_giving.Goals as goal
 
 pub returns-in-Ok-true-clause-told : goal.returns-in-Ok-true-clause-told
 returns-in-Ok-true-clause-told c =
@@ -21,7 +21,7 @@ returns-in-Ok-false-clause-told c =
           (given_level c.args.levels.now.items c.args.place c.requires c.args.given.now c.index-level.result.now c.index_mut.result.now c.give.new.level c.index-level.ensures c.index_mut.ensures.value
           c.in_ok-objects.ensures.ok c.tell_through.new.levels.items told.left told.before told.read)
           told.kept;
-      clash = subst (λ (k : Level). is_consistent (k.store ++ c.args.tells.now) ≡ false)
+      clash = subst (λ (k : Level). is_consistent (k.constraints.store ++ c.args.tells.now) ≡ false)
           (given_level c.args.levels.now.items c.args.place c.requires c.args.given.now c.index-level.result.now c.index_mut.result.now c.give.new.level c.index-level.ensures c.index_mut.ensures.value
           c.in_ok-objects.ensures.ok c.tell_through.new.levels.items told.left told.before told.read)
           told.clash;
