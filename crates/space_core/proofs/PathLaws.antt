@@ -1,8 +1,10 @@
 -- The places of the spaces that lead to one.
-use Rattle.std.proofs.Common.{◌≡◌, ℕ, suc, ◌+◌, ◌-◌, ◌<◌, ◌≤◌, arith, Bool, true, false, ◌||◌, List, [], ◌∷◌, ◌++◌, take, length, refl, sym, ap, ap₂, subst, ◌∙◌, slice_get, slice_index_or, get_or, Some, length-append, append_assoc}
+use Rattle.std.proofs.Common.{◌≡◌, ℕ, suc, ◌+◌, ◌-◌, ◌<◌, ◌≤◌, arith, Bool, true, false, ◌||◌, List, [], ◌∷◌, ◌++◌, take, length, refl, sym, ap, ap₂, subst, ◌∙◌, slice_get, slice_index_or, get_or, Some, Result, Ok, Err, length-append, append_assoc}
+use Rattle.std.specs.Prelude.{OnOk}
 use Rattle.std.specs.List.{list_any}
 use Rattle.std.proofs.lemmas.List.{take_more, take_all, append-nil}
-use Rattle.space_core.specs.Fates.{EndsWith}
+use Rattle.space_core.specs.Fates.{EndsWith, IsLedTo, is_parent_at}
+use Rattle.space_core.specs.declared.level.Level.{Level}
 
 -- what was taken off the end, of which none passes
 pub record IsLeft (test : ℕ → Bool) (old now : List ℕ) : Type 0 where
@@ -52,3 +54,8 @@ module _ (test : ℕ → Bool) (old now : List ℕ) (left : IsLeft test old now)
 
 pub none_left : (test : ℕ → Bool) (old now : List ℕ) → IsLeft test old now → now ≡ [] → list_any test old ≡ false
 none_left test old now left e = ap (list_any test) (left.split ∙ ap (λ (xs : List ℕ). xs ++ left.gone) e) ∙ left.others
+
+-- what led to the space before leads to the parent
+pub led_by : {A E : Type 0} (r : Result A E) (levels : List Level) (space old new : List ℕ) (place : ℕ) → EndsWith (is_parent_at levels space) place old new → OnOk r (IsLedTo levels space old new)
+led_by (Ok a) levels space old new place e = record { place = place; ends = e }
+led_by (Err e) levels space old new place ends = tt

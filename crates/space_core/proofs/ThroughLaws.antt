@@ -2,7 +2,7 @@
 use Rattle.std.proofs.Common.{◌≡◌, ◌⊎◌, inl, inr, ℕ, zero, suc, ◌+◌, ◌<◌, ◌≤◌, Bool, true, false, List, [], ◌∷◌, ◌++◌, length, filter, slice_get, slice_set, slice_index_or, refl, sym, ap, ap₂, subst, ◌∙◌, arith, Some, Result, Ok, Err, length-append}
 use Rattle.std.specs.Prelude.{◌||◌, OnErr, IfOk}
 use Rattle.std.specs.List.{list_any}
-use Rattle.std.proofs.lemmas.List.{length-set, set-set, get_or-set_same}
+use Rattle.std.proofs.lemmas.List.{length-set, set-set, get_or-set_same, get_or_default}
 use Rattle.std.proofs.lemmas.Option.{get_or_from_slice_get}
 use Rattle.oz_base.specs.declared.names.Ident.{Ident}
 use Rattle.oz_semantics.specs.Names.{is_top}
@@ -11,7 +11,7 @@ use Rattle.view_laws.specs.Spaceless.{gives_space}
 use Rattle.space_core.specs.Constraints.{Held, IsStoreTold}
 use Rattle.space_core.specs.Fates.{IsChosen, IsFate, IsStale, EachFate, AreFates, with_fates}
 use Rattle.space_core.specs.Shown.{shown_all, is_other}
-use Rattle.space_core.specs.Telling.{has_below, IsMarked, IsToldMore, IsLevelTold, IsFated, IsSetBack, ToldThrough, IsToldThrough}
+use Rattle.space_core.specs.Telling.{has_below, IsMarked, IsToldMore, IsLevelTold, IsFated, IsSetBack, sees_at, ToldThrough, IsToldThrough}
 use Rattle.space_core.specs.declared.fates.Fate.{Fate}
 use Rattle.space_core.specs.declared.level.Level.{Level}
 use Rattle.space_core.proofs.AnswerLaws.{unchanged}
@@ -52,6 +52,22 @@ one_more space levels fates news n l fate within e so_far chosen more = subst (�
 
 pub all_so_far : (space : List ℕ) (levels : List Level) (fates : List Fate) (n : ℕ) → n ≡ length levels → AreSoFar space levels fates n → AreFates space levels fates
 all_so_far space levels fates n e so_far = record { as_many = so_far.as_many ∙ e; right = so_far.right }
+
+-- What becomes of the spaces by what the one at a place sees; or it sees again what it saw
+
+module _ (levels : List Level) (place : ℕ) (within : place < length levels) (k : Level) (read : k ≡ slice_index_or levels place k) where
+  same_read : (l : Level) → l ≡ slice_index_or levels place l → k ≡ l
+  same_read l q = read ∙ get_or_default levels place k l within ∙ sym q
+
+  pub fated_at : (now : List Level) → now ≡ levels → (fates : List Fate) → AreFates k.space now fates → IsFated place levels levels fates
+  fated_at now e fates are = record {
+    left = refl;
+    are = λ l q. subst (λ (n : Level). AreFates n.space levels fates) (same_read l q) (subst (λ (ls : List Level). AreFates k.space ls fates) e are);
+  }
+
+  pub back_at : (store : List Tell) (held : Held) → held ≡ record k.constraints { store = store } → IsSetBack place store levels (slice_set levels place (record k { constraints = held }))
+  back_at store held e = λ l q.
+      ap (λ (h : Held). slice_set levels place (record k { constraints = h })) e ∙ ap (λ (n : Level). sees_at place n store levels) (same_read l q)
 
 -- What was told, and then noted
 
