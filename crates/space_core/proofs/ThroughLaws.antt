@@ -1,6 +1,6 @@
 -- What comes of a tell that the spaces below see too, step by step.
-use Rattle.std.proofs.Common.{◌≡◌, ◌⊎◌, inl, inr, ℕ, zero, suc, ◌+◌, ◌<◌, ◌≤◌, Bool, true, false, List, [], ◌∷◌, ◌++◌, length, filter, slice_get, slice_set, slice_index_or, refl, sym, ap, ap₂, subst, ◌∙◌, arith, Some, Result, Ok, Err, length-append}
-use Rattle.std.specs.Prelude.{◌||◌, OnErr, IfOk}
+use Rattle.std.proofs.Common.{◌≡◌, ◌⊎◌, inl, inr, ℕ, zero, suc, ◌+◌, ◌<◌, ◌≤◌, Bool, true, false, List, [], ◌∷◌, ◌++◌, length, filter, slice_get, slice_set, slice_index_or, refl, sym, ap, ap₂, subst, ◌∙◌, arith, Option, Some, None, Result, Ok, Err, length-append}
+use Rattle.std.specs.Prelude.{◌||◌, OnErr, IfOk, MatchOption}
 use Rattle.std.specs.List.{list_any}
 use Rattle.std.proofs.lemmas.List.{length-set, set-set, get_or-set_same, get_or_default}
 use Rattle.std.proofs.lemmas.Option.{get_or_from_slice_get}
@@ -97,6 +97,18 @@ told_marked home ts l k m held noted e t q b =
       kept = b;
       bare = q.bare ∙ ap (λ (n : Level). n.bare) e;
     }
+
+-- The answer of a tell
+
+pub told_some : {A : Type 0} (N : Type 0) (S : A → Type 0) (o : Option A) (x : A) → o ≡ Some x → MatchOption o N S → S x
+told_some N S o x e t = subst (λ p. MatchOption p N S) e t
+
+pub told_none : {A : Type 0} (N : Type 0) (S : A → Type 0) (o : Option A) → o ≡ None → MatchOption o N S → N
+told_none N S o e t = subst (λ p. MatchOption p N S) e t
+
+pub refused : {A E P : Type 0} (r : Result A E) → P → OnErr r P
+refused (Ok a) p = tt
+refused (Err e) p = p
 
 -- A space that was told more, and then sees what it saw
 
