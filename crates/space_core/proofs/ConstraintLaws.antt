@@ -1,15 +1,14 @@
 -- Which propagators of a space are watched, from edit to edit.
-use Rattle.std.proofs.Common.{◌≡◌, ◌⊎◌, inl, inr, ℕ, zero, suc, ◌+◌, ◌<◌, ◌≤◌, arith, length, true, false, Bool, List, [], ◌∷◌, ◌++◌, take, get_or, refl, sym, ap, subst, ◌∙◌, Option, Some, None, Contains, slice_get, slice_index_or, is_some}
+use Rattle.std.proofs.Common.{◌≡◌, ◌⊎◌, inl, inr, ℕ, zero, suc, ◌+◌, ◌<◌, ◌≤◌, arith, length, true, false, Bool, List, [], ◌∷◌, ◌++◌, take, refl, sym, ap, subst, ◌∙◌, Option, Some, None, Contains, slice_get, slice_index_or, is_some}
 use Rattle.std.specs.Prelude.{position}
 use Rattle.std.specs.List.{list_any}
 use Rattle.std.specs.Option.{option_map}
-use Rattle.std.proofs.lemmas.List.{take-append-le, length-take, take_more, take-take, take_all}
+use Rattle.std.proofs.lemmas.List.{length-take, take_more, take-take, take_all}
 use Rattle.std.proofs.lemmas.Option.{slice_get_within, slice_get-get_or, get_or_from_slice_get}
 use Rattle.oz_base.specs.Lists.{holds_of}
 use Rattle.oz_base.specs.declared.interval.Interval.{Interval}
 use Rattle.oz_base.specs.declared.names.Ident.{Ident}
 use Rattle.oz_base.specs.declared.relation.Relation.{Relation}
-use Rattle.oz_semantics.specs.Propagation.{is_due}
 use Rattle.oz_semantics.specs.Store.{View}
 use Rattle.oz_semantics.specs.declared.configuration.LastRun.TheVariants.{Never}
 use Rattle.oz_semantics.specs.declared.configuration.Propagator.{Propagator}

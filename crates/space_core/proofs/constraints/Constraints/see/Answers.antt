@@ -1,4 +1,4 @@
-use Rattle.std.proofs.Common.{◌∙◌, ap, sym, List, length, subst, take}
+use Rattle.std.proofs.Common.{List, subst, take}
 use Rattle.oz_semantics.specs.declared.configuration.Propagator.{Propagator}
 use Rattle.watching.specs.Watching.{Knows}
 use Rattle.space_core.proofs.ConstraintLaws.{all_watched}
