@@ -7,10 +7,10 @@ use Rattle.std.proofs.lemmas.Option.{slice_get-get_or}
 use Rattle.oz_semantics.specs.Configurations.{with_frames}
 use Rattle.oz_semantics.specs.Renamings.{Renaming, renamed_thread, renamed_trigger, renamed_propagator, renamed_layer}
 use Rattle.oz_semantics.specs.Edits.{joined}
-use Rattle.oz_semantics.specs.declared.configuration.Propagator.{Propagator}
 use Rattle.oz_semantics.specs.declared.configuration.Trigger.{Trigger}
 use Rattle.cells_ports.specs.Objects.{Contents}
 use Rattle.oz_semantics.specs.declared.configuration.Thread.{Thread}
+use Rattle.space_core.specs.Constraints.{Held}
 use Rattle.space_core.specs.Merging.{raised_by, with_joined, joining_by}
 use Rattle.space_core.specs.Shown.{next_with, shown, IsQuiet}
 use Rattle.space_core.specs.declared.level.Level.{Level}
@@ -106,7 +106,7 @@ kept_none ts next ended h = record { ascends = ascends_low 1 next ts h.ascends; 
 module _ (r : Renaming) (child l m : Level) (number : ℕ) (q : IsQuiet (with_frames number (λ stack. drop 1 stack)) l m)
     (threads : Running) (are_threads : threads ≡ with_joined r child.threads m.threads)
     (triggers : List Trigger) (are_triggers : triggers ≡ m.triggers ++ map (renamed_trigger r) child.triggers)
-    (propagators : List Propagator) (are_propagators : propagators ≡ m.constraints.propagators ++ map (renamed_propagator r) child.constraints.propagators)
+    (held : Held) (is_held : held ≡ record m.constraints { propagators = m.constraints.propagators ++ map (renamed_propagator r) child.constraints.propagators })
     (objects : Contents) (are_objects : objects ≡ record { cells = m.objects.cells ++ map r.variable child.objects.cells; ports = m.objects.ports ++ map r.variable child.objects.ports })
     (numbers : Numbers) (are_numbers : numbers ≡ record {
       variable = m.numbers.variable + child.numbers.variable;
@@ -115,16 +115,16 @@ module _ (r : Renaming) (child l m : Level) (number : ℕ) (q : IsQuiet (with_fr
       child = m.numbers.child + (child.numbers.child - 1);
     }) where
   abbrev new : Level
-  new = record m { constraints = record m.constraints { propagators = propagators }; threads = threads; triggers = triggers; objects = objects; numbers = numbers }
+  new = record m { constraints = held; threads = threads; triggers = triggers; objects = objects; numbers = numbers }
 
   shows_joined : shown new ≡ joined (renamed_layer r (shown child)) (shown m)
   shows_joined = λ i. record {
     space = m.space;
     status = m.status;
-    tells = drop m.told_from m.constraints.store;
+    tells = drop m.told_from (is_held i).store;
     threads = (are_threads i).list;
     triggers = are_triggers i;
-    propagators = are_propagators i;
+    propagators = (is_held i).propagators;
     cells = (are_objects i).cells;
     ports = (are_objects i).ports;
     next = next_with (are_threads i).next (are_numbers i);
@@ -137,7 +137,7 @@ module _ (r : Renaming) (child l m : Level) (number : ℕ) (q : IsQuiet (with_fr
       record {
         becomes = shows_joined ∙ ap (joined (renamed_layer r (shown child))) q.becomes;
         space = q.space;
-        store = q.store;
+        store = ap (λ (h : Held). h.store) is_held ∙ q.store;
         told_from = q.told_from;
         touched = q.touched;
         traced = q.traced;

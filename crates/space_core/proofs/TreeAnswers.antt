@@ -1,12 +1,13 @@
 -- Tells and ends of the space that was looked up.
 use Rattle.std.proofs.Common.{◌≡◌, inl, inr, ℕ, zero, suc, ◌<◌, ◌+◌, length, slice_get, arith, Option, unwrap_or, Bool, true, false, not, List, [], ◌∷◌, ◌++◌, filter, slice_set, slice_index_or, refl, sym, ap, ap₂, subst, ◌∙◌, Result, Ok, Err, Some, None, Contains}
-use Rattle.std.specs.Prelude.{OnErr, IfOk, insert}
+use Rattle.std.specs.Prelude.{OnErr, IfOk, insert, position}
 use Rattle.std.specs.List.{list_all, find}
 use Rattle.oz_base.specs.Lists.{list_eq}
 use Rattle.oz_base.specs.declared.names.Ident.{Ident}
 use Rattle.std.proofs.lemmas.List.{length-map}
 use Rattle.oz_semantics.specs.Names.{is_properly_below, space_lt, parent_of}
 use Rattle.oz_semantics.specs.Edits.{created}
+use Rattle.oz_semantics.specs.Propagation.{is_due}
 use Rattle.oz_semantics.specs.Spaces.{alike_on, is_held}
 use Rattle.oz_semantics.specs.Store.{named_by, is_consistent}
 use Rattle.oz_semantics.specs.Configurations.{is_of, in_layer, view, ancestor_variables, telling, ending, raised_by, failed, next_child, layer_of, new_layer, counting_child}
@@ -159,6 +160,15 @@ held_at levels now value seen viewed s place within x e space variable r f k at 
     f (subst IsSound (sym seen) s) (subst (λ (ls : List Level). Contains ls x) (sym seen) member)
     ∙ ap₂ (λ (ls : List Layer) (t : List ℕ). is_held (view ls t) (ancestor_variables ls space) variable) (ap shown_all seen ∙ viewed)
     (ap (λ (j : Layer). j.space) (layer_is levels place k (ap (λ (ls : List Layer). slice_get ls place) viewed ∙ at) x e))
+
+pub due_at : (levels now : List Level) (value : List Layer) → now ≡ levels → shown_all levels ≡ value → IsSound levels → (place : ℕ) → place < length value → (x : Level) → x ≡ slice_index_or levels place x → (r : Option ℕ)
+    → (IsSound now → Contains now x → r ≡ position (is_due (view (shown_all now) x.space)) x.constraints.propagators)
+    → (k : Layer) → slice_get value place ≡ Some k → r ≡ position (is_due (view value k.space)) k.propagators
+due_at levels now value seen viewed s place within x e r f k at =
+    let member : Contains levels x = (place, omega (arith, within, ap length viewed, length-map levels shown), sym e) in
+    f (subst IsSound (sym seen) s) (subst (λ (ls : List Level). Contains ls x) (sym seen) member)
+    ∙ ap₂ (λ (ls : List Layer) (j : Layer). position (is_due (view ls j.space)) j.propagators) (ap shown_all seen ∙ viewed)
+    (layer_is levels place k (ap (λ (ls : List Layer). slice_get ls place) viewed ∙ at) x e)
 
 -- A new space
 

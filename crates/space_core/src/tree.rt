@@ -196,7 +196,7 @@ pub fn child_count(level: &Level) -> Result<u64, AllocError>
 
 /// The child that a space gives out next, in which a thread applies the procedure to the root variable.
 pub fn child_of(alloc: Global, level: &Level, procedure: Ident) -> Result<Level, AllocError>
-    ensures { IfOk result (IsChild (next_child (shown level.now)) procedure level.now.store) }
+    ensures { IfOk result (IsChild (next_child (shown level.now)) procedure level.now.constraints.store) }
 {
     let space = level.space.child(alloc, level.numbers.child)?;
     let store = level.constraints.store().copied(alloc)?;
