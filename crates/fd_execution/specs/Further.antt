@@ -1,5 +1,6 @@
--- States further on: more variables of the search, and more of the constraints posted; the last, in which a script distributes; and the
--- value of its root variable.
+-- States further on in the execution of a script: more variables of the search, and more of the constraints posted; the last, in which the
+-- script distributes; and the value of its root variable (scripts, CTM 12.2; their execution in a computation space, CTM 12.4; Schulte,
+-- LNCS 2302, chapter 2).
 use Rattle.std.specs.Prelude.{◌≡◌, ◌⊎◌, ℕ, List, [], ◌∷◌, ◌++◌, length, map, Contains}
 use Rattle.oz_base.specs.declared.names.Ident.{Ident}
 use Rattle.oz_language.specs.declared.token.Literal.{Literal}
@@ -17,7 +18,8 @@ use Rattle.fd_turns.specs.Nodes.{Top, own}
 use Rattle.fd_steps.specs.States.{State, view_of, IsGood}
 use Rattle.fd_steps.specs.Distributing.{Distributes}
 
--- more is told, the store was run on, there are so many variables of the search more, and these constraints were posted
+-- a state further on: more is told, the store was narrowed by runs, there are so many variables of the search more, and these constraints
+-- were posted
 pub record IsFurther (t : Top) (cs : List Constraint) (n : ℕ) (ks : List Constraint) (before after : State) : Type 0 where
   pub keeps : Keeps (view_of t before) (view_of t after)
   pub runs : Runs cs before.store after.store
@@ -26,13 +28,13 @@ pub record IsFurther (t : Top) (cs : List Constraint) (n : ℕ) (ks : List Const
   pub count : length more ≡ n
   pub posted : (c : Constraint) → Contains before.posted c ⊎ Contains ks c → Contains after.posted c
 
--- what the root variable becomes: a record of these variables, or its label where there are none
+-- the value that a script gives its root variable: a record of these variables, or its label alone where there are none
 abbrev pub root_value : Literal → List (Constant × ℕ) → List Ident → Value
 root_value l [] base = value.Constant (constant.Literal l)
 root_value l (f ∷ fs) base = value.Record (record { label = l; features = map (λ (g : Constant × ℕ). g.0) (f ∷ fs); fields = base })
 
--- The script distributes: these constraints are posted, the root has its value, and the first of the variables are those of its record,
--- so many
+-- The last state, in which the script distributes: these constraints are posted, the root variable has its value, and the first variables,
+-- so many, are the fields of its record.
 pub record IsLast (statements : List Statement) (t : Top) (cs ks : List Constraint) (d : Distribution) (l : Literal) (fs : List (Constant × ℕ)) (n : ℕ) (s : Store) (last : State) (f : Frame) : Type 0 where
   pub base : List Ident
   pub more : List Ident

@@ -1,5 +1,6 @@
 -- The leaves of a finite-domain script: exactly the assignments that meet every relation that it posts, each once, and for `naive` in
--- lexicographic order.
+-- lexicographic order (scripts and their solutions, CTM 12.2; search for all solutions, CTM 9.1, 12.4; Schulte, LNCS 2302, chapter 2 and
+-- on search).
 use Rattle.std.specs.Prelude.{◌≡◌, ◌≢◌, ◌↔◌, ℕ, ℤ, List, map, Contains, AllPairs, Some}
 use Rattle.oz_base.specs.declared.distribution.Rule.TheVariants.{Naive}
 use Rattle.oz_language.specs.Refusals.{Program, Accepts}
@@ -23,13 +24,13 @@ pub record AreAnswers (words : List (List ℕ)) (s : FdScript) (leaves : List Ou
   pub ordered : s.problem.distribution.rule ≡ Naive
       → AllPairs (λ t u. IsLeft (values_at t s.problem.distribution.over) (values_at u s.problem.distribution.over)) assignments
 
--- for each text that is a finite-domain script, and each budget within which its tree ends
+-- the leaves of the search tree of a script are its answers, for each text that is a script, and each budget within which its tree ends
 abbrev pub FdCompleteness : Type 0
 FdCompleteness = (text : List ℕ) (p : Program) (s : FdScript) (budget : ℕ) (leaves : List (List ℕ × Outcome)) (steps : ℕ)
     → Accepts text p → fd_form p ≡ Some s → Searches (kernel_of p) budget (Some (leaves, steps))
     → AreAnswers p.words s (map (λ (leaf : List ℕ × Outcome). leaf.1) leaves)
 
--- what is written then: the lines of the answers, and nothing before them
+-- what the search for all solutions of a script writes: the lines of the answers, and nothing before them
 abbrev pub FdReply : Type 0
 FdReply = (text : List ℕ) (p : Program) (s : FdScript) (budget : ℕ) (bytes : List ℕ)
     → Accepts text p → fd_form p ≡ Some s → all_answer (kernel_of p) budget ≡ (Done, bytes)

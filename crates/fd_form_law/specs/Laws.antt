@@ -1,4 +1,5 @@
--- What ties the run of a finite-domain script to the search of its problem, and what follows from that.
+-- What ties the run of a finite-domain script to the search of its problem, and what follows from that (scripts, CTM 12.2; their search
+-- with computation spaces, CTM 12.4; Schulte, LNCS 2302, chapters 2 and 4).
 use Rattle.std.specs.Prelude.{◌≡◌, ℕ, true, List, [], Some}
 use Rattle.oz_language.specs.Grammar.{is_body}
 use Rattle.oz_language.specs.Refusals.{Program, Accepts}
@@ -21,11 +22,11 @@ use Rattle.fd_trees.specs.Scripts.{IsProblem, constraints, start, tuple_at}
 abbrev pub FormIsProblem : Type 0
 FormIsProblem = (p : Program) (s : FdScript) → is_body p.phrase ≡ true → fd_form p ≡ Some s → IsProblem s.problem
 
--- what is shown at a leaf of a search over stores
+-- what is shown at a solved leaf: the answer of the script with the values of its variables in the store of that leaf
 abbrev pub shown : List (List ℕ) → FdScript → Store → Outcome
 shown words s m = Solved (answer_text words s (tuple_at s.problem m))
 
--- the nodes below the search root show a tree of the problem, and nothing was shown before
+-- the nodes from the search root on show a search tree of the problem, and nothing was shown before
 pub record Shows (words : List (List ℕ)) (s : FdScript) (k : Kernel) (top : Configuration) : Type 0 where
   pub tree : Tree
   pub is_tree : IsTree (constraints s.problem) s.problem.distribution (start s.problem) tree

@@ -1,5 +1,5 @@
 -- What a relation posts, as constraints over the variables of the search: those of the problem, and behind them the products in the
--- order of the problem.
+-- order of the problem (posting constraints, CTM 12.4; Schulte, LNCS 2302, chapter 2).
 use Rattle.std.specs.Prelude.{◌≡◌, ◌↔◌, ℕ, ◌+◌, ◌<◌, ℤ, List, [], ◌∷◌, ◌++◌, length, map, Contains}
 use Rattle.oz_base.specs.declared.relation.Relation.TheVariants.{Times}
 use Rattle.oz_language.specs.declared.kernel.Identifier.{Identifier}
@@ -20,14 +20,16 @@ constraints_by index (kernel.post z k ts) = Posted (relation z (record { constan
 constraints_by index (kernel.post_times x y z) = Posted Times (index x ∷ index y ∷ index z ∷ []) ∷ []
 constraints_by index s = []
 
+-- those that several statements post, one after another
 abbrev pub all_constraints : (Identifier → ℕ) → Stmts → List Constraint
 all_constraints index none = []
 all_constraints index (followed s ss) = constraints_by index s ++ all_constraints index ss
 
--- identifiers are so many variables of the problem, and products from variable q on have the identifiers from n on
+-- the identifiers of the problem's variables stand for these variables
 abbrev pub AreVariables : List ℕ → (Identifier → ℕ) → Type 0
 AreVariables vs index = (x : ℕ) → x < length vs → index (identifier vs x) ≡ x
 
+-- the products of these terms are the variables of the search from q on, and have the fresh identifiers from n on
 abbrev pub AreProducts : (Identifier → ℕ) → ℕ → ℕ → List Term → Type 0
 AreProducts index n q ms = (i : ℕ) → i < product_count ms → index (Fresh (n + i)) ≡ q + i
 

@@ -1,4 +1,5 @@
--- What the kernel of a relation posts: the constraints of the problem, each product with a fresh identifier.
+-- What the kernel code of a relation posts: the propagators of the problem, each product with a fresh identifier (translation into the
+-- kernel language, CTM 2.6; posting constraints, CTM 12.4; Schulte, LNCS 2302, chapter 2).
 use Rattle.std.specs.Prelude.{◌≡◌, ℕ, suc, ◌+◌, ℤ, Bool, true, false, if◌then◌else◌, List, [], ◌∷◌, ◌++◌, Some, slice_index_or}
 use Rattle.oz_language.specs.declared.kernel.Identifier.{Identifier}
 use Rattle.oz_language.specs.declared.kernel.Identifier.TheVariants.{Word, Fresh}
@@ -16,26 +17,27 @@ use Rattle.fd_problems.specs.declared.problem.Item.TheVariants.{Compares}
 use Rattle.fd_form.specs.Sums.{relation_of}
 use Rattle.fd_trees.specs.Scripts.{product_count}
 
--- variable x of the problem is the identifier of its word
+-- the identifier of variable x of the problem, which is its word
 abbrev pub identifier : List ℕ → ℕ → Identifier
 identifier vs x = Word (slice_index_or vs x 0)
 
+-- a term of a linear sum: a coefficient, and the identifier of a variable
 abbrev pub linear_term : ℤ → Identifier → LinearTerm
 linear_term a x = record { coefficient = a; variable = x }
 
--- terms as they are posted, the products having the identifiers from n on
+-- the linear terms of a sum that is posted, each product of two variables replaced by a fresh identifier, from n on
 abbrev pub posted_terms : List ℕ → ℕ → List Term → List LinearTerm
 posted_terms vs n [] = []
 posted_terms vs n (Multiple a x ∷ ms) = linear_term a (identifier vs x) ∷ posted_terms vs n ms
 posted_terms vs n (Product a x y ∷ ms) = linear_term a (Fresh n) ∷ posted_terms vs (suc n) ms
 
--- and the statements that post the products
+-- and the kernel statements that post the propagators of these products
 abbrev pub posted_products : List ℕ → ℕ → List Term → Stmts
 posted_products vs n [] = none
 posted_products vs n (Multiple a x ∷ ms) = posted_products vs n ms
 posted_products vs n (Product a x y ∷ ms) = just (kernel.post_times (identifier vs x) (identifier vs y) (Fresh n)) ⨾ posted_products vs (suc n) ms
 
--- `>:` and `>=:` exchange the sides
+-- the relations of which the translation exchanges the sides: `>:` and `>=:`
 abbrev pub is_exchanged : Comparison → Bool
 is_exchanged comparison.Equal = false
 is_exchanged comparison.Unequal = false
@@ -58,6 +60,7 @@ pub record IsPosted (vs : List ℕ) (n : ℕ) (r : Comparison) (z : Sign) (k : �
       else posted_terms vs n left ++ posted_terms vs (n + product_count left) right)))
       (n + product_count left + product_count right))
 
+-- and this is what each relation that states an item of the problem is translated into
 abbrev pub RelationsPosted : Type 0
 RelationsPosted = (words : List (List ℕ)) (vs : List ℕ) (n : ℕ) (r : Comparison) (a b : Phrase) (z : Sign) (k : ℤ) (ms : List Term)
     → relation_of vs r a b ≡ Some (Compares z k ms ∷ []) → IsPosted vs n r z k ms (translated words statement n (relate r a b))

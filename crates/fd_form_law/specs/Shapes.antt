@@ -1,4 +1,5 @@
--- The kernel of a finite-domain script.
+-- The kernel code of a finite-domain script (the kernel language, CTM 2.3; translation into it, CTM 2.6; scripts, CTM 12.2; Schulte,
+-- LNCS 2302, chapter 2).
 use Rattle.std.specs.Prelude.{◌≡◌, ◌<◌, ℕ, nat_eq, true, false, List, [], ◌∷◌, length, map, slice_index_or, Some}
 use Rattle.oz_language.specs.declared.kernel.Constant.{Constant}
 use Rattle.oz_language.specs.declared.kernel.Identifier.TheVariants.{Word}
@@ -12,7 +13,7 @@ use Rattle.fd_form.specs.declared.script.FdScript.{FdScript}
 use Rattle.fd_form.specs.FdScripts.{are_apart, are_fields, fd_form, stated}
 use Rattle.fd_form.specs.Parts.{script_word, fd_word, record_of}
 
--- no word comes twice
+-- identifiers of which no word comes twice
 abbrev pub Differ : List ℕ → Type 0
 Differ vs = (x y : ℕ) → x < length vs → y < length vs → slice_index_or vs x 0 ≡ slice_index_or vs y 0 → x ≡ y
 
@@ -41,5 +42,6 @@ pub record IsShaped (p : Program) (s : FdScript) : Type 0 where
   pub code : statements_of p ≡ just (kernel.bind_procedure (Word script_word) (Word root ∷ []) (scoped (map Word names)
       ((translated p.words (value (Word root)) 1 answer).code ⨾ (translated_each p.words (translated p.words (value (Word root)) 1 answer).next statements).code)))
 
+-- and this is the kernel code of every program that is a finite-domain script
 abbrev pub ScriptsShaped : Type 0
 ScriptsShaped = (p : Program) (s : FdScript) → fd_form p ≡ Some s → IsShaped p s

@@ -1,4 +1,5 @@
--- The top of a program whose one statement makes `Script` a procedure, and where the search of that begins.
+-- The top-level space of a program whose one statement binds `Script` to a procedure, and the computation space in which the search of that
+-- script begins (procedure values, CTM 2.3; the abstract machine, CTM 2.4; computation spaces, CTM 12.4; Schulte, LNCS 2302, chapter 4).
 use Rattle.std.specs.Prelude.{◌≡◌, ℕ, true, List, [], ◌∷◌, Contains, flat_map}
 use Rattle.environments.specs.Environments.{Environment, bound}
 use Rattle.oz_base.specs.declared.names.Ident.{Ident}
@@ -23,15 +24,15 @@ use Rattle.fd_views.specs.Views.{IsPlain, HasValue}
 use Rattle.fd_form.specs.Parts.{fd_word, distinct_word, distribute_word}
 use Rattle.fd_turns.specs.Nodes.{Top, top_layer, node_space, own, config}
 
--- a field of `FD` is a variable of the top that has this built-in as its value
+-- a field of the record `FD`, with this word as its feature: a variable of the top that is bound to this built-in procedure
 pub record IsField (t : Top) (word : ℕ) (b : Builtin) : Type 0 where
   pub variable : Ident
   pub top : variable.space ≡ []
   pub told : Contains t.tells (Is variable (value.Builtin b))
   pub finds : (z : Ident) → selects z fd_record (value.Constant (constant.Literal (Atom word))) ≡ Acts (GivesVariable z variable)
 
--- What the top was told is consistent, gives each variable of it a value, and names no others. `Script` is a procedure of one parameter
--- with this body and environment, and `FD` the record of the built-ins of finite domains
+-- The store of the top is consistent, determines each of its variables, and names no others. `Script` is bound to a procedure value of one
+-- parameter, with this body and contextual environment, and `FD` to the record of the built-ins of finite domains.
 pub record IsTop (t : Top) (root : ℕ) (body : List ℕ) (e : Environment) : Type 0 where
   pub fits : is_consistent t.tells ≡ true
   pub plain : IsPlain t.tells []
@@ -43,7 +44,8 @@ pub record IsTop (t : Top) (root : ℕ) (body : List ℕ) (e : Environment) : Ty
   pub distribute : IsField t distribute_word Distribute
   pub fd_is : bound e (Word fd_word) ≡ named [] fd_number
 
--- nothing was shown, and the search begins below such a top with a space in which `Script` is applied to the root variable
+-- the search of a script begins in this configuration: nothing was shown, and below such a top a new space applies `Script` to its root
+-- variable
 pub record Begins (k : Kernel) (root : ℕ) (body : List ℕ) (c : Configuration) : Type 0 where
   pub top : Top
   pub environment : Environment

@@ -1,4 +1,4 @@
--- The parts that a distributor offers.
+-- The alternatives that a distributor offers to its space (distribution, CTM 12.4; Schulte, LNCS 2302, chapter 2).
 use Rattle.std.specs.Prelude.{◌≡◌, ℕ, List, ◌++◌, Option, Some, None}
 use Rattle.oz_base.specs.declared.names.Ident.{Ident}
 use Rattle.oz_base.specs.declared.distribution.Split.{Split}
@@ -17,19 +17,21 @@ use Rattle.fd_stores.specs.Stores.{Store}
 use Rattle.fd_stores.specs.Choices.{split_variable}
 use Rattle.fd_views.specs.Views.{variable_at, variables_at, HaveDomains, StandsFor, OnlyDomains}
 
--- the domain of the split variable in the first alternative, and in the second
+-- the basic constraint of the first alternative: the variable that is split is in the first part of its domain
 abbrev pub first_tell : List Ident → Distribution → Store → Split → Tell
 first_tell xs d s p = Within (variable_at xs (split_variable d p)) (intervals_of (first_part p.test (domain s (split_variable d p))))
 
+-- and that of the second alternative: it is in the other part
 abbrev pub second_tell : List Ident → Distribution → Store → Split → Tell
 second_tell xs d s p = Within (variable_at xs (split_variable d p)) (intervals_of (second_part p.test (domain s (split_variable d p))))
 
--- what the distributor does by the split that the rule takes
+-- what a distributor does by the split that its rule takes: it offers the two alternatives, and is finished where all its variables are
+-- determined
 abbrev pub offer_of : View → List Ident → Distribution → Store → Option Split → machine.Distribution
 offer_of view xs d s None = machine.Finished
 offer_of view xs d s (Some p) = machine.Splits (first_tell xs d s p) (second_tell xs d s p) (undetermined view (variables_at xs d.over))
 
--- where variables have no domain, it tells them all domain values first, which leaves the store as it is
+-- a distributor of which some variables have no domain yet: it tells these all domain values first, and that leaves the store as it is
 pub record WidensFirst (view : View) (xs : List Ident) (s : Store) (d : Distribution) : Type 0 where
   pub bare : List ℕ
   pub widens : distribution_of view d.rule (variables_at xs d.over) ≡ Known (machine.Widens (variables_at xs bare))

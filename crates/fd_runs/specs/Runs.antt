@@ -1,4 +1,4 @@
--- Runs of propagators in a view, and what they note.
+-- Runs of propagators in a view, and the domains that they note (propagation, CTM 12.3; Schulte, LNCS 2302, chapter 2).
 use Rattle.std.specs.Prelude.{◌≡◌, ℕ, List, map, ◌++◌, Option, Some, None}
 use Rattle.oz_base.specs.declared.names.Ident.{Ident}
 use Rattle.oz_base.specs.declared.interval.Interval.{Interval}
@@ -12,16 +12,17 @@ use Rattle.fd_stores.specs.Stores.{Store}
 use Rattle.fd_stores.specs.Notes.{Note}
 use Rattle.fd_views.specs.Views.{StandsFor, OnlyDomains}
 
--- a run fails where a run of the store does, and else tells domains with which the view stands for what the store was cut to
+-- a run of a propagator fails where the run over the store fails, and else it narrows domains: it tells basic constraints with which the
+-- view stands for the store that is left
 abbrev pub RunsTo : View → List Ident → Option Store → Run → Type 0
 RunsTo view xs None r = r ≡ Fails
 RunsTo view xs (Some m) r = (ts : List Tell) × (r ≡ Narrows ts) × OnlyDomains ts × StandsFor (view ++ ts) xs m
 
--- the integers of the interval, for each position
+-- the domain of the integers of an interval, once for each of these positions
 abbrev pub each_between : Interval → List ℕ → List IntSet
 each_between i is = map (λ x. between i.low i.high) is
 
--- the domains that the last run of a propagator saw
+-- the note of a propagator: the domains of its variables when its last run began, and none before the first run
 abbrev pub note_of : LastRun → Note
 note_of Never = None
 note_of (Saw ds) = Some (map union ds)

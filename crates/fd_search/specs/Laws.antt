@@ -1,4 +1,4 @@
--- The laws of a search in a script's one space.
+-- The laws of a search in a script's one computation space (CTM 12.4; Schulte, LNCS 2302, chapter 4 and on search).
 use Rattle.std.specs.Prelude.{◌≡◌, ◌<◌, ℕ, true, List, length, All}
 use Rattle.oz_base.specs.declared.names.Ident.{Ident}
 use Rattle.oz_domains.specs.Positions.{AreParts, AreDomains, all_single}
@@ -21,8 +21,8 @@ use Rattle.fd_turns.specs.Nodes.{Top, node_space, own, failed_config}
 use Rattle.fd_steps.specs.States.{State, view_of, IsGood}
 use Rattle.fd_search.specs.Searching.{IsKnown, IsDistributing, Comes}
 
--- A search: a program and its top, constraints and a distribution over the variables of a store, which are these variables of the space,
--- the value of the root variable, and what is shown of a store
+-- A search: a kernel program and its top, constraints and a distribution over the variables of a store, which are these variables of the
+-- space, the value of the root variable, and the text that shows a solved store.
 pub record Setting : Type 0 where
   pub kernel : Kernel
   pub top : Top
@@ -33,8 +33,8 @@ pub record Setting : Type 0 where
   pub root : Value
   pub shown : Store → List ℕ
 
--- All variables of the top have values. The constraints and the distribution are over the variables, of which each follows from those
--- that are distributed; and once all are determined, the text of the root variable is what is shown of the store.
+-- What the laws suppose: all variables of the top are determined. The constraints and the distribution are over the variables, of which
+-- each follows from those that are distributed; and once all are determined, the text of the root variable is what is shown of the store.
 pub record IsSearched (its : Setting) : Type 0 where
   pub known : IsKnown its.top
   pub search : IsSearch its.constraints its.distribution its.start
@@ -43,22 +43,22 @@ pub record IsSearched (its : Setting) : Type 0 where
   pub text : (st : State) → IsGood its.top its.constraints st → st.variables ≡ its.variables → HasValue (view_of its.top st) (own 0) its.root → all_single st.store ≡ true
       → (term_text its.kernel.words (view_of its.top st) (own 0)).bytes ≡ its.shown st.store
 
--- the thread distributes
+-- the space of this search stands at its distributor, for this store
 abbrev pub Stands : Setting → Configuration → Store → Type 0
 Stands its c s = IsDistributing its.kernel.statements its.top its.constraints its.distribution its.start its.variables its.root c s
 
--- the run of the space ends
+-- the run of the space of this search ends: it is failed, solved, or a choice of two alternatives
 abbrev pub Arrives : Setting → Configuration → Store → Type 0
 Arrives its c s = Comes its.kernel its.constraints its.distribution its.shown (Stands its) c s
 
--- the nodes from here on show a tree of the search from this store
+-- the nodes of the search from this configuration on show a search tree below this store
 pub record ShowsSearch (its : Setting) (c : Configuration) (s : Store) : Type 0 where
   pub tree : Tree
   pub is_tree : IsTree its.constraints its.distribution s tree
   pub steps : ℕ
   pub shows : ShowsTree its.kernel node_space (λ m. Solved (its.shown m)) c tree steps
 
--- a step of the space leads from one configuration to another
+-- one turn of the machine, a step of the space, leads from one configuration to another
 abbrev pub StepsTo : Kernel → Configuration → Configuration → Type 0
 StepsTo k c e = (goes_on k.statements c.layers node_space ≡ true) × ◌≡◌ {A = Turned} (turn k c) (Moved 1, e)
 
@@ -67,14 +67,14 @@ pub record StepsLaw (its : Setting) : Type 0 where
   pub back : (c e : Configuration) (s m : Store) → StepsTo its.kernel c e → Runs its.constraints s m → Arrives its e m → Arrives its c s
   pub failing : (c : Configuration) (n : ℕ) (s : Store) → StepsTo its.kernel c (failed_config its.top n) → Fails its.constraints s → Arrives its c s
 
--- it ends once the thread distributes
+-- from where the space stands at its distributor, its run ends
 abbrev pub RunLaw : Type 0
 RunLaw = (its : Setting) (c : Configuration) (s : Store) → IsSearched its → Stands its c s → Arrives its c s
 
--- and where it ends, the nodes show a tree
+-- where its run ends, the nodes from there on show a search tree below its store
 abbrev pub TreeLaw : Type 0
 TreeLaw = (its : Setting) (c : Configuration) (s : Store) → IsSearched its → AreParts s its.start → AreDomains s → Arrives its c s → ShowsSearch its c s
 
--- as they do from where the thread distributes
+-- and so they do from where the space stands at its distributor
 abbrev pub SearchLaw : Type 0
 SearchLaw = (its : Setting) (c : Configuration) (s : Store) → IsSearched its → Stands its c s → ShowsSearch its c s

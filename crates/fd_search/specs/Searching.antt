@@ -1,4 +1,5 @@
--- What a configuration of a search comes to: its space fails, or is solved, or waits to be committed to one of two alternatives.
+-- What a configuration of a search comes to: its computation space fails, is solved, or is stable and waits to be committed to one of two
+-- alternatives (CTM 12.4; Schulte, LNCS 2302, chapter 4).
 use Rattle.std.specs.Prelude.{◌≡◌, ℕ, true, false, List, [], ◌∷◌, Contains, Some, None}
 use Rattle.oz_base.specs.declared.names.Ident.{Ident}
 use Rattle.oz_base.specs.declared.distribution.Split.{Split}
@@ -23,13 +24,14 @@ use Rattle.fd_steps.specs.States as states
 use Rattle.fd_steps.specs.States.{node_of, view_of, IsGood}
 use Rattle.fd_steps.specs.Distributing.{Distributes}
 
--- each variable that the top gave out has a value there
+-- the store of the top is consistent, and each variable that the top created is determined there
 pub record IsKnown (t : Top) : Type 0 where
   pub fits : is_consistent t.tells ≡ true
   pub plain : IsPlain t.tells []
   pub known : (x : Ident) → Contains (variables_of (top_layer t)) x → (v : Value) × HasValue t.tells x v
 
--- all is posted and the thread distributes; these are the variables of the search, and the root variable has this value
+-- the space stands at its distributor: all constraints are posted and the thread distributes; these are the variables of the search, s is
+-- the store, whose domains are parts of those at the start, and the root variable has this value
 pub record IsDistributing (statements : List Statement) (t : Top) (cs : List Constraint) (d : Distribution) (start : Store) (xs : List Ident) (root : Value) (c : Configuration) (s : Store) : Type 0 where
   pub state : states.State
   pub frame : Frame
@@ -42,7 +44,8 @@ pub record IsDistributing (statements : List Statement) (t : Top) (cs : List Con
   pub here : c ≡ config statements t (node_of state (frame ∷ []))
   pub store : state.store ≡ s
 
--- the run of the space has ended, for a store that it stood for
+-- what the space is once its run has ended, for the store that it stood for: failed, solved, or a choice of two alternatives; committed to
+-- one of these it stands for the store of that alternative
 pub data Ends (k : Kernel) (cs : List Constraint) (d : Distribution) (shown : Store → List ℕ) (Stands : Configuration → Store → Type 0) (c : Configuration) (s : Store) : Type 0 where
   failed : Fails cs s → state k.statements c.layers node_space ≡ Some Failed → Ends k cs d shown Stands c s
   solved : (m : Store) → Rests cs s m → choice d m ≡ None → state k.statements c.layers node_space ≡ Some Solved → (state_text k.words c node_space Solved).bytes ≡ shown m → Ends k cs d shown Stands c s
@@ -50,7 +53,7 @@ pub data Ends (k : Kernel) (cs : List Constraint) (d : Distribution) (shown : St
       → ((a : Store) → first_store d p m ≡ Some a → Stands (chosen_in k.statements node_space 1 c) a)
       → ((b : Store) → second_store d p m ≡ Some b → Stands (chosen_in k.statements node_space 2 c) b) → Ends k cs d shown Stands c s
 
--- and so it ends after some turns
+-- the space comes to such an end after some turns, and nothing of it can go on then
 pub record Comes (k : Kernel) (cs : List Constraint) (d : Distribution) (shown : Store → List ℕ) (Stands : Configuration → Store → Type 0) (c : Configuration) (s : Store) : Type 0 where
   pub last : Configuration
   pub turns : ℕ

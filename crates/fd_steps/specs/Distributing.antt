@@ -1,4 +1,4 @@
--- A thread that distributes.
+-- A thread that distributes (distributors, CTM 12.4; Schulte, LNCS 2302, chapter 2).
 use Rattle.std.specs.Prelude.{◌≡◌, List, ◌∷◌}
 use Rattle.oz_language.specs.declared.kernel.Statement.{Statement}
 use Rattle.oz_semantics.specs.Inputs.{Known}
@@ -13,7 +13,7 @@ use Rattle.fd_views.specs.Views.{variables_at}
 use Rattle.fd_turns.specs.Nodes.{Top, answered}
 use Rattle.fd_steps.specs.States.{State, node_of, view_of, IsGood}
 
--- in this state and all later ones the frame on top answers what a distributor does
+-- the statement on top of the thread's stack is a distributor: in this state and in all later ones it answers what the distributor does
 pub record Distributes (statements : List Statement) (t : Top) (cs : List Constraint) (d : Distribution) (st : State) (f : Frame) (rest : List Frame) : Type 0 where
   pub answers : (later : State) → IsGood t cs later → Keeps (view_of t st) (view_of t later) → later.variables ≡ st.variables → (D : machine.Distribution)
       → distribution_of (view_of t later) d.rule (variables_at later.variables d.over) ≡ Known D → answered statements t (node_of later (f ∷ rest)) ≡ distributes (view_of t later) D

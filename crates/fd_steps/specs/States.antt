@@ -1,4 +1,5 @@
--- States of a search's space: what it was told and has posted, and the store that it stands for.
+-- The states of a search's computation space: what it was told and has posted, and the constraint store that it stands for (CTM 12.3, 12.4;
+-- Schulte, LNCS 2302, chapters 2 and 4).
 use Rattle.std.specs.Prelude.{◌≡◌, ◌⊎◌, ◌<◌, ◌≤◌, ℕ, ◌+◌, List, [], ◌∷◌, ◌++◌, length, flat_map, Contains, All, Some, None}
 use Rattle.std.specs.List.{find}
 use Rattle.oz_base.specs.declared.names.Ident.{Ident}
@@ -22,8 +23,8 @@ use Rattle.fd_views.specs.Views.{variables_at, HaveDomains, IsFree, StandsFor}
 use Rattle.fd_runs.specs.Runs.{note_of}
 use Rattle.fd_turns.specs.Nodes.{Top, Node, own}
 
--- what the space was told, its propagators, the number of its next variable, the variables of the search, what it has posted of the
--- constraints, and the store
+-- a state of the space: what it was told, its propagators, the number of its next variable, the variables of the search, which of the
+-- constraints it has posted, and the store of their domains
 pub record State : Type 0 where
   pub tells : List Tell
   pub propagators : List Propagator
@@ -32,55 +33,59 @@ pub record State : Type 0 where
   pub posted : List Constraint
   pub store : Store
 
--- with this left on the stack of its thread
+-- the space in this state, with these frames left on its thread's stack
 abbrev pub node_of : State → List Frame → Node
 node_of st frames = record { tells = st.tells; frames = frames; propagators = st.propagators; next = st.next }
 
+-- the view of the space: what the top and itself were told
 abbrev pub view_of : Top → State → View
 view_of t st = t.tells ++ st.tells
 
 -- The next states
 
--- more was told, and the store was cut to this
+-- the state after a tell: these were told, and this is left of the store
 abbrev pub told_more : List Tell → Store → State → State
 told_more us m st = record st { tells = st.tells ++ us; store = m }
 
--- a variable got a value, or became equal to another
+-- a variable of the space was bound to a value (CTM 2.2), which leaves the search's store as it is
 abbrev pub with_value : ℕ → Value → State → State
 with_value i v st = told_more (Is (own i) v ∷ []) st.store st
 
+-- or to another variable
 abbrev pub with_equation : ℕ → Ident → State → State
 with_equation i y st = told_more (Equal (own i) y ∷ []) st.store st
 
--- so many variables were given out
+-- so many variables were created
 abbrev pub with_room : ℕ → State → State
 with_room n st = record st { next = st.next + n }
 
--- one of them is a further variable of the search
+-- a variable of the space became a further variable of the search
 abbrev pub with_variable : ℕ → State → State
 with_variable i st = record st { variables = st.variables ++ own i ∷ [] }
 
--- a relation was posted
+-- the propagator of a relation over the variables at these positions, before its first run
 abbrev pub new_propagator : State → Relation → List ℕ → Propagator
 new_propagator st r is = record { relation = r; variables = variables_at st.variables is; last = Never }
 
+-- this propagator was posted, and with it the constraint
 abbrev pub with_post : Relation → List ℕ → State → State
 with_post r is st = record st { propagators = st.propagators ++ new_propagator st r is ∷ []; posted = st.posted ++ Posted r is ∷ [] }
 
--- once its variables were told all domain values, as far as that is news
+-- what is told when a propagator is posted: its variables are in the largest domain, as far as that is news
 abbrev pub post_tells : Top → State → List ℕ → List Tell
 post_tells t st is = interval_news (t.tells ++ st.tells) (variables_at st.variables is) whole
 
+-- the state after a post: its variables were told that, and then the propagator was added
 abbrev pub after_post : Top → Relation → List ℕ → State → State
 after_post t r is st = with_post r is (told_more (post_tells t st is) st.store st)
 
 -- Good states
 
--- a variable of the top, or one that the space gave out before number n
+-- a variable of the top, or one that the space created before number n
 abbrev pub IsBelow : ℕ → Ident → Type 0
 IsBelow n x = (x.space ≡ []) ⊎ ((i : ℕ) × (i < n) × (x ≡ own i))
 
--- a propagator is one of the constraints, over variables that have domains, and its note stands
+-- a propagator of the space stands for one of the constraints: it is over variables that have domains, and its note stands
 pub record IsPosted (cs : List Constraint) (view : View) (xs : List Ident) (s : Store) (p : Propagator) : Type 0 where
   pub places : List ℕ
   pub variables : p.variables ≡ variables_at xs places
@@ -89,7 +94,8 @@ pub record IsPosted (cs : List Constraint) (view : View) (xs : List Ident) (s : 
   pub have : HaveDomains view (variables_at xs places)
   pub note : Stands (Posted p.relation places) (note_of p.last) s
 
--- a relation was posted, or it never does anything; a set was told
+-- the space has imposed a constraint: the propagator of a relation is there, or no run of it changes anything; and where a variable was
+-- told to be in a set, its domain has no other values
 abbrev pub IsDone : List Ident → Store → List Propagator → Constraint → Type 0
 IsDone xs s ps (Posted r is) =
     ((m : Store) → run (Posted r is) m ≡ Some m)
@@ -107,7 +113,7 @@ pub record IsGood (t : Top) (cs : List Constraint) (st : State) : Type 0 where
   pub given : (x : Ident) → Contains st.variables x → (i : ℕ) × (i < st.next) × (x ≡ own i)
   pub above : (x y : Ident) → x.space ≡ [] → y.space ≡ [] → Same (view_of t st) x y → Same t.tells x y
 
--- none of the propagators is due
+-- propagation is at its fixpoint: none of the propagators is due
 abbrev pub NoneDue : Top → State → Type 0
 NoneDue t st = find (is_due (view_of t st)) st.propagators ≡ None
 

@@ -1,4 +1,5 @@
--- The laws of runs and of splits.
+-- The laws of runs of propagators, and of the splits of distributors (propagation and distribution, CTM 12.1, 12.3; Schulte, LNCS 2302,
+-- chapter 2; Apt, Principles of Constraint Programming, chapter 7).
 use Rattle.std.specs.Prelude.{◌≡◌, ◌⊎◌, ◌↔◌, ℕ, ◌+◌, ◌<◌, ◌≤◌, ℤ, true, false, List, length, map, Contains, All, Some, None, IsSomeAnd, IfSome, MatchOption}
 use Rattle.oz_base.specs.declared.distribution.Rule.TheVariants.{Naive}
 use Rattle.oz_base.specs.declared.distribution.Split.{Split}
@@ -22,6 +23,7 @@ pub record TellsTo (xs : List ℕ) (ds : List IntSet) (s m : Store) : Type 0 whe
   pub long : length m ≡ length s
   pub remain : (x : ℕ) (q : ℤ) → Has (domain m x) q ↔ Remains xs ds s x q
 
+-- and this holds of all positions within the store
 abbrev pub TellsLaw : Type 0
 TellsLaw = (xs : List ℕ) (ds : List IntSet) (s : Store) → All (λ x. x < length s) xs → length ds ≡ length xs
     → MatchOption (told xs ds s) ((x : ℕ) × Contains xs x × ((q : ℤ) → Remains xs ds s x q → ⊥)) (TellsTo xs ds s)
@@ -66,6 +68,7 @@ pub record AreAlternatives (cs : List Constraint) (s a b : Store) : Type 0 where
   pub first : AreOver cs a × AreParts a s × (total a < total s)
   pub second : AreOver cs b × AreParts b s × (total b < total s)
 
+-- and these are the alternatives of each split that a rule takes
 abbrev pub SplitLaw : Type 0
 SplitLaw = (cs : List Constraint) (d : Distribution) (s : Store) (p : Split) → AreOver cs s → All (λ x. x < length s) d.over → choice d s ≡ Some p
     → IsSomeAnd (first_store d p s) (λ a. IsSomeAnd (second_store d p s) (AreAlternatives cs s a))

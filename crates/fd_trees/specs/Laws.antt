@@ -1,4 +1,5 @@
--- The laws of trees.
+-- The laws of search trees: their leaves are the solutions, and propagation and distribution end (CTM 12.1, 12.3; Schulte, LNCS 2302,
+-- chapter 2 and on search).
 use Rattle.std.specs.Prelude.{◌≡◌, ◌≢◌, ◌↔◌, ℕ, ◌<◌, ℤ, true, List, length, map, Contains, All, AllPairs, Option, IsSomeAnd, IfSome, MatchOption}
 use Rattle.oz_base.specs.declared.distribution.Rule.TheVariants.{Naive}
 use Rattle.oz_domains.specs.Domains.{least}
@@ -30,6 +31,7 @@ pub record AreLeaves (cs : List Constraint) (d : Distribution) (s : Store) (t : 
   pub once : AllPairs (λ u v. u ≢ v) (answers d t)
   pub ordered : d.rule ≡ Naive → AllPairs IsLeft (answers d t)
 
+-- and this holds of each search tree, whatever the order of its runs
 abbrev pub LeavesLaw : Type 0
 LeavesLaw = (cs : List Constraint) (d : Distribution) (s : Store) (t : Tree) → IsSearch cs d s → IsTree cs d s t → AreLeaves cs d s t
 
@@ -56,6 +58,7 @@ pub record Ends (cs : List Constraint) (d : Distribution) (rest : Store → Opti
   pub enough : (n : ℕ) → total s < n → IsSomeAnd (tree rest d n s) (IsTree cs d s)
   pub same : (n m : ℕ) → total s < n → total s < m → tree rest d n s ≡ tree rest d m s
 
+-- and this holds of each way to run a store until nothing is due
 abbrev pub EndsLaw : Type 0
 EndsLaw = (cs : List Constraint) (d : Distribution) (rest : Store → Option Store) (s : Store) → IsSearch cs d s → Settles cs rest → Ends cs d rest s
 

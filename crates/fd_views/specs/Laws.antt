@@ -1,4 +1,5 @@
--- The laws of views of a search.
+-- The laws of views of a search: which tells leave its store as it is, and which inputs the machine reads in such a view (the
+-- single-assignment store, CTM 2.2; basic constraints, CTM 12.3; Schulte, LNCS 2302, chapter 2).
 use Rattle.std.specs.Prelude.{◌≡◌, ◌<◌, ℕ, ℤ, not, List, [], ◌∷◌, ◌++◌, length, flat_map, Contains, All, Some, None, option_map}
 use Rattle.oz_base.specs.declared.names.Ident.{Ident}
 use Rattle.oz_base.specs.declared.relation.Relation.{Relation}
@@ -26,7 +27,7 @@ use Rattle.fd_views.specs.Views.{variable_at, variables_at, IsFree, IsPlain, Sta
 
 -- Views
 
--- a view that stands for domains is consistent
+-- a view that stands for a store without an empty domain is consistent, so that its space has not failed
 abbrev pub ConsistentLaw : Type 0
 ConsistentLaw = (view : View) (xs : List Ident) (s : Store) → StandsFor view xs s → AreDomains s → IsConsistent view
 
@@ -48,7 +49,8 @@ pub record GoesOnLaw : Type 0 where
   pub variable : (view : View) (xs : List Ident) (s : Store) (y : Ident) → StandsFor view xs s → IsFree view y → (Contains xs y → ⊥) → length xs < length s
       → StandsFor view (xs ++ y ∷ []) s
 
--- a variable of the search has the one value of its domain
+-- a variable is determined where its domain has one value, which is then its value; and a propagator is undecided as long as one of its
+-- variables is not determined
 pub record DeterminedLaw : Type 0 where
   pub value : (view : View) (xs : List Ident) (s : Store) (x : ℕ) → StandsFor view xs s → x < length xs → value_of view (variable_at xs x) ≡ option_map integer (only (domain s x))
   pub undecided : (view : View) (xs : List Ident) (s : Store) (r : Relation) (is : List ℕ) (last : LastRun) → StandsFor view xs s → All (λ x. x < length xs) is
@@ -56,24 +58,24 @@ pub record DeterminedLaw : Type 0 where
 
 -- Inputs
 
--- what has a value keeps it, and in a plain view that is its value
+-- a variable that is determined stays so, whatever else is told (the store is monotonic); and in a plain view that is its value
 pub record ValueLaw : Type 0 where
   pub kept : (view : View) (ts : List Tell) (x : Ident) (v : Value) → HasValue view x v → HasValue (view ++ ts) x v
   pub known : (view : View) (xs : List Ident) (x : Ident) (v : Value) → IsPlain view xs → HasValue view x v → value_of view x ≡ Some v
 
--- what a description of a domain is
+-- the bounds that a description of a domain gives: those of an integer i are i and i, and those of L#H are L and H
 pub record BoundsLaw : Type 0 where
   pub one : (view : View) (xs : List Ident) (d : Ident) (i : ℤ) → IsPlain view xs → HasValue view d (integer i) → bounds view d ≡ Known (i, i)
   pub two : (view : View) (xs : List Ident) (d a b : Ident) (low high : ℤ) → IsPlain view xs → HasValue view d (hash_value a b) → HasValue view a (integer low)
       → HasValue view b (integer high) → bounds view d ≡ Known (low, high)
 
--- what a vector is: the fields of a record that is no cell of a list, nothing of a literal, and the elements of a list
+-- the elements of a vector of variables: the fields of a record that is no cell of a list, none of a literal, and the elements of a list
 pub record VectorLaw : Type 0 where
   pub fields : (view : View) (xs : List Ident) (x : Ident) (r : Record) → IsPlain view xs → pair_in bar_word (value.Record r) ≡ None → HasValue view x (value.Record r)
       → vector view x ≡ Known r.fields
   pub none : (view : View) (xs : List Ident) (x : Ident) (l : Literal) → IsPlain view xs → HasValue view x (value.Constant (constant.Literal l)) → vector view x ≡ Known []
   pub elements : (view : View) (xs : List Ident) (x : Ident) (ys : List Ident) → IsPlain view xs → IsList view x ys → vector view x ≡ Known ys
 
--- what a rule is
+-- the atom of a rule is read as this rule of distribution
 abbrev pub RuleLaw : Type 0
 RuleLaw = (view : View) (xs : List Ident) (x : Ident) (r : Rule) → IsPlain view xs → HasValue view x (atom (rule_word r)) → rule_input view x ≡ Known r
