@@ -322,14 +322,8 @@ asked words bytes before after cause answer only h = go (excused_or cause)
     go (inl n) = inl (answered_with words bytes before after cause answer only h n.0 n.1 n.2).0
 
 -- what is done is no fault, and no want of memory
-done_no_fault : {cause : Cause} → cause ≡ causes.Done → cause ≡ causes.ReadFault → ⊥
-done_no_fault is k = cc
-
-done_no_write : {cause : Cause} → cause ≡ causes.Done → cause ≡ causes.WriteFault → ⊥
-done_no_write is k = cc
-
-done_no_memory : {cause : Cause} → cause ≡ causes.Done → cause ≡ causes.NoMemory → ⊥
-done_no_memory is k = cc
+done_no_excuse : {cause : Cause} → cause ≡ causes.Done → IsNoExcuse cause
+done_no_excuse is = (λ k. cc, λ k. cc, λ k. cc)
 
 -- Where they spell a command
 
@@ -358,7 +352,8 @@ module _ (words : List (List ℕ)) (c : Command) (bytes : List ℕ) (before afte
     pub done_written : (front : List ℕ) → cause ≡ causes.Done → before.written ≡ Some front
         → (reply : List ℕ) × (◌≡◌ {A = Answer} (answered c p) (causes.Done, reply)) × (after.written ≡ Some (front ++ reply))
     done_written front is o =
-        let all = written front (answered c p) refl o (λ k. done_no_fault is k) (λ k. done_no_write is k) (λ k. done_no_memory is k) in
+        let n = done_no_excuse is in
+        let all = written front (answered c p) refl o n.0 n.1 n.2 in
         ((answered c p).1, ap (λ (x : Cause). (x, (answered c p).1)) (sym all.0 ∙ is), all.1)
 
 -- the tree of the script is searched
