@@ -160,7 +160,7 @@ module _ (k : Kernel) (t : Top) (cs : List Constraint) (top_fits : is_consistent
       first = start_state s
 
       first_good : IsGood t cs first
-      first_good = start_good t cs s start top.plain top.names
+      first_good = start_good t cs s start top.known.plain top.names
 
       -- the names are declared, and are the first variables of the search
       module _ (st : State) (h : IsGood t cs st) (on : IsLater t cs Nothing first st) (made : State) (good : IsGood t cs made) (later : IsLater t cs Nothing st made) (room : IsLater t cs Nothing (with_room (length names) st) made)
@@ -210,7 +210,7 @@ module _ (k : Kernel) (t : Top) (cs : List Constraint) (top_fits : is_consistent
 
         root_still : IsUntold t joined 0
         root_still =
-            let u = untold_later t cs Nothing st made 0 (untold_later t cs Nothing first st 0 (root_untold t cs s start top.plain top.names) on (λ z. z)) later (λ z. z) in
+            let u = untold_later t cs Nothing st made 0 (untold_later t cs Nothing first st 0 (root_untold t cs s start top.known.plain top.names) on (λ z. z)) later (λ z. z) in
             record {
               inside = u.inside;
               free = u.free;

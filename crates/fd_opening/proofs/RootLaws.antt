@@ -103,9 +103,7 @@ module _ (k : Kernel) (root : ℕ) (body : List ℕ) (number : ℕ) (starts : k.
 
   is_top : IsTop (script_top 2) root body opening_scope
   is_top = record {
-    fits = script_fits made made_top;
-    plain = script_plain made made_top;
-    known = script_known made made_top;
+    known = record { fits = script_fits made made_top; plain = script_plain made made_top; known = script_known made made_top };
     names = script_named made made_top;
     script = (named [] 1, script_there);
     fd_told = fd_told made made_top;

@@ -18,9 +18,8 @@ use Rattle.fd_views.specs.Views.{IsPlain}
 use Rattle.fd_views.proofs.SameLaws.{same_more}
 use Rattle.fd_views.proofs.ValueLaws.{value_told, value_is, value_more}
 use Rattle.fd_runs.proofs.DueLaws.{intervals_itself}
-use Rattle.fd_turns.specs.Nodes.{Top, top_layer, node_space}
+use Rattle.fd_turns.specs.Nodes.{Top, IsKnown, top_layer, node_space}
 use Rattle.fd_steps.specs.States.{State, view_of, IsGood}
-use Rattle.fd_search.specs.Searching.{IsKnown}
 
 values_same : (o p : Option Value) → o ≡ p → values_eq o p ≡ true
 values_same o p e = subst (λ q. values_eq o q ≡ true) e (itself o) where

@@ -17,9 +17,9 @@ use Rattle.fd_trees.specs.Trees.{Tree, IsTree, Follows}
 use Rattle.fd_trees.specs.Laws.{IsSearch}
 use Rattle.fd_nodes.specs.Nodes.{ShowsTree}
 use Rattle.fd_views.specs.Views.{HasValue}
-use Rattle.fd_turns.specs.Nodes.{Top, node_space, own, failed_config}
+use Rattle.fd_turns.specs.Nodes.{Top, IsKnown, node_space, own, failed_config}
 use Rattle.fd_steps.specs.States.{State, view_of, IsGood}
-use Rattle.fd_search.specs.Searching.{IsKnown, IsDistributing, Comes}
+use Rattle.fd_search.specs.Searching.{IsDistributing, Comes}
 
 -- A search: a kernel program and its top, constraints and a distribution over the variables of a store, which are these variables of the
 -- space, the value of the root variable, and the text that shows a solved store.

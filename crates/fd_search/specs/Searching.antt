@@ -1,13 +1,11 @@
 -- What a configuration of a search comes to: its computation space fails, is solved, or is stable and waits to be committed to one of two
 -- alternatives (CTM 12.4; Schulte, LNCS 2302, chapter 4).
-use Rattle.std.specs.Prelude.{◌≡◌, ℕ, true, false, List, [], ◌∷◌, Contains, Some, None}
+use Rattle.std.specs.Prelude.{◌≡◌, ℕ, false, List, [], ◌∷◌, Contains, Some, None}
 use Rattle.oz_base.specs.declared.names.Ident.{Ident}
 use Rattle.oz_base.specs.declared.distribution.Split.{Split}
 use Rattle.oz_domains.specs.Positions.{AreParts}
 use Rattle.oz_language.specs.declared.kernel.Statement.{Statement}
 use Rattle.oz_language.specs.declared.kernel.Kernel.{Kernel}
-use Rattle.oz_semantics.specs.Store.{is_consistent}
-use Rattle.oz_semantics.specs.Configurations.{variables_of}
 use Rattle.oz_semantics.specs.Spaces.{goes_on, state}
 use Rattle.oz_semantics.specs.Search.{chosen_in, state_text}
 use Rattle.oz_semantics.specs.declared.value.Value.{Value}
@@ -17,18 +15,12 @@ use Rattle.oz_semantics.specs.declared.outcome.State.TheVariants.{Failed, Altern
 use Rattle.fd_problems.specs.declared.problem.Distribution.{Distribution}
 use Rattle.fd_stores.specs.Stores.{Store, Constraint, Fails, Rests}
 use Rattle.fd_stores.specs.Choices.{choice, first_store, second_store}
-use Rattle.fd_views.specs.Views.{IsPlain, HasValue}
-use Rattle.fd_turns.specs.Nodes.{Top, top_layer, node_space, own, config}
+use Rattle.fd_views.specs.Views.{HasValue}
+use Rattle.fd_turns.specs.Nodes.{Top, node_space, own, config}
 use Rattle.fd_turns.specs.Moves.{Moves}
 use Rattle.fd_steps.specs.States as states
 use Rattle.fd_steps.specs.States.{node_of, view_of, IsGood}
 use Rattle.fd_steps.specs.Distributing.{Distributes}
-
--- the store of the top is consistent, and each variable that the top created is determined there
-pub record IsKnown (t : Top) : Type 0 where
-  pub fits : is_consistent t.tells ≡ true
-  pub plain : IsPlain t.tells []
-  pub known : (x : Ident) → Contains (variables_of (top_layer t)) x → (v : Value) × HasValue t.tells x v
 
 -- the space stands at its distributor: all constraints are posted and the thread distributes; these are the variables of the search, s is
 -- the store, whose domains are parts of those at the start, and the root variable has this value

@@ -179,7 +179,7 @@ module _ (p : Program) (s : FdScript) (h : IsShaped p s) (problem : IsProblem s.
 
       searched : IsSearched (its base more)
       searched = record {
-        known = record { fits = top.fits; plain = top.plain; known = top.known };
+        known = top.known;
         search = scripts.search s.problem problem;
         inside = All-weaker (λ x. x < count) (λ x. x < length (base ++ more)) (λ x l. (let e = length-append base more in omega (arith, l, e, long))) s.problem.distribution.over problem.over;
         follows = scripts.follows s.problem problem;
@@ -215,7 +215,7 @@ module _ (p : Program) (s : FdScript) (h : IsShaped p s) (problem : IsProblem s.
     }
 
     module _ (stand : AreAt k.statements 0 body) where
-      last_ready : (last : State) (f : Frame) → IsLast k.statements t cs (constraints_from (length vs) items) s.problem.distribution s.label fields (length vs) first last f → Ready k t cs top.fits R back failing last (f ∷ [])
+      last_ready : (last : State) (f : Frame) → IsLast k.statements t cs (constraints_from (length vs) items) s.problem.distribution s.label fields (length vs) first last f → Ready k t cs top.known.fits R back failing last (f ∷ [])
       unfolding last_stands
       last_ready last f w =
           let long : length w.base ≡ count = w.count ∙ sym h.count in
@@ -236,7 +236,7 @@ module _ (p : Program) (s : FdScript) (h : IsShaped p s) (problem : IsProblem s.
           let items_fit : (i : Item) → Contains items i → IsItem (length vs) i = λ i c. subst (λ n. IsItem n i) h.count (problem.items i c) in
           let among : (c : Constraint) → Contains (constraints_from (length vs) items) c → Contains cs c = λ c i. subst (λ n. Contains (constraints_from n items) c) (sym h.count) i in
           let long : length first ≡ length vs + products_in items = start_long ∙ ap (λ n. n + products_in items) h.count in
-          (script_ready k t cs top.fits R back failing h.root h.names vs e0 script s.label fields (let r = h.recorded in r.variables) items s.problem.distribution statements coded top stand first begin long items_fit among reads last_ready).1 refl
+          (script_ready k t cs top.known.fits R back failing h.root h.names vs e0 script s.label fields (let r = h.recorded in r.variables) items s.problem.distribution statements coded top stand first begin long items_fit among reads last_ready).1 refl
 
       shows_search : (base more : List Ident) → length base ≡ count → Arrives (its base more) (config k.statements t (node_of (start_state first) root_frames)) first
           → ShowsSearch (its base more) (config k.statements t (node_of (start_state first) root_frames)) first

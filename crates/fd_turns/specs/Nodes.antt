@@ -1,14 +1,16 @@
 -- The configurations of a search: a script's one computation space, which has one thread, below a top-level space that rests (the abstract
 -- machine, CTM 2.4; computation spaces, CTM 12.4; Schulte, LNCS 2302, chapter 4).
-use Rattle.std.specs.Prelude.{ℕ, if◌then◌else◌, List, [], ◌∷◌, ◌++◌}
+use Rattle.std.specs.Prelude.{◌≡◌, ℕ, true, if◌then◌else◌, List, [], ◌∷◌, ◌++◌, Contains}
 use Rattle.oz_base.specs.declared.names.Ident.{Ident}
 use Rattle.oz_language.specs.declared.kernel.Statement.{Statement}
 use Rattle.oz_semantics.specs.Names.{named}
-use Rattle.oz_semantics.specs.Store.{View}
+use Rattle.oz_semantics.specs.Store.{View, is_consistent}
+use Rattle.oz_semantics.specs.Configurations.{variables_of}
 use Rattle.oz_semantics.specs.Sights.{can_step}
 use Rattle.oz_semantics.specs.Answers.{Answer}
 use Rattle.oz_semantics.specs.Statements.{stack_answer}
 use Rattle.oz_semantics.specs.Readiness.{answer_ready}
+use Rattle.oz_semantics.specs.declared.value.Value.{Value}
 use Rattle.oz_semantics.specs.declared.value.Tell.{Tell}
 use Rattle.oz_semantics.specs.declared.configuration.Frame.{Frame}
 use Rattle.oz_semantics.specs.declared.configuration.Thread.{Thread}
@@ -18,6 +20,7 @@ use Rattle.oz_semantics.specs.declared.configuration.Next.{Next}
 use Rattle.oz_semantics.specs.declared.configuration.Layer.{Layer}
 use Rattle.oz_semantics.specs.declared.configuration.Configuration.{Configuration}
 use Rattle.view_laws.specs.Readies.{seeing}
+use Rattle.fd_views.specs.Views.{IsPlain, HasValue}
 
 -- the top-level space at rest: what was told to its store, and the next numbers that it gives out
 pub record Top : Type 0 where
@@ -27,6 +30,12 @@ pub record Top : Type 0 where
 -- the layer of the top: it has no threads, triggers, propagators, cells or ports
 abbrev pub top_layer : Top → Layer
 top_layer t = record { space = []; status = status.Open; tells = t.tells; threads = []; triggers = []; propagators = []; cells = []; ports = []; next = t.next }
+
+-- the store of the top is consistent and has no domains, and each variable that the top created is determined there
+pub record IsKnown (t : Top) : Type 0 where
+  pub fits : is_consistent t.tells ≡ true
+  pub plain : IsPlain t.tells []
+  pub known : (x : Ident) → Contains (variables_of (top_layer t)) x → (v : Value) × HasValue t.tells x v
 
 -- the name of the search's computation space, which is the first child of the top
 abbrev pub node_space : List ℕ
