@@ -1,5 +1,5 @@
--- The tree of a search for a least cost: a node is told that the cost is below what was found when it was begun (Schulte, LNCS
--- 2302, chapter 9: branch and bound).
+-- The tree of a search for a least cost: a node is told that the cost is below what was found when it was begun (branch and
+-- bound: Schulte, LNCS 2302, on search).
 use Rattle.std.specs.Prelude.{◌≡◌, ℕ, ℤ, ◌≤ℤ◌, int_lt, List, [], ◌++◌, Contains, Option, Some, None, ◌<◌, length, map}
 use Rattle.std.specs.Option.{option_to_list}
 use Rattle.oz_base.specs.declared.distribution.Split.{Split}

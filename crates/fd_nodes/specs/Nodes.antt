@@ -1,5 +1,5 @@
 -- The nodes of a machine's search that show the tree of a search over stores, and what their depth-first traversal finds (Schulte,
--- LNCS 2302, chapter 9; CTM 12.4).
+-- LNCS 2302, on search; CTM 12.4).
 use Rattle.std.specs.Prelude.{◌≡◌, ℕ, ◌+◌, ◌-◌, ◌<◌, ◌≤◌, false, List, map, Some, None}
 use Rattle.oz_language.specs.declared.kernel.Kernel.{Kernel}
 use Rattle.oz_search.specs.declared.leaf.Outcome.{Outcome}

@@ -1,5 +1,5 @@
 -- A tree of reports that shows the tree of a search over stores, and what its depth-first traversal finds (Schulte, LNCS 2302,
--- chapter 9).
+-- on search).
 use Rattle.std.specs.Prelude.{◌≡◌, ℕ, ◌+◌, ◌<◌, ◌≤◌, true, false, List, [], ◌∷◌, ◌++◌, Some, None}
 use Rattle.oz_search.specs.declared.tree.Kind.TheVariants.{Alternatives, End}
 use Rattle.oz_search.specs.Searches.{Search}

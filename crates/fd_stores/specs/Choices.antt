@@ -1,5 +1,5 @@
--- How a store is distributed: the split that a rule takes, and the stores of its two alternatives (Schulte, LNCS 2302, chapters 4
--- and 9; CTM chapter 12).
+-- How a store is distributed: the split that a rule takes, and the stores of its two alternatives (Schulte, LNCS 2302, chapters 2
+-- and 4; CTM chapter 12).
 use Rattle.std.specs.Prelude.{ℕ, not, Option, slice_index_or}
 use Rattle.oz_base.specs.declared.distribution.Split.{Split}
 use Rattle.oz_domains.specs.Passes.{keep}

@@ -1,4 +1,4 @@
--- The tree of a search over stores, its leaves, and what is found there (Schulte, LNCS 2302, chapters 4 and 9; CTM chapter 12).
+-- The tree of a search over stores, its leaves, and what is found there (Schulte, LNCS 2302, chapter 4 and on search; CTM chapter 12).
 use Rattle.std.specs.Prelude.{◌≡◌, ℕ, zero, suc, ℤ, Bool, true, List, [], ◌∷◌, ◌++◌, map, Contains, Option, Some, None, option_and_then}
 use Rattle.oz_base.specs.declared.distribution.Split.{Split}
 use Rattle.oz_base.specs.declared.relation.Relation.TheVariants.{Times}
