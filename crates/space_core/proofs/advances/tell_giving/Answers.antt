@@ -1,5 +1,6 @@
-use Rattle.std.proofs.Common.{◌≡◌, ◌++◌, false, slice_set, subst}
+use Rattle.std.proofs.Common.{◌≡◌, ◌++◌, ◌∙◌, List, length, ap, false, slice_set, subst}
 use Rattle.oz_semantics.specs.Store.{is_consistent}
+use Rattle.oz_semantics.specs.declared.configuration.Propagator.{Propagator}
 use Rattle.space_core.specs.Telling.{IsToldThrough}
 use Rattle.space_core.specs.declared.level.Level.{Level}
 use Rattle.space_core.proofs.AdvanceLaws.{told_at, restored, given_level}
@@ -26,10 +27,10 @@ returns-in-Ok-false-clause-told c =
           c.in_ok-objects.ensures.ok c.tell_through.new.levels.items told.left told.before told.read)
           told.clash;
       left = restored c.args.levels.now.items c.args.place c.requires c.args.given.now c.index-level.result.now c.index_mut.result.now c.give.new.level c.index-level.ensures c.index_mut.ensures.value
-          c.in_ok-objects.ensures.ok c.tell_through.new.levels.items told.left c.index_mut-in-Ok-false.result.now c.index_mut-in-Ok-false.ensures.value c.in_ok-objects.objects c.in_ok-objects.ensures.before c.len-posted.result c.len-posted.ensures c.set_back.new.level c.set_back.ensures;
+          c.in_ok-objects.ensures.ok c.tell_through.new.levels.items told.left c.index_mut-in-Ok-false.result.now c.index_mut-in-Ok-false.ensures.value c.in_ok-objects.objects c.in_ok-objects.ensures.before c.len-posted.result (c.len-posted.ensures ∙ ap (λ (ps : List Propagator). length ps) c.propagators.ensures) c.set_back.new.level c.set_back.ensures;
     }
 
 pub returns-in-Err-clause-err : goal.returns-in-Err-clause-err
 returns-in-Err-clause-err c =
     restored c.args.levels.now.items c.args.place c.requires c.args.given.now c.index-level.result.now c.index_mut.result.now c.give.new.level c.index-level.ensures c.index_mut.ensures.value
-    c.in_ok-objects.ensures.ok c.tell_through.new.levels.items c.in-Err.ensures.err c.index_mut-in-Err.result.now c.index_mut-in-Err.ensures.value c.in_ok-objects.objects c.in_ok-objects.ensures.before c.len-posted.result c.len-posted.ensures c.set_back-in-Err.new.level c.set_back-in-Err.ensures
+    c.in_ok-objects.ensures.ok c.tell_through.new.levels.items c.in-Err.ensures.err c.index_mut-in-Err.result.now c.index_mut-in-Err.ensures.value c.in_ok-objects.objects c.in_ok-objects.ensures.before c.len-posted.result (c.len-posted.ensures ∙ ap (λ (ps : List Propagator). length ps) c.propagators.ensures) c.set_back-in-Err.new.level c.set_back-in-Err.ensures
