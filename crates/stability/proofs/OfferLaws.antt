@@ -1,12 +1,12 @@
 -- What a commitment comes to.
-use Rattle.std.proofs.Common.{◌≡◌, ℕ, ℤ, pos, negsuc, ◌&&◌, Bool, true, false, if◌then◌else◌, List, [], ◌∷◌, map, get_or, Option, Some, None, MatchOption, Result, refl, sym, ap, ◌∙◌, subst}
-use Rattle.std.specs.Prelude.{is_some, position, nat_le, IfOk}
+use Rattle.std.proofs.Common.{◌≡◌, ◌<◌, ℕ, ℤ, pos, negsuc, ◌&&◌, Bool, true, false, if◌then◌else◌, List, [], ◌∷◌, map, length, get_or, Option, Some, None, MatchOption, Result, Ok, Err, refl, sym, ap, ◌∙◌, subst, arith}
+use Rattle.std.specs.Prelude.{is_some, position, nat_le, IfOk, OnErr}
 use Rattle.std.specs.declared.alloc.AllocError.{AllocError}
 use Rattle.std.proofs.lemmas.Result.{IfOk-weaker}
 use Rattle.std.specs.List.{filter_map, cons_option}
 use Rattle.std.proofs.lemmas.Option.{get_or_from_slice_get}
 use Rattle.std.proofs.lemmas.Bool.{false≢true}
-use Rattle.oz_base.specs.Lists.{first}
+use Rattle.oz_base.specs.Lists.{first, is_empty}
 use Rattle.oz_base.specs.ListLaws.{list_eq-decides}
 use Rattle.oz_base.specs.declared.names.Ident.{Ident}
 use Rattle.oz_language.specs.declared.kernel.Statement.{Statement}
@@ -38,6 +38,16 @@ use Rattle.stability.specs.Offers.{offers, IsOffered, GoesOnAs, IsChoice, Commit
 use Rattle.stability.specs.declared.offers.Choice.{Choice}
 use Rattle.stability.specs.declared.offers.Choice.TheVariants as choices
 use Rattle.stability.proofs.ReadyLaws.{open_readinesses}
+
+-- a list with a place is not empty
+pub has_place : {A : Type 0} (xs : List A) (i : ℕ) → i < length xs → is_empty xs ≡ false
+has_place [] i h = absurd (omega (arith, h))
+has_place (x ∷ xs) i h = refl
+
+-- what holds at all holds where something is refused
+pub if_refused : {A E P : Type 0} (r : Result A E) → P → OnErr r P
+if_refused (Ok x) h = tt
+if_refused (Err e) h = h
 
 -- what a thread offers that offers something
 pub some_of : {A : Type 0} (o : Option A) → is_some o ≡ true → (x : A) × (o ≡ Some x)
