@@ -9,3 +9,6 @@ returns-in-Some-clause-child c = λ e.
 
 pub returns-in-Some-clause-all : goal.returns-in-Some-clause-all
 returns-in-Some-clause-all c = λ h. c.is_some.ensures ∙ ap is_some c.place-in-Some.ensures ∙ there_position c.args.self.now c.args.child.now h.child_there
+
+pub returns-in-None-clause-all : goal.returns-in-None-clause-all
+returns-in-None-clause-all c = λ h. ap is_some c.in-None.ensures ∙ there_position c.args.self.now c.args.parent.now h.parent_there
