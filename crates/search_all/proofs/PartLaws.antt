@@ -27,6 +27,10 @@ use Rattle.term_store.specs.contracts.cell.Cell as cell
 use Rattle.term_store.specs.contracts.log.Log as log
 use Rattle.term_store.specs.contracts.classes.Classes as classes
 use Rattle.term_store.specs.contracts.store.Store as store
+use Rattle.watching.specs.contracts.keys.Keys as keys
+use Rattle.watching.specs.contracts.watched.Watched as watched
+use Rattle.watching.specs.contracts.watch.Watch as watch
+use Rattle.space_core.specs.contracts.constraints.Constraints as constraints
 use Rattle.space_core.specs.contracts.threads.Threads as threads
 use Rattle.space_core.specs.contracts.level.Numbers as numbers
 use Rattle.space_core.specs.contracts.level.Level as level
@@ -35,7 +39,7 @@ use Rattle.oz_threads.specs.contracts.queue.Queue as queue
 use Rattle.oz_machine.specs.contracts.course.Due as due
 use Rattle.oz_machine.specs.contracts.course.Course as course
 use Rattle.oz_machine.specs.contracts.machine.Machine as machine
-use denote.Builtin.{u8, u64}
+use denote.Builtin.{u8, u64, usize}
 
 pub tell_send : IsSend ident.the_row → IsSend value.the_row → IsSend (sequence.the_row interval.the_row) → IsSend told.the_row
 tell_send i v d = variants_send told.enum ((i, (i, tt)), ((i, (v, tt)), ((i, (d, tt)), tt)))
@@ -124,17 +128,36 @@ numbers_send = declared_send numbers.the_type (search sendable, (search sendable
 numbers_sync : IsSync numbers.the_row
 numbers_sync = declared_sync numbers.the_type (search sendable, (search sendable, (search sendable, (search sendable, tt))))
 
-level_send : IsSend name.the_row → IsSend status.the_row → IsSend store.the_row → IsSend (sequence.the_row ident.the_row) → IsSend (sequence.the_row thread.the_row) → IsSend (sequence.the_row trigger.the_row) → IsSend (sequence.the_row propagator.the_row) → IsSend objects.the_row → IsSend level.the_row
-level_send s t u i h q p o = declared_send level.the_type (s, (t, (u, (search sendable, (i, (threads_send h, (q, (p, (o, (numbers_send, (search sendable, (search sendable, (search sendable, tt)))))))))))))
+-- which propagators may be due
+keys_send : IsSend (list.the_row ident.the_row) → IsSend (list.the_row usize) → IsSync (list.the_row usize) → IsSend keys.the_row
+keys_send i s y = declared_send keys.the_type (i, (map_send (list.the_row usize) s y, tt))
 
-level_sync : IsSync name.the_row → IsSync status.the_row → IsSync store.the_row → IsSync (sequence.the_row ident.the_row) → IsSync (sequence.the_row thread.the_row) → IsSync (sequence.the_row trigger.the_row) → IsSync (sequence.the_row propagator.the_row) → IsSync objects.the_row → IsSync level.the_row
-level_sync s t u i h q p o = declared_sync level.the_type (s, (t, (u, (search sendable, (i, (threads_sync h, (q, (p, (o, (numbers_sync, (search sendable, (search sendable, (search sendable, tt)))))))))))))
+keys_sync : IsSync (list.the_row ident.the_row) → IsSend (list.the_row usize) → IsSync (list.the_row usize) → IsSync keys.the_row
+keys_sync i s y = declared_sync keys.the_type (i, (map_sync (list.the_row usize) s y, tt))
 
-pub levels_send : IsSend name.the_row → IsSend status.the_row → IsSend store.the_row → IsSend (sequence.the_row ident.the_row) → IsSend (sequence.the_row thread.the_row) → IsSend (sequence.the_row trigger.the_row) → IsSend (sequence.the_row propagator.the_row) → IsSend objects.the_row → IsSend levels.the_row
-levels_send s t u i h q p o = view_send _ _ _ _ _ (declared_send levels.TheInside.the_type (Vec-send level.the_row (level_send s t u i h q p o), tt))
+pub watch_send : IsSend (list.the_row ident.the_row) → IsSend (list.the_row usize) → IsSync (list.the_row usize) → IsSend (sequence.the_row usize) → IsSend watch.the_row
+watch_send i s y d = declared_send watch.the_type (declared_send watched.the_type (keys_send i s y, (d, tt)), (search sendable, tt))
 
-pub levels_sync : IsSync name.the_row → IsSync status.the_row → IsSync store.the_row → IsSync (sequence.the_row ident.the_row) → IsSync (sequence.the_row thread.the_row) → IsSync (sequence.the_row trigger.the_row) → IsSync (sequence.the_row propagator.the_row) → IsSync objects.the_row → IsSync levels.the_row
-levels_sync s t u i h q p o = view_sync _ _ _ _ _ (declared_sync levels.TheInside.the_type (Vec-sync level.the_row (level_sync s t u i h q p o), tt))
+pub watch_sync : IsSync (list.the_row ident.the_row) → IsSend (list.the_row usize) → IsSync (list.the_row usize) → IsSync (sequence.the_row usize) → IsSync watch.the_row
+watch_sync i s y d = declared_sync watch.the_type (declared_sync watched.the_type (keys_sync i s y, (d, tt)), (search sendable, tt))
+
+pub constraints_send : IsSend store.the_row → IsSend (sequence.the_row propagator.the_row) → IsSend watch.the_row → IsSend constraints.the_row
+constraints_send s p w = view_send _ _ _ _ _ (declared_send constraints.TheInside.the_type (s, (p, (w, (search sendable, tt)))))
+
+pub constraints_sync : IsSync store.the_row → IsSync (sequence.the_row propagator.the_row) → IsSync watch.the_row → IsSync constraints.the_row
+constraints_sync s p w = view_sync _ _ _ _ _ (declared_sync constraints.TheInside.the_type (s, (p, (w, (search sendable, tt)))))
+
+level_send : IsSend name.the_row → IsSend status.the_row → IsSend constraints.the_row → IsSend (sequence.the_row ident.the_row) → IsSend (sequence.the_row thread.the_row) → IsSend (sequence.the_row trigger.the_row) → IsSend objects.the_row → IsSend level.the_row
+level_send s t c i h q o = declared_send level.the_type (s, (t, (c, (search sendable, (i, (threads_send h, (q, (o, (numbers_send, (search sendable, (search sendable, (search sendable, tt))))))))))))
+
+level_sync : IsSync name.the_row → IsSync status.the_row → IsSync constraints.the_row → IsSync (sequence.the_row ident.the_row) → IsSync (sequence.the_row thread.the_row) → IsSync (sequence.the_row trigger.the_row) → IsSync objects.the_row → IsSync level.the_row
+level_sync s t c i h q o = declared_sync level.the_type (s, (t, (c, (search sendable, (i, (threads_sync h, (q, (o, (numbers_sync, (search sendable, (search sendable, (search sendable, tt))))))))))))
+
+pub levels_send : IsSend name.the_row → IsSend status.the_row → IsSend constraints.the_row → IsSend (sequence.the_row ident.the_row) → IsSend (sequence.the_row thread.the_row) → IsSend (sequence.the_row trigger.the_row) → IsSend objects.the_row → IsSend levels.the_row
+levels_send s t c i h q o = view_send _ _ _ _ _ (declared_send levels.TheInside.the_type (Vec-send level.the_row (level_send s t c i h q o), tt))
+
+pub levels_sync : IsSync name.the_row → IsSync status.the_row → IsSync constraints.the_row → IsSync (sequence.the_row ident.the_row) → IsSync (sequence.the_row thread.the_row) → IsSync (sequence.the_row trigger.the_row) → IsSync objects.the_row → IsSync levels.the_row
+levels_sync s t c i h q o = view_sync _ _ _ _ _ (declared_sync levels.TheInside.the_type (Vec-sync level.the_row (level_sync s t c i h q o), tt))
 
 pub machine_send : IsSend (shared.the_row kernel.the_row) → IsSend levels.the_row → IsSend queue.the_row → IsSend ident.the_row → IsSend (option.the_row ident.the_row) → IsSend (list.the_row (sequence.the_row u8)) → IsSend machine.the_row
 machine_send k l q i o s = view_send _ _ _ _ _ (declared_send machine.TheInside.the_type (k, (declared_send course.the_type (l, (q, (due_send i o, (s, tt)))), (search sendable, tt))))

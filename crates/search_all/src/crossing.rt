@@ -1,5 +1,5 @@
 //! What may cross threads, from its parts up.
-ghost use denote.Builtin.{u8};
+ghost use denote.Builtin.{u8, usize};
 ghost use Rattle.std.specs.Thread.{IsSend, IsSync};
 ghost use Rattle.std.specs.contracts.option.Option as option;
 ghost use Rattle.oz_base.specs.contracts.names.SpaceName as name;
@@ -23,6 +23,8 @@ ghost use Rattle.term_store.specs.contracts.class_domain.ClassDomain as class_do
 ghost use Rattle.term_store.specs.contracts.cell.Cell as cell;
 ghost use Rattle.term_store.specs.contracts.classes.Classes as classes;
 ghost use Rattle.term_store.specs.contracts.store.Store as store;
+ghost use Rattle.watching.specs.contracts.watch.Watch as watch;
+ghost use Rattle.space_core.specs.contracts.constraints.Constraints as constraints;
 ghost use Rattle.space_core.specs.contracts.levels.Levels as levels;
 ghost use Rattle.oz_threads.specs.contracts.queue.Queue as queue;
 ghost use Rattle.oz_machine.specs.contracts.machine.Machine as machine;
@@ -259,17 +261,49 @@ fn store_crosses()
     classes_cross();
 }
 
+fn indices_cross()
+    ensures send { IsSend (sequence.the_row usize) }
+    ensures sync { IsSync (sequence.the_row usize) }
+{
+    sends::<Sequence<usize>>();
+    shares::<Sequence<usize>>();
+}
+
+fn index_lists_cross()
+    ensures send { IsSend (list.the_row usize) }
+    ensures sync { IsSync (list.the_row usize) }
+{
+    list_crosses::<usize>();
+}
+
+fn watch_crosses()
+    ensures send { IsSend watch.the_row }
+    ensures sync { IsSync watch.the_row }
+{
+    ident_lists_cross();
+    index_lists_cross();
+    indices_cross();
+}
+
+fn constraints_cross()
+    ensures send { IsSend constraints.the_row }
+    ensures sync { IsSync constraints.the_row }
+{
+    store_crosses();
+    propagators_cross();
+    watch_crosses();
+}
+
 fn levels_cross()
     ensures send { IsSend levels.the_row }
     ensures sync { IsSync levels.the_row }
 {
-    store_crosses();
     names_cross();
     status_crosses();
+    constraints_cross();
     idents_cross();
     threads_cross();
     triggers_cross();
-    propagators_cross();
     objects_cross();
 }
 
