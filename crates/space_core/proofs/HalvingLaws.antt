@@ -1,6 +1,6 @@
 -- That a search by halves finds the place of a space, where names stand in their order.
-use Rattle.std.proofs.Common.{◌≡◌, ℕ, zero, suc, ◌<◌, ◌≤◌, Bool, true, false, List, [], ◌∷◌, Some, None, length, map, slice_index_or, refl, sym, ap, subst, ◌∙◌, arith, inl, inr}
-use Rattle.std.specs.Prelude.{position}
+use Rattle.std.proofs.Common.{◌≡◌, ℕ, zero, suc, ◌<◌, ◌≤◌, Bool, true, false, List, [], ◌∷◌, Some, None, length, slice_index_or, refl, sym, ap, subst, ◌∙◌, arith, inl, inr}
+use Rattle.std.specs.Prelude.{position, nat_lt}
 use Rattle.std.specs.List.{list_all}
 use Rattle.std.specs.Option.{option_map}
 use Rattle.std.specs.Ordering.{nat_cmp, ordering_index, ordering_reverse, is_lt, is_eq}
@@ -12,6 +12,7 @@ use Rattle.std.specs.declared.cmp.Ordering.{Ordering}
 use Rattle.std.specs.declared.cmp.Ordering.TheVariants.{Less, Equal as Level, Greater}
 use Rattle.std.specs.Cmp.Lexicographic.{slice_cmp}
 use Rattle.std.proofs.lemmas.Bool.{false≢true, cases_lt}
+use Rattle.std.proofs.lemmas.Bool.Decides.{nat_tests}
 use Rattle.std.proofs.lemmas.Cmp.{nat_list_cmp_total, tied_itself}
 use Rattle.std.proofs.lemmas.Map.Lookups.{exact_bytes}
 use Rattle.oz_base.specs.Lists.{list_eq}
@@ -21,7 +22,6 @@ use Rattle.oz_semantics.specs.Configurations.{is_of}
 use Rattle.oz_semantics.specs.declared.configuration.Layer.{Layer}
 use Rattle.view_laws.specs.Trees.{is_ascending, names_of}
 use Rattle.oz_laws.proofs.SameLaws.{and-left, and-right}
-use Rattle.view_laws.proofs.Members.{each}
 use Rattle.view_laws.proofs.TreeLaws.{lt_itself}
 use Rattle.space_core.specs.declared.level.Level.{Level as Kept}
 use Rattle.space_core.specs.Shown.{shown_all}
@@ -114,6 +114,18 @@ order_to x l = slice_cmp nat_cmp l.space x
 by_names : (ls : List Kept) (x : List ℕ) → position (λ s. list_eq s x) (names_of (shown_all ls)) ≡ position (is_of x) (shown_all ls)
 by_names ls x = sym (position_shown (λ (l : Layer). l.space) (λ s. list_eq s x) (shown_all ls))
 
+-- a space that is found at a place of spaces in their order has its place there
+stands_at : (ls : List Kept) (x : List ℕ) (i : ℕ) (d : Kept) → is_ascending (names_of (shown_all ls)) ≡ true → i < length ls → (slice_index_or ls i d).space ≡ x
+    → position (is_of x) (shown_all ls) ≡ Some i
+stands_at ls x i d ascending within same =
+    sym (by_names ls x) ∙ found_name x (names_of (shown_all ls)) i d.space ascending (rw (as_many ls) within) (named_at ls i d ∙ same)
+
+-- and so by a look at that place
+pub seen_at : (ls : List Kept) (x : List ℕ) (i : ℕ) (d : Kept) → is_ascending (names_of (shown_all ls)) ≡ true → true ≡ nat_lt i (length ls) → d ≡ slice_index_or ls i d → list_eq d.space x ≡ true
+    → position (is_of x) (shown_all ls) ≡ Some i
+seen_at ls x i d ascending within there same =
+    stands_at ls x i d ascending (grind (arith, nat_tests, within)) (sym (ap (λ (l : Kept). l.space) there) ∙ (list_eq-decides d.space x).0 same)
+
 none_lower : (ls : List Kept) (x : List ℕ) → is_ascending (names_of (shown_all ls)) ≡ true → IsNonDecreasingBy (λ (l : Kept). ordering_index (slice_cmp nat_cmp l.space x)) ls
 none_lower ls x ascending i j d h k =
     subst (λ s. ordering_index (slice_cmp nat_cmp s x) ≤ ordering_index (order_to x (slice_index_or ls j d))) (named_at ls i d)
@@ -134,8 +146,7 @@ pub halves : (ls : List Kept) (x : List ℕ) (r : Result ℕ ℕ) → is_ascendi
 halves [] x (Ok i) ascending within found = absurd (omega (arith, within))
 halves [] x (Err i) ascending within parts = refl
 halves (d ∷ ls) x (Ok i) ascending within found =
-    sym (found_name x (names_of (shown_all (d ∷ ls))) i d.space ascending (rw (as_many (d ∷ ls)) within) (named_at (d ∷ ls) i d ∙ exact_bytes (slice_index_or (d ∷ ls) i d).space x (found d)))
-    ∙ by_names (d ∷ ls) x
+    sym (stands_at (d ∷ ls) x i d ascending within (exact_bytes (slice_index_or (d ∷ ls) i d).space x (found d)))
 halves (d ∷ ls) x (Err i) ascending within parts =
     sym (absent_name x (names_of (shown_all (d ∷ ls))) d.space (λ j h. ap (λ s. list_eq s x) (named_at (d ∷ ls) j d)
     ∙ split_apart (d ∷ ls) x i (parts (none_lower (d ∷ ls) x ascending)) j d (rw (sym (as_many (d ∷ ls))) h)))

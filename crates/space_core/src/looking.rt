@@ -29,20 +29,27 @@ fn is_first(levels: &[Level], space: &SpaceName) -> bool
     }
 }
 
-/// Whether a space stands behind the first one.
-fn is_second(levels: &[Level], space: &SpaceName) -> bool
-    ensures { result ≡ true → position (is_of space.now) (shown_all levels.now) ≡ Some 1 }
+/// Where a space stands if no older sibling of it, or of a space above it, has spaces below: as children are numbered from 1, at the sum of
+/// the numbers that lead to it. It need not stand there.
+fn guess(space: &SpaceName) -> usize {
+    space.as_slice().iter().fold(0, |place: usize, number| {
+        place.saturating_add(*number as usize)
+    })
+}
+
+/// Whether a space stands at a place.
+fn is_at(levels: &[Level], space: &SpaceName, place: usize) -> bool
+    requires { IsSound levels.now }
+    ensures { result ≡ true → position (is_of space.now) (shown_all levels.now) ≡ Some place }
 {
-    match levels {
-        [first, level, ..] => {
-            !same_space(&first.space, space) && same_space(&level.space, space)
-        }
-        _ => false,
+    match levels.get(place) {
+        Some(level) => same_space(&level.space, space),
+        None => false,
     }
 }
 
-/// The place of a space. The spaces stand in the order of their names, so that half of those that are left fall away with each look. The
-/// top, and the space behind it, are found at once.
+/// The place of a space. The top, and a space that stands where it is guessed to stand, are found at once. For another one, half of those
+/// that are left fall away with each look, since the spaces stand in the order of their names.
 pub fn level_position(levels: &[Level], space: &SpaceName) -> Option<usize>
     requires { IsSound levels.now }
     ensures { result ≡ position (is_of space.now) (shown_all levels.now) }
@@ -50,8 +57,9 @@ pub fn level_position(levels: &[Level], space: &SpaceName) -> Option<usize>
     if is_first(levels, space) {
         return Some(0);
     }
-    if is_second(levels, space) {
-        return Some(1);
+    let place = guess(space);
+    if is_at(levels, space, place) {
+        return Some(place);
     }
     levels
         .binary_search_by(|level| name_order(level, space))
