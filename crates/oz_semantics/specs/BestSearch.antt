@@ -1,7 +1,7 @@
 -- Best search by branch and bound (Schulte, LNCS 2302, on search; CTM 12.4): a space that is committed to an alternative is told
 -- besides that its cost is below a bound. The cost is a field of the root variable.
-use Rattle.std.specs.Prelude.{ℕ, ℤ, pos, ◌-ℤ◌, int_le, if◌then◌else◌, List, [], ◌∷◌, Option, Some, None, option_map, map}
-use Rattle.std.specs.Int.{int_min}
+use Rattle.std.specs.Prelude.{ℕ, ℤ, pos, ◌-ℤ◌, List, [], Option, Some, None, option_map}
+use Rattle.std.specs.Int.{int_min, int_max}
 use Rattle.std.specs.Option.{option_and_then, option_to_list}
 use Rattle.oz_base.specs.declared.names.Ident.{Ident}
 use Rattle.oz_base.specs.declared.interval.Interval.{Interval}
@@ -19,14 +19,13 @@ use Rattle.oz_search.specs.declared.tree.Kind.{Kind}
 use Rattle.oz_search.specs.declared.tree.Kind.TheVariants as kinds
 use Rattle.oz_semantics.specs.Names.{root_of}
 use Rattle.oz_semantics.specs.Values.{integer_in, fields_of}
-use Rattle.oz_semantics.specs.Store.{View, value_of, news}
-use Rattle.oz_semantics.specs.Builtins.{arity_in, field_at}
+use Rattle.oz_semantics.specs.Store.{View, value_of}
+use Rattle.oz_semantics.specs.Builtins.{arity_in, field_at, interval_news}
 use Rattle.oz_semantics.specs.Configurations.{view, in_layer, telling}
 use Rattle.oz_semantics.specs.Edits.{committed}
 use Rattle.oz_semantics.specs.Search.{script_variable, followed, with_root, search_space, node_at}
 use Rattle.oz_semantics.specs.declared.value.Value.{Value}
 use Rattle.oz_semantics.specs.declared.value.Tell.{Tell}
-use Rattle.oz_semantics.specs.declared.value.Tell.TheVariants.{Within}
 use Rattle.oz_semantics.specs.declared.configuration.Layer.{Layer}
 use Rattle.oz_semantics.specs.declared.configuration.Configuration.{Configuration}
 
@@ -44,22 +43,23 @@ field_in view space feature = option_and_then (λ x. option_and_then integer_in 
 
 -- Bounds
 
--- the domain values below a bound
-abbrev pub values_below : ℤ → List Interval
-values_below bound = if int_le bound LEAST_VALUE then [] else record { low = LEAST_VALUE; high = int_min (bound -ℤ pos 1) GREATEST_VALUE } ∷ []
+-- the domain values below a bound; an empty interval where there are none
+abbrev pub values_below : ℤ → Interval
+values_below bound = record { low = LEAST_VALUE; high = int_min (int_max bound LEAST_VALUE -ℤ pos 1) GREATEST_VALUE }
 
--- what a space is told of its cost: that it is among the values below the bound, where that is news
+-- what a space is told of its cost: that it is below the bound, as far as that is news
 abbrev pub bound_tells : View → List ℕ → Constant → Option ℤ → List Tell
 bound_tells view space feature None = []
-bound_tells view space feature (Some bound) = news view (map (λ x. Within x (values_below bound)) (option_to_list (root_field view space feature)))
+bound_tells view space feature (Some bound) = interval_news view (option_to_list (root_field view space feature)) (values_below bound)
 
-abbrev pub bounded : List ℕ → Constant → Option ℤ → List Layer → List Layer
-bounded space feature bound layers = in_layer space (telling (bound_tells (view layers space) space feature bound)) layers
+-- the space is told that, where there is a bound
+abbrev pub told_below : List ℕ → Constant → Option ℤ → List Layer → List Layer
+told_below space feature bound layers = in_layer space (telling (bound_tells (view layers space) space feature bound)) layers
 
--- the space committed to the alternative of a branch, and told its bound, and then what follows a step: where no value is below the
--- bound, or none that the cost may have, the space fails
+-- the space committed to the alternative of a branch and told its bound, and then what follows a step: where no value that the cost
+-- may have is below the bound, the space fails
 abbrev pub chosen_below : List Statement → List ℕ → Constant → Bounded → Configuration → Configuration
-chosen_below statements space feature b c = followed statements c (bounded space feature b.bound (committed statements space b.alternative c.layers))
+chosen_below statements space feature b c = followed statements c (told_below space feature b.bound (committed statements space b.alternative c.layers))
 
 -- Nodes
 
