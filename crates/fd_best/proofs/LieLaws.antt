@@ -6,7 +6,7 @@ use Rattle.fd_problems.specs.declared.problem.Distribution.{Distribution}
 use Rattle.fd_bounds.specs.BoundedTrees.{BoundedTree}
 use Rattle.fd_best.specs.Parts.{child, part, goes, lies_below}
 
-same_tree : (a b : BoundedTree) → Some a ≡ Some b → a ≡ b
+pub same_tree : (a b : BoundedTree) → Some a ≡ Some b → a ≡ b
 same_tree a b e = cc
 
 module _ (d : Distribution) (cost : ℕ) (b : Bounded) (x : List ℤ) where
