@@ -1,5 +1,5 @@
 -- Tuples that agree on the variables of a problem lie below the same paths.
-use Rattle.std.proofs.Common.{◌≡◌, ℕ, zero, suc, ◌<◌, ℤ, Bool, cond, not, ◌&&◌, nat_eq, List, [], ◌∷◌, get_or, All, Option, Some, None, refl, ap, arith}
+use Rattle.std.proofs.Common.{◌≡◌, ℕ, zero, suc, ◌<◌, ℤ, cond, not, ◌&&◌, nat_eq, List, [], ◌∷◌, get_or, All, Option, Some, None, refl, ap, arith}
 use Rattle.std.proofs.lemmas.List.Elements.{All-head, All-tail}
 use Rattle.oz_base.specs.Lists.{holds_of}
 use Rattle.oz_base.specs.declared.distribution.Split.{Split}

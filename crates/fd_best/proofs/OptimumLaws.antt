@@ -1,5 +1,5 @@
 -- A finished history of best search has found an optimum.
-use Rattle.std.proofs.Common.{◌≡◌, ⊎_elim, ◌⊎◌, inl, inr, ℕ, ◌<◌, ◌≤◌, ℤ, ◌≤ℤ◌, List, [], ◌∷◌, ◌++◌, Contains, Option, Some, None, refl, sym, ◌∙◌, ap, subst}
+use Rattle.std.proofs.Common.{◌≡◌, ⊎_elim, ◌⊎◌, inl, inr, ℕ, ◌<◌, ℤ, ◌≤ℤ◌, List, [], ◌∷◌, ◌++◌, Contains, Option, Some, None, refl, sym, ◌∙◌, ap, subst}
 use Rattle.std.specs.List.{fold}
 use Rattle.oz_domains.specs.Positions.{value}
 use Rattle.oz_search.specs.declared.best.Bounded.{Bounded}
@@ -7,7 +7,7 @@ use Rattle.oz_search.specs.declared.best.Costed.{Costed}
 use Rattle.oz_search.specs.declared.leaf.Outcome.TheVariants as outcome
 use Rattle.oz_search.specs.declared.history.Entry.TheVariants as entries
 use Rattle.oz_search.specs.declared.tree.Kind.TheVariants.{End}
-use Rattle.oz_search.specs.Trees.{Tree, Costs, report}
+use Rattle.oz_search.specs.Trees.{Costs, report}
 use Rattle.oz_search.specs.Nodes.{Fuelled, IsFuelled}
 use Rattle.oz_search.specs.Histories.{IsLegal, IsNothingOpen, IsNothingOut}
 use Rattle.oz_search.specs.Best.{BestEntry, best, best_after, best_of, cost_of}

@@ -1,12 +1,12 @@
 -- Nodes that show the tree of a problem agree with its assignments.
-use Rattle.std.proofs.Common.{◌≡◌, ℕ, suc, ◌<◌, ◌≤◌, ℤ, pos, ◌≤ℤ◌, int_lt, Bool, true, false, not, ◌&&◌, List, [], ◌∷◌, ◌++◌, length, map, take, Option, Some, None, refl, sym, ◌∙◌, ap, subst, arith}
+use Rattle.std.proofs.Common.{◌≡◌, ℕ, ◌<◌, ◌≤◌, ℤ, pos, ◌≤ℤ◌, int_lt, Bool, true, false, not, ◌&&◌, List, [], ◌∷◌, ◌++◌, length, map, Option, Some, None, refl, sym, ◌∙◌, ap, subst, arith}
 use Rattle.std.specs.Prelude.{◌<ℤ◌}
 use Rattle.std.specs.FinSet as set
 use Rattle.std.proofs.lemmas.Int.{ints}
 use Rattle.std.proofs.lemmas.List.{get_or-map, get_or-take, get_or_append_left}
 use Rattle.oz_base.specs.declared.distribution.Split.{Split}
-use Rattle.oz_domains.specs.Domains.{least, is_single}
-use Rattle.oz_domains.specs.Positions.{domain, value, IsIn}
+use Rattle.oz_domains.specs.Domains.{least}
+use Rattle.oz_domains.specs.Positions.{domain, value}
 use Rattle.oz_domains.specs.Splits.{passes}
 use Rattle.oz_search.specs.declared.best.Bounded.{Bounded}
 use Rattle.oz_search.specs.declared.best.Costed.{Costed}
@@ -20,7 +20,6 @@ use Rattle.search_law.specs.BestLaw.{IsUnder, bounded, Solves}
 use Rattle.search_law.proofs.Costs.{cost_itself}
 use Rattle.propagators.proofs.StepLaws.{parts_refl}
 use Rattle.fd_problems.specs.declared.problem.Problem.{Problem}
-use Rattle.fd_problems.specs.declared.problem.Distribution.{Distribution}
 use Rattle.fd_problems.specs.Problems.{Meets}
 use Rattle.fd_stores.specs.Stores as stores
 use Rattle.fd_stores.specs.Choices.{split_variable}
@@ -34,7 +33,7 @@ use Rattle.fd_trees.proofs.AnswerLaws.{follows_single, solved_end}
 use Rattle.fd_trees.proofs.ExtensionLaws.{product_values}
 use Rattle.fd_trees.proofs.ScriptLaws.{long, over, search, follows, solves_meets, meets_solves}
 use Rattle.fd_bounds.specs.BoundedTrees.{BoundedTree, Failed, Leaf, Choice}
-use Rattle.fd_best.specs.Parts.{Assignment, cost_at, is_under, takes, goes, child, part, lies_below, solved_leaf, IsKind, ShowsTree}
+use Rattle.fd_best.specs.Parts.{Assignment, cost_at, is_under, part, lies_below, solved_leaf, IsKind, ShowsTree}
 use Rattle.fd_best.specs.Laws.{IsTreeOf, has_below, SolvesLaw}
 use Rattle.fd_best.proofs.LieLaws as lie
 use Rattle.fd_best.proofs.AgreeLaws.{lies_same}

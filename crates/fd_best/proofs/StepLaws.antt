@@ -1,5 +1,5 @@
 -- What one branch of a bounded tree does to the store of a node.
-use Rattle.std.proofs.Common.{◌≡◌, ℕ, ◌<◌, ◌⊎◌, inl, inr, ℤ, int_lt, Bool, true, false, cond, not, ◌&&◌, nat_eq, List, length, All, Option, Some, None, IsSomeAnd, refl, sym, ◌∙◌, ap, subst, arith}
+use Rattle.std.proofs.Common.{◌≡◌, ℕ, ◌<◌, ◌⊎◌, inl, inr, ℤ, int_lt, Bool, true, false, cond, not, ◌&&◌, nat_eq, List, length, Option, Some, None, IsSomeAnd, refl, sym, ◌∙◌, ap, subst, arith}
 use Rattle.oz_base.specs.declared.distribution.Split.{Split}
 use Rattle.oz_domains.specs.Positions.{value, IsIn, AreParts}
 use Rattle.oz_domains.specs.Passes.{keep}
