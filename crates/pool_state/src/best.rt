@@ -1,0 +1,150 @@
+//! Best search by branch and bound.
+ghost use Rattle.std.specs.Prelude.{◌≡◌, refl, None};
+ghost use Rattle.oz_search.specs.declared.best.Bounded.{Bounded};
+ghost use Rattle.oz_search.specs.declared.best.Costed.{Costed};
+ghost use Rattle.oz_search.specs.Best.{best, cost_of, lesser, branch_cmp, cost_by};
+ghost use Rattle.search_law.specs.Taken.{taken};
+ghost use Rattle.search_law.proofs.Instances.{best_search};
+ghost use Rattle.search_law.proofs.Takings.{taken_law};
+ghost use Rattle.pool_state.specs.BestClaims.{least, under, branches_total, claim_admitted};
+
+use crate::SearchKind;
+use oz_search::{Bounded, Costed, Outcome};
+use std::cmp::Ordering;
+use std::marker::Model;
+
+/// A branch of best search, as a path keeps it. Contracts see the branch.
+#[derive(Clone, Copy)]
+pub struct BoundedBranch {
+    branch: Bounded,
+}
+
+impl Model for BoundedBranch {
+    ghost use Rattle.oz_search.specs.declared.best.Bounded.{Bounded};
+
+    ghost Value = { Bounded };
+
+    ghost view = { λ b. b.branch };
+
+    ghost inverse = { λ b. record { branch = b } };
+}
+
+impl BoundedBranch {
+    pub fn new(branch: Bounded) -> BoundedBranch
+        ensures { result ≡ branch }
+    {
+        BoundedBranch { branch }
+    }
+
+    pub fn bounded(self) -> Bounded
+        ensures { result ≡ self }
+    {
+        self.branch
+    }
+}
+
+impl Default for BoundedBranch {
+    fn default() -> BoundedBranch {
+        BoundedBranch {
+            branch: Bounded {
+                alternative: 0,
+                bound: None,
+            },
+        }
+    }
+}
+
+/// Best search: a claim is under the least cost so far.
+#[derive(Drop)]
+pub struct Best {}
+
+fn cost_of(leaf: &Costed) -> Option<i64>
+    ensures { result ≡ cost_of leaf.now }
+{
+    match &leaf.outcome {
+        Outcome::Failed => None,
+        Outcome::Solved(_) => leaf.cost,
+        Outcome::Stuck(_) => None,
+        Outcome::Raised(_) => None,
+        Outcome::Suspended => None,
+    }
+}
+
+fn lesser(cost: Option<i64>, other: Option<i64>) -> Option<i64>
+    ensures { result ≡ lesser cost other }
+{
+    let Some(one) = cost else {
+        return other;
+    };
+    let Some(two) = other else {
+        return cost;
+    };
+    Some(one.min(two))
+}
+
+impl SearchKind for Best {
+    type Branch = BoundedBranch;
+
+    type Leaf = Costed;
+
+    type SoFar = Option<i64>;
+
+    ghost search = { best };
+
+    ghost first = { None };
+
+    ghost more = { least };
+
+    ghost bears = { under };
+
+    ghost takes = { taken best };
+
+    fn number(branch: BoundedBranch) -> u32 {
+        branch.bounded().alternative
+    }
+
+    fn free(alternative: u32) -> BoundedBranch {
+        BoundedBranch::new(Bounded {
+            alternative,
+            bound: None,
+        })
+    }
+
+    fn compare(branch: BoundedBranch, other: BoundedBranch) -> Ordering {
+        let branch = branch.bounded();
+        let other = other.bounded();
+        branch
+            .alternative
+            .cmp(&other.alternative)
+            .then(branch.bound.cmp(&other.bound))
+    }
+
+    fn fails(leaf: &Costed) -> bool {
+        leaf.outcome.is_failed()
+    }
+
+    fn first() -> Option<i64> {
+        None
+    }
+
+    fn more(so_far: Option<i64>, leaf: &Costed) -> Option<i64> {
+        lesser(so_far, cost_of(leaf))
+    }
+
+    fn bears(so_far: Option<i64>, branch: BoundedBranch) -> BoundedBranch {
+        BoundedBranch::new(Bounded {
+            alternative: branch.bounded().alternative,
+            bound: so_far,
+        })
+    }
+
+    ghost searches = { best_search };
+
+    ghost total = { branches_total };
+
+    ghost same_number = { λ c b. refl };
+
+    ghost admitted = { claim_admitted };
+
+    ghost follows = { λ budget h replays. taken_law Bounded Costed best best_search budget h replays };
+}
