@@ -7,6 +7,7 @@ use lib.Dec.{leb}
 use Rattle.oz_search.specs.Searches.{Search}
 use Rattle.oz_search.specs.Paths.{path_cmp, same_alternative, is_child}
 use Rattle.search_law.specs.Counting.{one_if}
+use Rattle.pool_state.specs.Branching.{by_last}
 
 -- p is the first key, and below all others
 abbrev pub Leads : {B L : Type 0} → Search B L → List (List B × ℕ) → List B → List (List B × ℕ) → Type 0
@@ -57,6 +58,10 @@ module _ {B L : Type 0} (k : Search B L) where
     pub first : IsFirst p es
     pub others : (q : List B) → runs_with q fs + one_if (same_alternative k q p) ≡ runs_with q es
     pub own : list_all starts fs ≡ true
+
+  -- the first key is gone, and c leads to the same alternative by the branch that f makes of its last one
+  abbrev pub TakesBearing : (B → B) → List (List B × ℕ) → List B → List (List B × ℕ) → Type 0
+  TakesBearing f es c fs = (p : List B) × TakesLeftmost es p fs × (c ≡ by_last f p)
 
   -- the children of p are there besides
   pub record Opens (es : List (List B × ℕ)) (p : List B) (n : ℕ) (fs : List (List B × ℕ)) : Type 0 where

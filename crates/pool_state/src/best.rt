@@ -11,48 +11,6 @@ ghost use Rattle.pool_state.specs.BestClaims.{least, under, branches_total, clai
 use crate::SearchKind;
 use oz_search::{Bounded, Costed, Outcome};
 use std::cmp::Ordering;
-use std::marker::Model;
-
-/// A branch of best search, as a path keeps it. Contracts see the branch.
-#[derive(Clone, Copy)]
-pub struct BoundedBranch {
-    branch: Bounded,
-}
-
-impl Model for BoundedBranch {
-    ghost use Rattle.oz_search.specs.declared.best.Bounded.{Bounded};
-
-    ghost Value = { Bounded };
-
-    ghost view = { λ b. b.branch };
-
-    ghost inverse = { λ b. record { branch = b } };
-}
-
-impl BoundedBranch {
-    pub fn new(branch: Bounded) -> BoundedBranch
-        ensures { result ≡ branch }
-    {
-        BoundedBranch { branch }
-    }
-
-    pub fn bounded(self) -> Bounded
-        ensures { result ≡ self }
-    {
-        self.branch
-    }
-}
-
-impl Default for BoundedBranch {
-    fn default() -> BoundedBranch {
-        BoundedBranch {
-            branch: Bounded {
-                alternative: 0,
-                bound: None,
-            },
-        }
-    }
-}
 
 /// Best search: a claim is under the least cost so far.
 #[derive(Drop)]
@@ -83,7 +41,7 @@ fn lesser(cost: Option<i64>, other: Option<i64>) -> Option<i64>
 }
 
 impl SearchKind for Best {
-    type Branch = BoundedBranch;
+    type Branch = Bounded;
 
     type Leaf = Costed;
 
@@ -99,20 +57,18 @@ impl SearchKind for Best {
 
     ghost takes = { taken best };
 
-    fn number(branch: BoundedBranch) -> u32 {
-        branch.bounded().alternative
+    fn number(branch: Bounded) -> u32 {
+        branch.alternative
     }
 
-    fn free(alternative: u32) -> BoundedBranch {
-        BoundedBranch::new(Bounded {
+    fn free(alternative: u32) -> Bounded {
+        Bounded {
             alternative,
             bound: None,
-        })
+        }
     }
 
-    fn compare(branch: BoundedBranch, other: BoundedBranch) -> Ordering {
-        let branch = branch.bounded();
-        let other = other.bounded();
+    fn compare(branch: Bounded, other: Bounded) -> Ordering {
         branch
             .alternative
             .cmp(&other.alternative)
@@ -131,11 +87,11 @@ impl SearchKind for Best {
         lesser(so_far, cost_of(leaf))
     }
 
-    fn bears(so_far: Option<i64>, branch: BoundedBranch) -> BoundedBranch {
-        BoundedBranch::new(Bounded {
-            alternative: branch.bounded().alternative,
+    fn bears(so_far: Option<i64>, branch: Bounded) -> Bounded {
+        Bounded {
+            alternative: branch.alternative,
             bound: so_far,
-        })
+        }
     }
 
     ghost searches = { best_search };

@@ -11,8 +11,7 @@ use std::cmp::Ordering;
 
 /// A kind of search: what a branch is, what is reported of a leaf, and what a claim bears of the leaves before it.
 pub trait SearchKind: Drop {
-    /// A default one fills the room in a path that is not used.
-    type Branch: Copy + Default;
+    type Branch: Copy;
 
     type Leaf: Drop;
 

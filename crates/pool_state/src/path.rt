@@ -9,17 +9,14 @@ ghost use Rattle.pool_state.specs.Branching.{by_last, last_number, next_sibling}
 
 use crate::SearchKind;
 use oz_base::Copies;
-use smallvec::SmallVec;
 use std::alloc::{AllocError, Global};
 use std::cmp::Ordering;
 use std::marker::Model;
 
 /// The branches that lead from the root to a node. Contracts see their list.
-///
-/// A path of up to eight branches takes no memory.
 #[derive(Drop)]
 pub struct Path<K: SearchKind> {
-    branches: SmallVec<K::Branch, 8>,
+    branches: Vec<K::Branch>,
 }
 
 impl<K: SearchKind> Model for Path<K> {
@@ -87,7 +84,7 @@ impl<K: SearchKind> Ord for Path<K> {
 impl<K: SearchKind> Copies for Path<K> {
     fn copied(&self, alloc: Global) -> Result<Path<K>, AllocError> {
         Ok(Path {
-            branches: SmallVec::from_slice(alloc, self.branches.as_slice())?,
+            branches: Vec::from_slice(alloc, self.branches.as_slice())?,
         })
     }
 }
@@ -98,7 +95,7 @@ impl<K: SearchKind> Path<K> {
         ensures { result ≡ [] }
     {
         Path {
-            branches: SmallVec::new(alloc),
+            branches: Vec::new(alloc),
         }
     }
 
