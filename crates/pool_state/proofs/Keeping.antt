@@ -34,12 +34,6 @@ use Rattle.pool_state.specs.declared.pool.Claimed.TheVariants.{Idle, Finished}
 use Rattle.pool_state.proofs.Alternatives.{alternative_offered, covers_by, numbers_by, place_by, place_level}
 use Rattle.pool_state.proofs.Runs.{covers_after, runs_cons}
 
-and_swap : (a b : Bool) → (a && b) ≡ (b && a)
-and_swap true true = refl
-and_swap true false = refl
-and_swap false true = refl
-and_swap false false = refl
-
 pub none_from : {A : Type 0} (o : Option A) → ((x : A) → o ≡ Some x → ⊥) → o ≡ None
 none_from None never = refl
 none_from (Some x) never = absurd (never x refl)
@@ -246,7 +240,7 @@ module _ {B L : Type 0} (its : Setting B L) where
   path_level [] = refl
   path_level (x ∷ p) = ap (λ r. ordering_then r (path_cmp k p p)) (its.is.level x) ∙ path_level p
 
-  eq_same : (p q : List B) → is_eq (path_cmp k p q) ≡ same_path k p q
+  pub eq_same : (p q : List B) → is_eq (path_cmp k p q) ≡ same_path k p q
   eq_same p q = by (path_cmp k p q) (same_path k p q) refl refl
     where
       by : (o : Ordering) (b : Bool) → path_cmp k p q ≡ o → same_path k p q ≡ b → is_eq o ≡ b
@@ -256,15 +250,6 @@ module _ {B L : Type 0} (its : Setting B L) where
       by Equal false e s = absurd (both_ways (same_path k p q) s (is_same its p q (exact_path its p q e)))
       by Less true e s = let P : List B → Type 0 = λ z. path_cmp k p z ≡ Less in let t : Equal ≡ Less = sym (path_level p) ∙ subst P (sym (same_is its p q s)) e in absurd (cc (t))
       by Greater true e s = let P : List B → Type 0 = λ z. path_cmp k p z ≡ Greater in let t : Equal ≡ Greater = sym (path_level p) ∙ subst P (sym (same_is its p q s)) e in absurd (cc (t))
-
-  pub any_gone : (out out' : List (List B)) (p : List B) → out' ≡ filter (λ x. not (eq_by_cmp (path_cmp k) x p)) out
-      → (q : List B) → list_any (same_path k q) out' ≡ (list_any (same_path k q) out && not (same_path k q p))
-  any_gone out out' p is q =
-      rw is (
-      any-filter_same (same_path k q) (λ x. not (eq_by_cmp (path_cmp k) x p)) (not (same_path k q p))
-      (λ x s. ap not (eq_same x p ∙ ap (λ z. same_path k z p) (sym (same_is its q x s)))) out
-      ∙ and_swap (not (same_path k q p)) (list_any (same_path k q) out)
-      )
 
   pub opening : (budget : ℕ) → IsTied k budget (([], 0) ∷ []) [] 0 None []
   opening budget = record {
