@@ -1,17 +1,17 @@
 -- What leads to the same alternative of the same node.
-use Rattle.std.proofs.Common.{◌≡◌, ℕ, ◌==◌, ◌+◌, ◌≤◌, ⊎_elim, Bool, true, false, not, ◌&&◌, ◌||◌, List, [], ◌∷◌, ◌++◌, map, refl, ap, sym, ◌∙◌, subst, arith}
+use Rattle.std.proofs.Common.{◌≡◌, ℕ, ◌==◌, ⊎_elim, true, false, ◌&&◌, List, [], ◌∷◌, map, refl, ap, sym, ◌∙◌, subst, arith}
 use lib.Dec.{leb}
 use Rattle.std.specs.List.{list_any}
-use Rattle.std.specs.Ordering.{is_gt, ordering_then, nat_cmp}
-use Rattle.std.specs.declared.cmp.Ordering.TheVariants.{Less, Equal, Greater}
+use Rattle.std.specs.Ordering.{ordering_then, nat_cmp}
+use Rattle.std.specs.declared.cmp.Ordering.TheVariants.{Equal}
 use Rattle.std.proofs.lemmas.Bool.{and_parts, both_ways, or_cases, or_left, or_right}
 use Rattle.std.proofs.lemmas.Bool.Decides.{nat_tests}
 use Rattle.oz_search.specs.declared.history.Entry.TheVariants.{Claim, Split, Leaf, Stop}
 use Rattle.oz_search.specs.Searches.{Search}
 use Rattle.oz_search.specs.Paths.{same_path, same_alternative, alternatives_cmp, is_child, is_among}
-use Rattle.oz_search.specs.Histories.{History, claims, offers, is_claimed, is_alternative_claimed, is_offered, is_open}
+use Rattle.oz_search.specs.Histories.{History, offers, is_claimed, is_alternative_claimed, is_offered}
 use Rattle.search_law.proofs.Settings.{Setting}
-use Rattle.search_law.proofs.Places.{same_is, is_same, same_itself, branch_itself, branch_is, child_is, place_is, among_child}
+use Rattle.search_law.proofs.Places.{same_is, same_itself, branch_is, child_is, place_is, among_child}
 use Rattle.pool_state.specs.Branching.{by_last}
 use Rattle.pool_state.specs.Frontier.{covers}
 

@@ -1,19 +1,18 @@
 -- What the pool's maps say of its history.
 use Rattle.std.proofs.Common.{add-zero, Option, Some, None, ⊎_elim, ◌≡◌, ℕ, ◌+◌, ◌<◌, ◌≤◌, ◌==◌, Bool, true, false, not, ◌&&◌, ◌||◌, List, [], ◌∷◌, ◌++◌, map, length, IsTrue, refl, ap, sym, ◌∙◌, subst, arith}
-use Rattle.std.specs.List.{list_any, list_all, filter, count_by, All}
+use Rattle.std.specs.List.{list_any, list_all, count_by, All}
 use Rattle.std.specs.Cmp.Lexicographic.{slice_cmp}
 use Rattle.std.specs.Map.{keys_of}
-use Rattle.std.specs.Ordering.{eq_by_cmp, is_eq, is_gt, nat_cmp, ordering_then}
+use Rattle.std.specs.Ordering.{is_eq, is_gt, nat_cmp, ordering_then}
 use Rattle.std.specs.declared.cmp.Ordering.{Ordering}
 use Rattle.std.specs.declared.cmp.Ordering.TheVariants.{Less, Equal, Greater}
-use Rattle.std.proofs.lemmas.Map.Views.{any-filter_same}
 use Rattle.std.proofs.lemmas.List.Folds.{list_any-append}
 use Rattle.std.proofs.lemmas.List.Elements.{All-head, All-tail}
 use Rattle.std.proofs.lemmas.Cmp.{upto, nat_list_cmp_total}
 use Rattle.std.proofs.lemmas.Bool.Decides.{nat_tests}
 use Rattle.std.proofs.lemmas.Bool.{or_cases, false_from_ne_true, and_parts, both_ways, cases_Bool}
 use Rattle.oz_search.specs.Searches.{Search}
-use Rattle.oz_search.specs.Histories.{History, claims_alternative, offers, is_alternative_claimed, is_open, is_out, is_out_to, is_offered, is_claimed, is_settled, claims_as, total_of, stop_of, Replays, IsAllowed, IsLeftmost, IsFree, claim_of, HasClaim, MayStop, IsNothingOpen, IsNothingOut}
+use Rattle.oz_search.specs.Histories.{History, is_alternative_claimed, is_open, is_out, is_out_to, is_offered, is_claimed, is_settled, claims_as, total_of, stop_of, Replays, IsAllowed, IsLeftmost, IsFree, claim_of, HasClaim, MayStop, IsNothingOpen, IsNothingOut}
 use Rattle.oz_search.specs.Paths.{path_cmp, same_path, is_child, same_alternative, alternatives_cmp}
 use Rattle.oz_search.specs.declared.history.StopCause.{StopCause}
 use Rattle.oz_search.specs.declared.history.StopCause.TheVariants.{Memory, Fuel, Total}
@@ -27,7 +26,7 @@ use Rattle.search_law.proofs.Places.{exact_path, is_same, same_is, same_itself, 
 use Rattle.search_law.proofs.Entries.{child_closed, claim_holds, claim_once, claimed_from, claimed_push, claimed_taken, more_claimed, more_offered, open_push, out_push, replays_push, same_claims, settle_holds, settled_push, stop_holds, stop_push, total_push}
 use Rattle.search_law.proofs.OpenOrder.{open_law}
 use Rattle.pool_state.specs.Branching.{by_last}
-use Rattle.pool_state.specs.Frontier.{runs_with, starts, covers, in_run, IsFirst, IsFrontier, IsCovered, first_child, TakesLeftmost, Opens}
+use Rattle.pool_state.specs.Frontier.{runs_with, starts, in_run, IsFirst, IsFrontier, IsCovered, first_child, TakesLeftmost, Opens}
 use Rattle.pool_state.specs.Pool.{MayAsk, AnswersClaim}
 use Rattle.pool_state.specs.Tied.{IsTied}
 use Rattle.pool_state.specs.declared.pool.Claimed.TheVariants.{Idle, Finished}

@@ -1,5 +1,5 @@
 -- The last branch of a path.
-use Rattle.std.proofs.Common.{◌≡◌, ℕ, suc, ◌-◌, List, [], ◌∷◌, ◌++◌, length, slice_get, Some, refl, ap, sym, ◌∙◌, arith}
+use Rattle.std.proofs.Common.{◌≡◌, suc, ◌-◌, List, [], ◌∷◌, ◌++◌, length, slice_get, Some, refl, ap, sym, ◌∙◌, arith}
 use Rattle.oz_search.specs.Searches.{Search}
 use Rattle.pool_state.specs.Branching.{by_last, last_number}
 

@@ -1,5 +1,5 @@
 -- What is so far, after one entry more.
-use Rattle.std.proofs.Common.{◌≡◌, ℕ, List, [], ◌∷◌, ◌++◌, ap, sym, ◌∙◌}
+use Rattle.std.proofs.Common.{◌≡◌, List, [], ◌∷◌, ◌++◌, ap, sym, ◌∙◌}
 use Rattle.oz_search.specs.declared.history.Entry.{Entry}
 use Rattle.oz_search.specs.Histories.{History}
 use Rattle.search_law.proofs.Booleans.{fold_push}

@@ -1,5 +1,5 @@
 -- In best search a claim bears the least cost so far.
-use Rattle.std.proofs.Common.{◌≡◌, ℤ, true, List, [], ◌∷◌, Option, Some, None, refl, ap, ◌∙◌}
+use Rattle.std.proofs.Common.{◌≡◌, ℤ, true, List, [], ◌∷◌, Option, None, refl, ap, ◌∙◌}
 use Rattle.std.specs.Cmp.{IsTotalOrder}
 use Rattle.std.specs.Cmp.Lexicographic.{options_total}
 use Rattle.std.proofs.lemmas.Cmp.{nat_cmp_total, int_cmp_total, on_total, then_total}
@@ -11,7 +11,7 @@ use Rattle.oz_search.specs.declared.best.Costed.{Costed}
 use Rattle.oz_search.specs.declared.history.Entry.TheVariants.{Claim, Split, Leaf, Stop}
 use Rattle.oz_search.specs.Best.{BestEntry, lesser, cost_of, best_after, best_of, bears_best, branch_cmp}
 use Rattle.search_law.proofs.Instances.{bound_exact}
-use Rattle.pool_state.specs.Branching.{by_last, so_far, so_far_after}
+use Rattle.pool_state.specs.Branching.{by_last, so_far}
 
 -- the least cost after a leaf
 abbrev pub least : Option ℤ → Costed → Option ℤ

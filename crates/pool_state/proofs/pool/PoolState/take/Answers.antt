@@ -1,14 +1,13 @@
 use Rattle.oz_search.specs.Histories.{History}
-use Rattle.std.proofs.Common.{ℕ, List, [], ◌∷◌, ◌++◌, ◌≡◌, Option, Some, None, true, arith, ◌∙◌, ap, sym, refl, subst}
-use Rattle.oz_search.specs.Histories.{stop_of, claim_of, is_open, IsFree, IsLeftmost}
+use Rattle.std.proofs.Common.{List, [], ◌∷◌, ◌++◌, ◌≡◌, None, true, arith, ◌∙◌, ap, sym, refl, subst}
+use Rattle.oz_search.specs.Histories.{stop_of, claim_of, IsFree, IsLeftmost}
 use Rattle.oz_search.specs.declared.history.Entry.TheVariants.{Claim}
-use Rattle.oz_search.specs.declared.history.Halt.{Halt}
 use Rattle.search_law.proofs.Noted.{same_places}
 use Rattle.search_law.proofs.Settings.{of_search}
-use Rattle.pool_state.proofs.Keeping.{is_frontier, claimed_tie, free_from, leftmost_answer, never_stopped, not_empty}
+use Rattle.pool_state.proofs.Keeping.{is_frontier, claimed_tie, free_from, leftmost_answer, never_stopped}
 use Rattle.pool_state.proofs.SoFars.{so_far_push}
-use Rattle.pool_state.specs.Branching.{by_last, so_far}
-use Rattle.pool_state.specs.Pool.{Pool, AnswersClaim}
+use Rattle.pool_state.specs.Branching.{by_last}
+use Rattle.pool_state.specs.Pool.{Pool}
 use Rattle.pool_state.proofs.pool.PoolState.take.Goals as goal
 
 pub take_bearing-requires : goal.take_bearing-requires
