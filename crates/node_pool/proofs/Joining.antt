@@ -68,6 +68,11 @@ module _ {T B L : Type 0} (v w : WorkerView T B L) where
       let step : (x : Bool) → (pick x).0.mark ≡ o = elim [ true ↦ f | false ↦ e ] in
       step (not (is_some (claim v)) && is_some (claim w))
 
+  pub first_lock : (l : TableId) → v.lock ≡ l → w.lock ≡ l → (in_order v w).0.lock ≡ l
+  first_lock l e f =
+      let step : (x : Bool) → (pick x).0.lock ≡ l = elim [ true ↦ f | false ↦ e ] in
+      step (not (is_some (claim v)) && is_some (claim w))
+
 -- ---- a join
 first_of_both : (xs ys : List ℕ) → 0 < length xs → first (xs ++ ys) ≡ first xs
 first_of_both [] ys many = absurd (omega arith)

@@ -61,6 +61,13 @@ pub record Ready {T B L : Type 0} (w : WorkerView T B L) (h : History B L) (n : 
   pub many : 0 < length w.numbers
   pub is : n ≡ number w
 
+-- ---- two marks of one pool are the same
+same_marks : {T : Type 0} (x y : T) (a b : ℕ) (o : Option (Mark T)) → o ≡ Some (mark x a) → o ≡ Some (mark y b) → mark y b ≡ mark x a
+same_marks x y a b o pool board = cc (sym board ∙ pool)
+
+pub same_budget : {T : Type 0} (x y : T) (a b : ℕ) (o : Option (Mark T)) → o ≡ Some (mark x a) → o ≡ Some (mark y b) → b ≡ a
+same_budget {T} x y a b o pool board = ap (λ (m : Mark T). m.budget) (same_marks x y a b o pool board)
+
 module _ {T B L : Type 0} where
   pub ready : (l : TableId) (v : View (Mark T) (Entry (List B) L)) (w : WorkerView T B L) (n : ℕ) (d : Option ℕ) (c : Bool) (h : History B L) → worker_view l v ≡ w → IsWorker v n d c
       → IsPrefix v.seen h → ((m : ℕ) → has m v.numbers ≡ true → own m h ≡ own m v.seen) → 0 < length v.numbers → Ready w h n
@@ -98,12 +105,6 @@ module _ {T B L : Type 0} where
       let P : Mark T → Type 0 = λ m. IsLegal (node m.tag) kind m.budget k in
       let Q : History B L → Type 0 = λ z'. IsLegal (node z) kind c z' in
       subst P marks (subst Q (sym seen) legal)
-
-  same_marks : (x y : T) (a b : ℕ) (o : Option (Mark T)) → o ≡ Some (mark x a) → o ≡ Some (mark y b) → mark y b ≡ mark x a
-  same_marks x y a b o pool board = cc (sym board ∙ pool)
-
-  pub same_budget : (x y : T) (a b : ℕ) (o : Option (Mark T)) → o ≡ Some (mark x a) → o ≡ Some (mark y b) → b ≡ a
-  same_budget x y a b o pool board = ap (λ (m : Mark T). m.budget) (same_marks x y a b o pool board)
 
   -- the node is that of the board's tag
   pub node_for : (node : T → Fuelled B L) (x y : T) (a b : ℕ) (o : Option (Mark T)) (p : List B) (k : Report L) → o ≡ Some (mark x a) → o ≡ Some (mark y b) → IsNodeAt (node x) p k → IsNodeAt (node y) p k
