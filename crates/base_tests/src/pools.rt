@@ -10,7 +10,10 @@ use std::process::Abort;
 use std::test::Fail;
 
 /// The root has two children and 4 steps. Worker 1 takes the first child, and worker 0 the second.
-fn take_both(rt: &impl Abort, pool: &mut PoolState<Plain>) -> Result<(Path<Plain>, Path<Plain>), AllocError>
+fn take_both(
+    rt: &impl Abort,
+    pool: &mut PoolState<Plain>,
+) -> Result<(Path<Plain>, Path<Plain>), AllocError>
     requires { pool.old.history ≡ [] }
     ensures budget { pool.new.budget ≡ pool.old.budget }
     ensures history { IfOk result (λ r. (root : List ℕ) × (pool.new.history ≡ Claim 0 root ∷ Split 0 root 2 4 ∷ Claim 1 r.0 ∷ Claim 0 r.1 ∷ [])) }
