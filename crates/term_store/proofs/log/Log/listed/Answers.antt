@@ -1,4 +1,4 @@
-use Rattle.std.proofs.Common.{◌≡◌, length, ap, arith}
+use Rattle.std.proofs.Common.{length, ap, arith}
 use Rattle.term_store.specs.Logs.{with_ended}
 use Rattle.term_store.proofs.LogLaws.{length_told, few}
 use Rattle.term_store.proofs.log.Log.listed.Goals as goal
