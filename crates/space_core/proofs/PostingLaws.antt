@@ -1,5 +1,5 @@
 -- Propagators of a space that is kept.
-use Rattle.std.proofs.Common.{◌≡◌, ℕ, zero, suc, ◌<◌, ◌≤◌, arith, length, Bool, List, [], ◌∷◌, slice_set, slice_index_or, refl, sym, ap, subst, ◌∙◌, Option, Some, slice_get, Ok}
+use Rattle.std.proofs.Common.{◌≡◌, ℕ, zero, suc, ◌<◌, ◌≤◌, arith, length, Bool, List, [], ◌∷◌, slice_set, slice_index_or, refl, sym, ap, subst, ◌∙◌, Some, slice_get, Ok}
 use Rattle.std.specs.Prelude.{position}
 use Rattle.std.proofs.lemmas.Option.{slice_get-get_or}
 use Rattle.oz_base.specs.Lists.{edit_first}

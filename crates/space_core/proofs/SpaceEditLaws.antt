@@ -27,7 +27,7 @@ use Rattle.edit_laws.specs.Edits.{HasChild}
 use Rattle.edit_laws.proofs.GraftLaws.{there_of}
 use Rattle.edit_laws.proofs.ViewLaws.{tell_last, child_above}
 use Rattle.view_laws.specs.Trees.{IsTree}
-use Rattle.view_laws.proofs.Members.{decide, not_both, and_both}
+use Rattle.view_laws.proofs.Members.{decide, not_both}
 use Rattle.view_laws.proofs.NameLaws.{below_itself, equal_names, names_equal}
 use Rattle.view_laws.proofs.SightLaws.{space_of}
 use Rattle.view_laws.proofs.TreeLaws.{change_tree}

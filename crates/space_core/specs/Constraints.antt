@@ -1,4 +1,4 @@
--- What a space sees and its propagators, with which of them are watched.
+-- The constraint store that a space sees and its propagators, and which of these are watched (CTM 12.3.1; Schulte, LNCS 2302, chapter 2).
 use Rattle.std.specs.Prelude.{ℕ, ◌≡◌, ◌≤◌, false, true, List, ◌++◌, length, take}
 use Rattle.oz_base.specs.declared.interval.Interval.{Interval}
 use Rattle.oz_base.specs.declared.names.Ident.{Ident}
@@ -10,12 +10,12 @@ use Rattle.oz_semantics.specs.declared.value.Tell.{Tell}
 use Rattle.watching.specs.Watching.{Knows}
 use Rattle.watching.specs.declared.watch.Watch.{Watch}
 
--- what contracts see of it
+-- what contracts see: the store, and the propagators in the order in which they were posted
 pub record Held : Type 0 where
   pub store : List Tell
   pub propagators : List Propagator
 
--- the first so many propagators are watched
+-- so many of the propagators, from the first on, are watched: of these it is known which may be due
 pub record IsWatched (store : List Tell) (ps : List Propagator) (watch : Watch) (watched : ℕ) : Type 0 where
   pub within : watched ≤ length ps
   pub knows : Knows store (take watched ps) watch

@@ -2,7 +2,7 @@ use Rattle.std.proofs.Common.{ℕ, List, sym, ap₂, ◌∙◌}
 use Rattle.oz_base.specs.Lists.{list_eq}
 use Rattle.oz_semantics.specs.Names.{parent_of}
 use Rattle.space_core.proofs.ParentLaws.{not_empty}
-use Rattle.space_core.proofs.SpaceEditLaws.{child_is, child_not}
+use Rattle.space_core.proofs.SpaceEditLaws.{child_is}
 use Rattle.space_core.proofs.tree.is_child.Goals as goal
 
 pub returns-then-not-is_top : goal.returns-then-not-is_top
