@@ -5,8 +5,7 @@ ghost use Rattle.search_law.specs.Example.{small_within};
 ghost use Rattle.node_pool.specs.Workers.{IsOf, claim, first_worker};
 ghost use Rattle.node_pool.specs.Calls.{claim_left};
 
-use node_pool::{Claimed, Ended, Settled, SharedPool, Tree, Worker};
-use oz_base::Path;
+use node_pool::{Claimed, Ended, Path, Plain, Settled, SharedPool, Tree, Worker};
 use oz_search::{Halt, Outcome, StopCause};
 use std::alloc::AllocError;
 use std::process::Abort;
@@ -20,19 +19,21 @@ use std::thread::Threads;
 struct Small;
 
 impl Tree for Small {
+    type Kind = Plain;
+
     ghost within = { λ x. small_within };
 
     #[tactic(auto, using(search_law::proofs::Small::small_tree_law))]
     fn laws(&self) {}
 }
 
-fn is_root(path: &Path) -> bool
+fn is_root(path: &Path<Plain>) -> bool
     ensures { OnTrue result (path.now ≡ []) }
 {
     path.len() == 0
 }
 
-fn is_child(path: &Path, alternative: u32) -> bool
+fn is_child(path: &Path<Plain>, alternative: u32) -> bool
     ensures { OnTrue result (path.now ≡ alternative ∷ []) }
 {
     path.len() == 1 && path.last() == alternative
@@ -44,7 +45,7 @@ fn settle<R: Wait>(
     rt: &R,
     pool: &SharedPool<Small>,
     worker: Worker<Small>,
-    path: Path,
+    path: Path<Plain>,
 ) -> (Worker<Small>, Result<Settled, AllocError>)
     requires pool { IsOf worker pool.now }
     requires out { claim worker ≡ Some path }
@@ -102,7 +103,7 @@ fn explore_by_two<R: Threads + Wait + Sync>(
     rt: &R,
     pool: SharedPool<Small>,
     worker: Worker<Small>,
-) -> Ended
+) -> Ended<Plain>
     requires first { worker ≡ first_worker pool }
 {
     let (first, second) = pool.enrol(rt, worker);

@@ -1,3 +1,4 @@
 pub mod BoundLaws
 pub mod BoundedSimulationLaws
 pub mod BestLaws
+pub mod BoundedTreeLaws

@@ -3,6 +3,7 @@
 //! Each function does nothing: its contract is a law. `specs/Bounds` has the definitions and the laws.
 #![tactic(auto)]
 
+ghost use Rattle.fd_bounds.specs.BoundedTrees.{BoundedTreeLaw};
 ghost use Rattle.fd_bounds.specs.Bounds.{BestLaw, BoundedLaw, BestAnswerLaw, UnboundedLaw};
 
 /// A search in which each node is told a cost that a leaf has. The least cost of a leaf is the least of all solutions (`best`), and
@@ -13,4 +14,9 @@ pub fn bound_law()
     ensures leaves { BoundedLaw }
     ensures answer { BestAnswerLaw }
     ensures unbounded { UnboundedLaw }
+{}
+
+/// There is a tree below each store of a search, with all bounds under which its nodes may be begun.
+pub fn bounded_tree_law()
+    ensures { BoundedTreeLaw }
 {}

@@ -3,3 +3,4 @@ pub mod Laws
 pub mod Posts
 pub mod Numbered
 pub mod Shapes
+pub mod FdOptimality

@@ -1,6 +1,6 @@
 -- The law of where the search of a script begins (the abstract machine, CTM 2.4; computation spaces, CTM 12.4; Schulte, LNCS 2302,
 -- chapter 4).
-use Rattle.std.specs.Prelude.{◌≡◌, ℕ, List, [], ◌∷◌}
+use Rattle.std.specs.Prelude.{◌≡◌, ℕ, [], ◌∷◌}
 use Rattle.oz_language.specs.declared.kernel.Identifier.TheVariants.{Word}
 use Rattle.oz_language.specs.Refusals.{Program}
 use Rattle.oz_language.specs.Kernels.{Stmts, just, numbers}

@@ -1,3 +1,4 @@
 pub mod Searching
 pub mod Laws
 pub mod Texts
+pub mod BestSearching

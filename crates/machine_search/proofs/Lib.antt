@@ -7,3 +7,4 @@ pub mod VisitLaws
 pub mod SpaceLaws
 pub mod RestLaws
 pub mod OpeningLaws
+pub mod BestMakerLaws

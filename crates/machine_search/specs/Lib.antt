@@ -1,3 +1,4 @@
 pub mod Visits
 pub mod Laws
 pub mod Rests
+pub mod BestNodes

@@ -5,6 +5,7 @@
 #![tactic(auto)]
 
 ghost use Rattle.machine_search.specs.Laws.{BoundLaw, MakerLaw, NodeLaw, NoNodeLaw, BelowLaw, BeginsLaw, VisitsLaw, StopsLaw, EndsLaw, TreeLaw, SpaceLaw, ScriptLaw};
+ghost use Rattle.machine_search.specs.BestNodes.{BestMakerLaw, BestTreeLaw, UnboundedLaw};
 ghost use Rattle.machine_search.specs.Rests.{SettledLaw, OpeningLaw, RootLaw, ChosenLaw, RestLaw, StateLaw, NodesLaw};
 
 /// The bound on the turns of a run does not matter where it is above the fuel, in steps.
@@ -65,4 +66,13 @@ pub fn rest_law()
     ensures rests { RestLaw }
     ensures state { StateLaw }
     ensures nodes { NodesLaw }
+{}
+
+/// The nodes of best search. A node has at least one step of its own, and is the same with any fuel that suffices for these
+/// (`maker`); what there is with each fuel belongs to one tree (`tree`); under no bound a space is committed as in plain search
+/// (`unbounded`).
+pub fn best_law()
+    ensures maker { BestMakerLaw }
+    ensures tree { BestTreeLaw }
+    ensures unbounded { UnboundedLaw }
 {}

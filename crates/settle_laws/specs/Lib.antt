@@ -3,3 +3,4 @@ pub mod Edits
 pub mod Turns
 pub mod Content
 pub mod Sound
+pub mod Clashes

@@ -1,11 +1,12 @@
 -- The ways up to the variables that stand for classes, and how they change.
-use Rattle.std.proofs.Common.{ℕ, zero, suc, ◌≡◌, ◌∙◌, ◌+◌, ◌-◌, ◌<◌, ◌≤◌, Bool, true, false, if◌then◌else◌, Option, Some, None, refl, sym, ap, subst, arith}
+use Rattle.std.proofs.Common.{ℕ, zero, suc, ◌≡◌, ◌∙◌, ◌+◌, ◌-◌, ◌<◌, ◌≤◌, ◌==◌, Bool, true, false, not, ◌&&◌, if◌then◌else◌, is_some, Option, Some, None, refl, sym, ap, subst, arith}
 use Rattle.std.proofs.lemmas.Bool.{false≢true}
 use Rattle.ident_map.specs.Entries.{entry}
 use Rattle.oz_base.specs.IdentLaws.{ident_eq-equal, ident_eq-itself}
 use Rattle.oz_base.specs.Names.{ident_eq}
 use Rattle.oz_base.specs.declared.names.Ident.{Ident}
 use Rattle.oz_domains.specs.Domains.{IntSet}
+use Rattle.oz_laws.proofs.SameLaws.{and-left, and-right, eq-true}
 use Rattle.term_store.specs.Classes.{Table, link_of, rank_of, kept_of, nothing, is_free, is_nothing, link_in, rank_in, kept_in, Ranked, follow, climbed, root_in, IsTop, Likewise, Marks, instead, Unites}
 use Rattle.term_store.specs.declared.cell.Kept.{Kept}
 use Rattle.term_store.specs.declared.cell.Cell.{Cell}
@@ -89,6 +90,39 @@ module _ (t : Table) where
   pub top_root : (x : Ident) → IsTop t x → root_in t x ≡ x
   unfolding root_in
   top_root x e = top_stays 256 x e
+
+  -- No other variable is below one of rank 0
+
+  no_lower : Ranked t → (n : ℕ) (x : Ident) → rank_in t x ≤ rank_in t (climbed n t x)
+  no_lower r zero x = omega (arith, ap (rank_in t) (no_steps x))
+  no_lower r (suc n) x = by (link_in t x) refl (no_lower r n)
+    where
+      by : (o : Option Ident) → link_in t x ≡ o → ((y : Ident) → rank_in t y ≤ rank_in t (climbed n t y)) → rank_in t x ≤ rank_in t (climbed (suc n) t x)
+      by None e rest = omega (arith, ap (rank_in t) (top_stays (suc n) x e))
+      by (Some y) e rest = omega (arith, r.grows x y e, rest y, ap (rank_in t) (step_up n x y e))
+
+  root_no_lower : Ranked t → (x : Ident) → rank_in t x ≤ rank_in t (root_in t x)
+  unfolding root_in
+  root_no_lower r x = no_lower r 256 x
+
+  pub alone : Ranked t → (x : Ident) → IsTop t x → rank_in t x ≡ 0 → (y : Ident) → root_in t y ≡ root_in t x → y ≡ x
+  alone r x top low y one_root = by (link_in t y) refl
+    where
+      at_x : root_in t y ≡ x
+      at_x = one_root ∙ top_root x top
+
+      by : (o : Option Ident) → link_in t y ≡ o → y ≡ x
+      by None e = sym (top_root y e) ∙ at_x
+      by (Some z) e = absurd (omega (arith, low, r.grows y z e, root_no_lower r z, ap (rank_in t) (root_up r y z e ∙ at_x)))
+
+  -- by what is kept of it
+  pub alone_by : Ranked t → (x : Ident) (cell : Option Cell) → cell ≡ entry t x → (not (is_some (link_of cell)) && (rank_of cell == 0)) ≡ true → (y : Ident) → root_in t y ≡ root_in t x → y ≡ x
+  alone_by r x cell is e = alone r x (ap link_of (sym is) ∙ no_link (link_of cell) (and-left (not (is_some (link_of cell))) (rank_of cell == 0) e))
+      (ap rank_of (sym is) ∙ eq-true (rank_of cell) 0 (and-right (not (is_some (link_of cell))) (rank_of cell == 0) e))
+    where
+      no_link : (o : Option Ident) → not (is_some o) ≡ true → o ≡ None
+      no_link None q = refl
+      no_link (Some z) q = absurd (false≢true q)
 
 -- The same links
 

@@ -1,8 +1,8 @@
 -- Tells in chunks.
-use Rattle.std.proofs.Common.{ℕ, zero, suc, ◌≡◌, ◌∙◌, ◌+◌, ◌*◌, ◌<◌, List, [], ◌∷◌, ◌++◌, length, Some, slice_get, refl, ap, arith, append_assoc, length-append}
+use Rattle.std.proofs.Common.{ℕ, zero, suc, ◌≡◌, ◌∙◌, ◌+◌, ◌*◌, ◌<◌, ◌≤◌, List, [], ◌∷◌, ◌++◌, length, Option, Some, None, slice_get, refl, sym, ap, arith, append_assoc, append-nil, length-append, subst}
 use Rattle.std.specs.List.{flat_map}
 use Rattle.oz_semantics.specs.declared.value.Tell.{Tell}
-use Rattle.term_store.specs.Logs.{AllFull}
+use Rattle.term_store.specs.Logs.{with_ended, AllFull}
 
 length_joined : (cs : List (List Tell)) → AllFull cs → length (flat_map (λ c. c) cs) ≡ 32 * length cs
 length_joined [] f = omega arith
@@ -42,3 +42,62 @@ get_chunk (d ∷ cs) r f (suc k) j i c at within e =
     ap (λ ts. slice_get ts i) (append_assoc d (flat_map (λ c. c) cs) r)
     ∙ get_behind d (flat_map (λ c. c) cs ++ r) i (32 * k + j) n
     ∙ get_chunk cs r f.1 k j (32 * k + j) c at within refl
+
+-- The chunk that ended last
+
+past : (cs : List (List Tell)) (n : ℕ) → n ≡ length cs → slice_get cs n ≡ None
+past [] n e = refl
+past (c ∷ cs) zero e = absurd (omega (arith, e))
+past (c ∷ cs) (suc n) e = past cs n (omega (arith, e))
+
+last : (cs : List (List Tell)) (c : List Tell) (n : ℕ) → n ≡ length cs → slice_get (cs ++ c ∷ []) n ≡ Some c
+last [] c zero e = refl
+last [] c (suc n) e = absurd (omega (arith, e))
+last (d ∷ cs) c zero e = absurd (omega (arith, e))
+last (d ∷ cs) c (suc n) e = last cs c n (omega (arith, e))
+
+elsewhere : (cs : List (List Tell)) (c : List Tell) (n : ℕ) → (n ≡ length cs → ⊥) → slice_get (cs ++ c ∷ []) n ≡ slice_get cs n
+elsewhere [] c zero h = absurd (h refl)
+elsewhere [] c (suc n) h = refl
+elsewhere (d ∷ cs) c zero h = refl
+elsewhere (d ∷ cs) c (suc n) h = elsewhere cs c n (λ e. h (omega (arith, e)))
+
+pub at_end : (cs : List (List Tell)) (ended : Option (List Tell)) (n : ℕ) → n ≡ length cs → slice_get (with_ended cs ended) n ≡ ended
+at_end cs None n e = past cs n e
+at_end cs (Some c) n e = last cs c n e
+
+pub before_end : (cs : List (List Tell)) (ended : Option (List Tell)) (n : ℕ) → (n ≡ length cs → ⊥) → slice_get (with_ended cs ended) n ≡ slice_get cs n
+before_end cs None n h = refl
+before_end cs (Some c) n h = elsewhere cs c n h
+
+pub few : (cs : List (List Tell)) (ended : Option (List Tell)) → length cs ≤ length (with_ended cs ended)
+few cs None = omega arith
+few cs (Some c) = omega (arith, length-append cs (c ∷ []))
+
+pub none_at : (cs : List (List Tell)) (k : ℕ) → slice_get cs k ≡ None → k < length cs → ⊥
+none_at [] k e h = omega (arith, h)
+none_at (c ∷ cs) zero e h = cc
+none_at (c ∷ cs) (suc k) e h = none_at cs k e (omega (arith, h))
+
+pub ended_more : (cs : List (List Tell)) (ended : Option (List Tell)) (c : List Tell) → ended ≡ None → with_ended cs (Some c) ≡ with_ended cs ended ++ c ∷ []
+ended_more cs ended c e = ap (λ o. with_ended cs o ++ c ∷ []) (sym e)
+
+joined_more : (cs : List (List Tell)) (c : List Tell) → flat_map (λ d. d) (cs ++ c ∷ []) ≡ flat_map (λ d. d) cs ++ c
+joined_more [] c = append-nil c
+joined_more (d ∷ cs) c = ap (λ ts. d ++ ts) (joined_more cs c) ∙ sym (append_assoc d (flat_map (λ e. e) cs) c)
+
+-- a chunk of the rest has ended, after the one before went to the others
+module _ (cs cs' : List (List Tell)) (ended ended' : Option (List Tell)) (c r r' : List Tell) (same : with_ended cs' ended' ≡ with_ended cs ended) (filed : ended' ≡ None) (is : c ≡ r) (none : r' ≡ []) where
+  now : with_ended cs' (Some c) ≡ with_ended cs ended ++ c ∷ []
+  now = ended_more cs' ended' c filed ∙ ap (λ ds. ds ++ c ∷ []) same
+
+  pub ended_told : flat_map (λ d. d) (with_ended cs' (Some c)) ++ r' ≡ flat_map (λ d. d) (with_ended cs ended) ++ r
+  ended_told =
+      ap (λ ts. flat_map (λ d. d) (with_ended cs' (Some c)) ++ ts) none
+      ∙ append-nil (flat_map (λ d. d) (with_ended cs' (Some c)))
+      ∙ ap (flat_map (λ d. d)) now
+      ∙ joined_more (with_ended cs ended) c
+      ∙ ap (λ ts. flat_map (λ d. d) (with_ended cs ended) ++ ts) is
+
+  pub ended_full : AllFull (with_ended cs ended) → length r ≡ 32 → AllFull (with_ended cs' (Some c))
+  ended_full f full = subst AllFull (sym now) (full_more (with_ended cs ended) c f (ap length is ∙ full))

@@ -1,5 +1,5 @@
 -- What was told, as chunks and a rest.
-use Rattle.std.specs.Prelude.{ℕ, ◌≡◌, ◌<◌, List, [], ◌∷◌, ◌++◌, length}
+use Rattle.std.specs.Prelude.{ℕ, ◌≡◌, ◌<◌, List, [], ◌∷◌, ◌++◌, length, Option, Some, None}
 use Rattle.std.specs.List.{flat_map}
 use Rattle.oz_semantics.specs.declared.value.Tell.{Tell}
 
@@ -8,6 +8,11 @@ pub record Written : Type 0 where
   pub rest : List Tell
   -- how many tells the rest may come to before memory is taken for it
   pub capacity : ℕ
+
+-- the chunk that ended last stands behind the others
+abbrev pub with_ended : List (List Tell) → Option (List Tell) → List (List Tell)
+with_ended chunks None = chunks
+with_ended chunks (Some chunk) = chunks ++ chunk ∷ []
 
 -- the chunks joined, then the rest
 abbrev pub told_in : Written → List Tell

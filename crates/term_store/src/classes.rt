@@ -1,8 +1,8 @@
 //! Classes of variables: trees, each of whose roots stands for a class.
-ghost use Rattle.std.specs.Prelude.{◌≡◌, ◌<◌, ◌⊎◌, true, false, None, IfOk, OnOk, OnErr, option_copied};
+ghost use Rattle.std.specs.Prelude.{◌≡◌, ◌<◌, ◌⊎◌, ◌&&◌, ◌==◌, not, is_some, true, false, None, IfOk, OnOk, OnErr, option_copied};
 ghost use Rattle.oz_base.specs.Names.{ident_eq};
 ghost use Rattle.ident_map.specs.Entries.{entry};
-ghost use Rattle.term_store.specs.Classes.{link_in, rank_of, first_of, domain_of, kept_of, rank_in, first_in, domain_in, kept_in, root_in, is_free, is_nothing, IsTop, Likewise, Marks, Unites, UnitesOne, UnitesFree, UnitesAny, UnitesWith};
+ghost use Rattle.term_store.specs.Classes.{link_of, link_in, rank_of, first_of, domain_of, kept_of, rank_in, first_in, domain_in, kept_in, root_in, is_free, is_nothing, IsTop, Likewise, Marks, Unites, UnitesOne, UnitesFree, UnitesAny, UnitesWith};
 
 use crate::cell::{Cell, Kept};
 use crate::class_domain::ClassDomain;
@@ -59,6 +59,17 @@ fn domain_of<'a>(cell: Option<&'a Cell>) -> Option<&'a Shared<ClassDomain>>
     match cell {
         Some(Cell::Root { kept, .. }) => kept.domain.as_ref(),
         _ => None,
+    }
+}
+
+/// Whether a variable of which this is kept stands for a class and has rank 0, so that no other is below it.
+fn stands_alone(cell: Option<&Cell>) -> bool
+    ensures { result ≡ not (is_some (link_of (option_copied cell.entry))) && (rank_of (option_copied cell.entry) == 0) }
+{
+    match cell {
+        None => true,
+        Some(Cell::Below { .. }) => false,
+        Some(Cell::Root { rank, .. }) => *rank == 0,
     }
 }
 
@@ -175,6 +186,14 @@ impl Classes {
         ensures { result ≡ ident_eq (root_in self.now left.now) (root_in self.now right.now) }
     {
         same_ident(self.root(left), self.root(right))
+    }
+
+    /// Whether no other variable is of the class of this one. It is looked up once. After a lack of memory this may be false of one that
+    /// is alone as well.
+    pub fn is_alone(&self, variable: &Ident) -> bool
+        ensures { result ≡ true → (other : Ident) → root_in self.now other ≡ root_in self.now variable.now → other ≡ variable.now }
+    {
+        stands_alone(self.cells.get(variable))
     }
 
     /// This is kept from now on of the class that a variable of this rank stands for. An error is for lack of memory.

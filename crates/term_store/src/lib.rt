@@ -3,6 +3,7 @@
 #![tactic(auto)]
 
 mod cell;
+mod chunk;
 mod class_domain;
 mod classes;
 mod closing;

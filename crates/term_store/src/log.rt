@@ -1,22 +1,27 @@
 //! Everything that a store was told, in order.
-ghost use Rattle.std.specs.Prelude.{ℕ, ◌≡◌, ◌++◌, ◌∷◌, ◌<◌, ◌+◌, ◌-◌, ◌*◌, ◌^◌, [], length, slice_get, Some, OnOk, OnErr, IfOk, option_copied, vec_capacity};
+ghost use Rattle.std.specs.Prelude.{None, ℕ, ◌≡◌, ◌++◌, ◌∷◌, ◌<◌, ◌+◌, ◌-◌, ◌*◌, ◌^◌, [], length, slice_get, Some, OnOk, OnErr, IfOk, option_copied, vec_capacity};
 ghost use Rattle.oz_semantics.specs.declared.value.Tell.{Tell};
 ghost use Rattle.term_store.specs.Places.{value_told, value_at};
-ghost use Rattle.term_store.specs.Logs.{told_in, HasRoom};
+ghost use Rattle.term_store.specs.Logs.{told_in, with_ended, HasRoom};
 
-use oz_base::{Copies, Sequence, Shared};
+use crate::chunk::{Chunk, copy_of};
+use oz_base::Copies;
 use oz_semantics::{Tell, Value};
 use shared_list::SharedList;
 use std::alloc::{AllocError, Global};
 use std::marker::Model;
+use std::mem;
 
 /// How many tells stand in a chunk.
 const CHUNK: u64 = 32;
 
 /// Everything that was told: full chunks, which copies share, and the last tells, which are at most as many as stand in a chunk.
+///
+/// The chunk that ended last stands by itself until the next one ends: so a lack of memory loses no tell.
 #[derive(Drop)]
 pub struct Log {
-    chunks: SharedList<Shared<Sequence<Tell>>>,
+    chunks: SharedList<Chunk>,
+    ended: Option<Chunk>,
     rest: Vec<Tell>,
 }
 
@@ -24,15 +29,15 @@ impl Model for Log {
     ghost use Rattle.std.specs.Prelude.{◌<◌, ◌≤◌, ◌^◌, length, vec_capacity};
     ghost use Rattle.std.specs.Coded.{codes};
     ghost use Rattle.environments.specs.contracts.environment.Environment as environment;
-    ghost use Rattle.term_store.specs.Logs.{Written, told_in, AllFull};
+    ghost use Rattle.term_store.specs.Logs.{Written, told_in, with_ended, AllFull};
 
     ghost Value = { Written };
 
     ghost coded = { Prim.hlevel (codes, environment.the_row.coded) };
 
-    ghost view = { λ l. record { chunks = l.chunks; rest = l.rest.items; capacity = vec_capacity l.rest } };
+    ghost view = { λ l. record { chunks = with_ended l.chunks l.ended; rest = l.rest.items; capacity = vec_capacity l.rest } };
 
-    ghost invariant = { λ l. AllFull l.chunks × (length l.rest.items ≤ 32) × (length (told_in record { chunks = l.chunks; rest = l.rest.items; capacity = vec_capacity l.rest }) < 2 ^ 64) };
+    ghost invariant = { λ l. AllFull (with_ended l.chunks l.ended) × (length l.rest.items ≤ 32) × (length (told_in record { chunks = with_ended l.chunks l.ended; rest = l.rest.items; capacity = vec_capacity l.rest }) < 2 ^ 64) };
 }
 
 /// The value that a tell gives its variable.
@@ -74,6 +79,65 @@ fn put_behind(tells: &mut Vec<Tell>, tell: Tell)
     }
 }
 
+/// How many chunks there are.
+fn chunk_count(chunks: &SharedList<Chunk>, ended: Option<&Chunk>) -> u64
+    requires { length chunks.now < 2 ^ 64 - 1 }
+    ensures { result ≡ length (with_ended chunks.now (option_copied ended.entry)) }
+{
+    match ended {
+        None => chunks.len(),
+        Some(_) => chunks.len() + 1,
+    }
+}
+
+/// The chunk at this place.
+fn chunk_at<'a>(
+    chunks: &'a SharedList<Chunk>,
+    ended: Option<&'a Chunk>,
+    place: u64,
+) -> Option<&'a Chunk>
+    ensures { option_copied result ≡ slice_get (with_ended chunks.now (option_copied ended.entry)) place }
+{
+    if place == chunks.len() {
+        return ended;
+    }
+    chunks.get(place)
+}
+
+/// Puts the chunk that ended last behind the others.
+fn put_ended(
+    alloc: Global,
+    chunks: &mut SharedList<Chunk>,
+    ended: &mut Option<Chunk>,
+) -> Result<(), AllocError>
+    ensures same { with_ended chunks.new ended.new ≡ with_ended chunks.old ended.old }
+    ensures filed { OnOk result (ended.new ≡ None) }
+{
+    let Some(chunk) = copy_of(alloc, ended.as_ref())? else {
+        return Ok(());
+    };
+    chunks.push(alloc, chunk)?;
+    *ended = None;
+    Ok(())
+}
+
+/// Makes a chunk of the tells, and leaves none.
+fn chunk_of(alloc: Global, tells: &mut Vec<Tell>) -> Result<Chunk, AllocError>
+    ensures chunk { IfOk result (λ chunk. chunk ≡ tells.old.items) }
+    ensures ok { OnOk result (tells.new.items ≡ []) }
+    ensures err { OnErr result (tells.new.items ≡ tells.old.items) }
+{
+    let spare = Vec::with_capacity(alloc, CHUNK as usize)?;
+    let full = mem::replace(tells, spare);
+    match Chunk::new(alloc, full) {
+        Ok(chunk) => Ok(chunk),
+        Err(back) => {
+            *tells = back;
+            Err(AllocError)
+        }
+    }
+}
+
 impl Log {
     /// Nothing was told. It takes no memory.
     pub fn new(alloc: Global) -> Log
@@ -81,6 +145,7 @@ impl Log {
     {
         Log {
             chunks: SharedList::new(),
+            ended: None,
             rest: Vec::new(alloc),
         }
     }
@@ -89,7 +154,7 @@ impl Log {
     fn listed(&self) -> u64
         ensures { result ≡ 32 * length self.now.chunks }
     {
-        CHUNK * self.chunks.len()
+        CHUNK * chunk_count(&self.chunks, self.ended.as_ref())
     }
 
     /// How much was told.
@@ -105,9 +170,9 @@ impl Log {
         requires place { place < 32 }
         ensures { option_copied result ≡ slice_get (told_in self.now) (32 * chunk + place) }
     {
-        match self.chunks.get(chunk) {
+        match chunk_at(&self.chunks, self.ended.as_ref(), chunk) {
             None => None,
-            Some(tells) => at(tells.get().as_slice(), place),
+            Some(tells) => at(tells.as_slice(), place),
         }
     }
 
@@ -138,9 +203,9 @@ impl Log {
         ensures told { told_in self.new ≡ told_in self.old }
         ensures rest { OnOk result (self.new.rest ≡ []) }
     {
-        let tells = Sequence::from_vec(copies_of(alloc, self.rest.as_slice())?);
-        self.chunks.push(alloc, Shared::new(alloc, tells)?)?;
-        self.rest.clear();
+        put_ended(alloc, &mut self.chunks, &mut self.ended)?;
+        let chunk = chunk_of(alloc, &mut self.rest)?;
+        self.ended = Some(chunk);
         Ok(())
     }
 
@@ -184,6 +249,7 @@ impl Log {
     {
         Ok(Log {
             chunks: self.chunks.copied(alloc)?,
+            ended: copy_of(alloc, self.ended.as_ref())?,
             rest: copies_of(alloc, self.rest.as_slice())?,
         })
     }

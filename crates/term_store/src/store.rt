@@ -99,6 +99,13 @@ impl Store {
         self.classes.are_one(left, right)
     }
 
+    /// Whether no other variable is equal to this one, as far as that is known without a look at what was told.
+    pub fn is_alone(&self, variable: &Ident) -> bool
+        ensures { result ≡ true → (other : Ident) → same self.now other variable.now ≡ true → other ≡ variable.now }
+    {
+        self.classes.is_alone(variable)
+    }
+
     /// The place at which the first value of a variable's class was told, if it has one.
     pub fn value_place(&self, variable: &Ident) -> Option<u64>
         ensures { result ≡ value_place self.now variable.now }

@@ -1,17 +1,19 @@
-use Rattle.std.proofs.Common.{◌≡◌, ◌∙◌, ◌++◌, ◌∷◌, [], length, length-append, subst, sym, arith, ap}
-use Rattle.term_store.specs.Logs.{AllFull}
-use Rattle.term_store.proofs.LogLaws.{full_more, length_told}
+use Rattle.std.proofs.Common.{◌≡◌, ◌∙◌, ◌++◌, ◌∷◌, ◌<◌, ◌^◌, [], length, Some, subst, sym, arith, ap}
+use Rattle.std.specs.List.{flat_map}
+use Rattle.term_store.specs.Logs.{AllFull, with_ended}
+use Rattle.term_store.proofs.LogLaws.{ended_full, ended_told}
 use Rattle.term_store.proofs.log.Log.end_chunk.Goals as goal
 
 pub invariant_of-self-2 : goal.invariant_of-self-2
 invariant_of-self-2 c =
-    let chunk : c.in_ok-new.field-0 ≡ c.self.inside.rest.items = c.in_ok-new.ensures ∙ c.from_vec-tells.ensures ∙ c.in_ok-copies_of.ensures ∙ c.as_slice.ensures.value in
+    let inside = c.self.inside in
+    let after = c.put_ended.new in
     let full : length c.self.inside.rest.items ≡ 32 = ap (λ l. length l.rest) c.self.view_is ∙ c.requires.full in
-    let more : AllFull (c.self.inside.chunks ++ c.in_ok-new.field-0 ∷ []) = full_more c.self.inside.chunks c.in_ok-new.field-0 c.self.invariant.0 (ap length chunk ∙ full) in
-    let now : AllFull c.push.new.self = subst AllFull (sym c.in_ok-push.ensures.ok) more in
-    let none : length c.clear.new.self.items ≡ 0 = ap length c.clear.ensures.items in
-    let count : length c.push.new.self ≡ length (c.self.inside.chunks ++ c.in_ok-new.field-0 ∷ []) = ap length c.in_ok-push.ensures.ok in (
+    let now : AllFull (c.put_ended.new.chunks ++ c.in_ok-chunk.chunk ∷ []) =
+    ended_full inside.chunks after.chunks inside.ended after.ended c.in_ok-chunk.chunk inside.rest.items c.chunk_of.new.tells.items c.put_ended.ensures.same c.in_ok-put_ended.ensures.filed c.in_ok-chunk.ensures.chunk c.in_ok-chunk.ensures.ok c.self.invariant.0 full in
+    let told : flat_map (λ d. d) (with_ended c.put_ended.new.chunks (Some c.in_ok-chunk.chunk)) ++ c.chunk_of.new.tells.items ≡ flat_map (λ d. d) (with_ended c.self.inside.chunks c.self.inside.ended) ++ c.self.inside.rest.items =
+    ended_told inside.chunks after.chunks inside.ended after.ended c.in_ok-chunk.chunk inside.rest.items c.chunk_of.new.tells.items c.put_ended.ensures.same c.in_ok-put_ended.ensures.filed c.in_ok-chunk.ensures.chunk c.in_ok-chunk.ensures.ok in (
       now,
-      omega (arith, none),
-      omega (arith, none, full, count, length-append c.self.inside.chunks (c.in_ok-new.field-0 ∷ []), c.self.invariant.2, length_told c.self.inside.chunks c.self.inside.rest.items c.self.invariant.0, length_told c.push.new.self c.clear.new.self.items now),
+      omega (arith, ap length c.in_ok-chunk.ensures.ok),
+      subst (λ ts. length ts < 2 ^ 64) (sym told) c.self.invariant.2,
     )
