@@ -3,6 +3,7 @@ pub mod RestLaws
 pub mod BackLaws
 pub mod StateLaws
 pub mod OfferLaws
+pub mod NextLaws
 pub mod EndLaws
 pub mod RunLaws
 pub mod TreeLaws
