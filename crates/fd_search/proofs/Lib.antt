@@ -13,3 +13,4 @@ pub mod TextLaws
 pub mod BestBackLaws
 pub mod BestEndLaws
 pub mod BestRunLaws
+pub mod BestTreeLaws

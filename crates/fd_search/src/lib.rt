@@ -6,7 +6,7 @@
 
 ghost use Rattle.fd_search.specs.Laws.{Setting, StepsLaw, RunLaw, TreeLaw, SearchLaw};
 ghost use Rattle.fd_search.specs.Texts.{TextsLaw};
-ghost use Rattle.fd_search.specs.BestSearching.{StepsBelowLaw, RunBelowLaw};
+ghost use Rattle.fd_search.specs.BestSearching.{StepsBelowLaw, RunBelowLaw, TreeBelowLaw, SearchBelowLaw};
 ghost use Rattle.oz_language.specs.declared.kernel.Constant.{Constant};
 ghost use Rattle.std.specs.Prelude.{ℕ};
 
@@ -32,4 +32,11 @@ pub fn text_law()
 pub fn best_run_law()
     ensures steps { (its : Setting) (feature : Constant) (cost : ℕ) → StepsBelowLaw its feature cost }
     ensures runs { RunBelowLaw }
+{}
+
+/// Best search. Where the run of the space ends, its nodes show a bounded tree (`tree`), as they do from where the thread distributes
+/// (`search`).
+pub fn best_search_law()
+    ensures tree { TreeBelowLaw }
+    ensures search { SearchBelowLaw }
 {}
