@@ -6,3 +6,4 @@ pub mod NumberLaws
 pub mod VariableLaws
 pub mod ShapeLaws
 pub mod CostLaws
+pub mod BestTieLaws
