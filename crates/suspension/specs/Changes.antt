@@ -32,6 +32,12 @@ pub record Gains (n : ℕ) (old new : List ℕ) : Type 0 where
   pub kept : (m : ℕ) → Contains old m → Contains new m
   pub only : (m : ℕ) → Contains new m → Contains old m ⊎ (m ≡ n)
 
+-- the same lists, where the variable stands among those that may be keys
+pub record Admits (k : Ident) (old new : Sleepers) : Type 0 where
+  pub lists : new.lists ≡ old.lists
+  pub here : AreListed old → Contains new.variables k
+  pub kept : (y : Ident) → Contains old.variables y → Contains new.variables y
+
 -- a variable's list has this number too
 pub record Enters (n : ℕ) (k : Ident) (old new : Sleepers) : Type 0 where
   pub list : List ℕ
@@ -44,10 +50,10 @@ pub record Leaves (k : Ident) (old new : Sleepers) : Type 0 where
   pub lists : Sets old new k []
   pub variables : new.variables ≡ old.variables
 
--- Of these variables, the lists are the same
+-- those of these variables that are keys are keys here too, with the same lists, and no others are
 pub record Gathered (old : Sleepers) (seen : List Ident) (new : Sleepers) : Type 0 where
-  pub same : (k : Ident) → Contains seen k → numbers_at new k ≡ numbers_at old k
-  pub only : (k : Ident) (n : ℕ) → Contains (numbers_at new k) n → Contains (numbers_at old k) n
+  pub same : (k : Ident) → IsKey new k → numbers_at new k ≡ numbers_at old k
+  pub kept : (k : Ident) → Contains seen k → IsKey old k → IsKey new k
   pub listed : AreListed new
 
 -- the same numbers in all lists

@@ -2,7 +2,7 @@
 ghost use Rattle.std.specs.Prelude.{◌≡◌, ◌++◌, ◌∷◌, ◌&&◌, [], List, ℕ, IfOk, OnOk, Contains};
 ghost use Rattle.oz_base.specs.declared.names.Ident.{Ident};
 ghost use Rattle.oz_semantics.specs.Store.{View, same};
-ghost use Rattle.suspension.specs.Changes.{is_key, AreListed, Finds, Enters, Leaves, Gathered, Tidies, Waking};
+ghost use Rattle.suspension.specs.Changes.{is_key, AreListed, Finds, Admits, Enters, Leaves, Gathered, Tidies, Waking};
 ghost use Rattle.suspension.specs.Sleeping.{AreKeys, FallsAsleep, Wakes, numbers_at};
 ghost use Rattle.suspension.specs.declared.sleepers.Sleepers.{Sleepers};
 
@@ -105,14 +105,22 @@ impl Sleepers {
         self.look(alloc, store, variable)
     }
 
+    /// Adds a variable to those among which each key is, unless it is a key.
+    fn admit(&mut self, alloc: Global, variable: &Ident) -> Result<(), AllocError>
+        ensures { OnOk result (Admits variable.now self.old self.new) }
+    {
+        if self.is_key(variable) {
+            return Ok(());
+        }
+        self.variables.push(alloc, variable.copied(alloc)?)
+    }
+
     /// Adds a number to the list of a variable, which is a key from now on.
     fn enter(&mut self, alloc: Global, key: &Ident, number: u64) -> Result<(), AllocError>
         ensures { OnOk result (Enters number key.now self.old self.new) }
     {
+        self.admit(alloc, key)?;
         let mut list = self.list_of(alloc, key)?;
-        if list.len() == 0 {
-            self.variables.push(alloc, key.copied(alloc)?)?;
-        }
         add(alloc, &mut list, number)?;
         self.lists.insert(alloc, key, list)
     }

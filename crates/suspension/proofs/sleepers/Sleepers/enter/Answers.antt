@@ -1,0 +1,4 @@
+use Rattle.suspension.proofs.sleepers.Sleepers.enter.Goals as goal
+
+pub returns : goal.returns
+returns c = ?
