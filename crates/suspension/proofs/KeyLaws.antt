@@ -187,12 +187,12 @@ finds_root view s x r x_r e = (e, x_r)
 -- a variable that is alone, and whose root is no key
 pub finds_alone : (view : View) (s : Sleepers) (x r : Ident) → Same view x r → is_key s r ≡ false → ((other : Ident) → same view other x ≡ true → other ≡ x)
     → Finds view s x None
-finds_alone view s x r x_r e alone k h x_k =
+finds_alone view s x r x_r e alone l k h x_k =
     let k_x : k ≡ x = alone k ((tests_same view k x).1 (reversed x_k)) in
     let r_x : r ≡ x = alone r ((tests_same view r x).1 (reversed x_r)) in
     not_both (is_key s k) (key_tested s k h) (ap (is_key s) (k_x ∙ sym r_x) ∙ e)
 
-pub finds_none : (view : View) (s : Sleepers) (x : Ident) → ((k : Ident) → Contains s.variables k → (is_key s k && same view x k) ≡ false) → AreListed s
+pub finds_none : (view : View) (s : Sleepers) (x : Ident) → ((k : Ident) → Contains s.variables k → (is_key s k && same view x k) ≡ false)
     → Finds view s x None
 finds_none view s x none l k h x_k =
     not_both (is_key s k && same view x k) (and_both (is_key s k) (same view x k) (key_tested s k h) ((tests_same view x k).1 x_k)) (none k (l k h))

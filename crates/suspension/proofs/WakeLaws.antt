@@ -1,5 +1,5 @@
 -- How threads are woken.
-use Rattle.std.proofs.Common.{◌≡◌, ◌⊎◌, inl, inr, ℕ, ◌==◌, Bool, true, false, List, [], ◌∷◌, ◌++◌, sym, subst, ◌∙◌, Contains, Some, None, nat_eq}
+use Rattle.std.proofs.Common.{◌≡◌, ◌⊎◌, inl, inr, ℕ, ◌==◌, Bool, true, false, List, [], ◌∷◌, ◌++◌, sym, subst, ◌∙◌, Contains, Some, None, Result, Ok, Err, OnOk, is_err}
 use Rattle.std.specs.List.{list_any}
 use Rattle.std.specs.List.Sorted.{IsStrictlyIncreasing}
 use Rattle.std.proofs.lemmas.List.Elements.{Contains-push, Contains-push_cases, Contains-append_left, Contains-append_right, Contains-append_cases}
@@ -32,7 +32,7 @@ waking_none view s a = record {
 
 module _ (view : View) (done : List Ident) (x : Ident) (old : Sleepers) (a : AreKeys view old) (before : Sleepers) (woken : List ℕ) (w : Waking view done old before woken) where
   -- no key is equal to the variable
-  pub waking_still : (AreListed before → Finds view before x None) → Waking view (done ++ x ∷ []) old before woken
+  pub waking_still : Finds view before x None → Waking view (done ++ x ∷ []) old before woken
   waking_still f = record {
     sleeps = w.sleeps;
     fewer = w.fewer;
@@ -45,13 +45,10 @@ module _ (view : View) (done : List Ident) (x : Ident) (old : Sleepers) (a : Are
   }
 
   -- one is, and was taken out
-  module _ (key : Ident) (f : AreListed before → Finds view before x (Some key)) (after : Sleepers) (l : Leaves key before after)
+  module _ (key : Ident) (f : Finds view before x (Some key)) (after : Sleepers) (l : Leaves key before after)
       (more : List ℕ) (e : more ≡ woken ++ numbers_at before key) where
-    found : (is_key before key ≡ true) × Same view x key
-    found = f w.listed
-
     was_key : IsKey before key
-    was_key = is_key_of before key found.0
+    was_key = is_key_of before key f.0
 
     empty : (n : ℕ) → Contains (numbers_at after key) n → ⊥
     empty n c = nothing_in n (subst (λ (xs : List ℕ). Contains xs n) (set_here before after key [] l.lists) c)
@@ -78,13 +75,13 @@ module _ (view : View) (done : List Ident) (x : Ident) (old : Sleepers) (a : Are
       fewer = λ k n c. w.fewer k n (still k n c);
       untouched = λ k h m. elim (Contains-push_cases done x m.0 m.1) [
         | inl c ↦ w.untouched k (h.0, still k h.0 h.1) (m.0, c, m.2)
-        | inr q ↦ (let s : Same view k key = joined (subst (Same view k) (sym q) m.2) found.1 in
+        | inr q ↦ (let s : Same view k key = joined (subst (Same view k) (sym q) m.2) f.1 in
             let p : k ≡ key = a.apart k key (h.0, w.fewer k h.0 (still k h.0 h.1)) (was_key.0, w.fewer key was_key.0 was_key.1) s in
             empty h.0 (subst (λ z. Contains (numbers_at after z) h.0) p h.1))
       ];
       only = λ n c. elim (Contains-append_cases woken (numbers_at before key) n (subst (λ (xs : List ℕ). Contains xs n) e c)) [
         | inl h ↦ (let k = w.only n h in (k.0, meets_left view done (x ∷ []) k.0 k.1, k.2))
-        | inr h ↦ (key, (x, Contains-push done x, reversed found.1), w.fewer key n h)
+        | inr h ↦ (key, (x, Contains-push done x, reversed f.1), w.fewer key n h)
       ];
       listed = λ k h. subst (λ (xs : List Ident). Contains xs k) (sym l.variables) (w.listed k (h.0, still k h.0 h.1));
     }
@@ -137,3 +134,9 @@ keys_stay before more touched s t none a = record {
 
 pub found_stays : FoundStays
 found_stays before after s n xs later f x c = let k = f x c in (k.0, later x k.0 k.1, k.2)
+
+-- Results
+
+pub on_ok_both : {T E : Type 0} (P Q R : Type 0) (r : Result T E) → (P → Q → R) → OnOk r P → OnOk r Q → OnOk r R
+on_ok_both P Q R (Ok a) f p q = f p q
+on_ok_both P Q R (Err e) f p q = p

@@ -20,7 +20,7 @@ AreListed sleepers = (k : Ident) → IsKey sleepers k → Contains sleepers.vari
 -- the key that is equal to a variable; none where no key is
 abbrev pub Finds : View → Sleepers → Ident → Option Ident → Type 0
 Finds view sleepers x (Some k) = (is_key sleepers k ≡ true) × Same view x k
-Finds view sleepers x None = (k : Ident) → IsKey sleepers k → Same view x k → ⊥
+Finds view sleepers x None = AreListed sleepers → (k : Ident) → IsKey sleepers k → Same view x k → ⊥
 
 -- the variable has this list, and the others have theirs
 abbrev pub Sets : Sleepers → Sleepers → Ident → List ℕ → Type 0

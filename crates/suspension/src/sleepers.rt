@@ -72,7 +72,7 @@ impl Sleepers {
         store: &Store,
         variable: &Ident,
     ) -> Result<Option<Ident>, AllocError>
-        ensures { IfOk result (λ found. AreListed self.now → Finds store.now self.now variable.now found) }
+        ensures { IfOk result (Finds store.now self.now variable.now) }
     {
         'keys: for place in 0..self.variables.len() {
             let Some(key) = self.variables.get(place) else {
@@ -93,7 +93,7 @@ impl Sleepers {
         store: &Store,
         variable: &Ident,
     ) -> Result<Option<Ident>, AllocError>
-        ensures { IfOk result (λ found. AreListed self.now → Finds store.now self.now variable.now found) }
+        ensures { IfOk result (Finds store.now self.now variable.now) }
     {
         let root = store.classes().root(variable);
         if self.is_key(root) {

@@ -10,7 +10,7 @@ pub returns-then-is_equal_key : goal.returns-then-is_equal_key
 returns-then-is_equal_key c =
     let here : (is_key c.args.self.now c.in-Some.key.now && same c.args.store.now c.args.variable.now c.in-Some.key.now) ≡ true =
     sym c.is_equal_key.ensures ∙ c.if-is_equal_key.true in
-    λ listed. subst (λ (k : Ident). Finds c.args.store.now c.args.self.now c.args.variable.now (Some k)) (sym c.in_ok-copied.ensures)
+    subst (λ (k : Ident). Finds c.args.store.now c.args.self.now c.args.variable.now (Some k)) (sym c.in_ok-copied.ensures)
     (finds_here c.args.store.now c.args.self.now c.args.variable.now c.in-Some.key.now here)
 
 pub keys-preserved : goal.keys-preserved
@@ -23,5 +23,5 @@ keys-preserved c =
 pub returns : goal.returns
 returns c =
     let all : length c.args.self.now.variables ≤ c.keys.place = omega (arith, c.keys-test.false, c.len-place-end.ensures) in
-    λ listed. finds_none c.args.store.now c.args.self.now c.args.variable.now
-    (λ k m. c.keys.invariant k (subst (λ (xs : List Ident). Contains xs k) (sym (take_all c.keys.place c.args.self.now.variables all)) m)) listed
+    finds_none c.args.store.now c.args.self.now c.args.variable.now
+    (λ k m. c.keys.invariant k (subst (λ (xs : List Ident). Contains xs k) (sym (take_all c.keys.place c.args.self.now.variables all)) m))
