@@ -8,13 +8,13 @@ use Rattle.ident_map.specs.Entries.{entry}
 use Rattle.oz_base.specs.Lists.{is_empty}
 use Rattle.oz_base.specs.Names.{ident_eq}
 use Rattle.oz_base.specs.declared.names.Ident.{Ident}
-use Rattle.oz_semantics.specs.Store.{View, Same, itself, reversed, joined, same}
-use Rattle.oz_laws.specs.Touched.{Meets, Touches}
-use Rattle.oz_laws.proofs.SameLaws.{In, In-from_contains, contains-from_In, ident_eq-true, ident_eq-refl, tests_same, and-left, and-right}
+use Rattle.oz_semantics.specs.Store.{View, Same, reversed, joined, same}
+use Rattle.oz_laws.specs.Touched.{Meets}
+use Rattle.oz_laws.proofs.SameLaws.{In-from_contains, contains-from_In, ident_eq-true, ident_eq-refl, tests_same, and-left, and-right}
 use Rattle.term_store.specs.Classes.{Table, root_in, IsPartition}
 use Rattle.view_laws.proofs.Members.{decide, not_both, and_both}
 use Rattle.suspension.specs.Changes.{is_key, AreListed, Finds, Admits, Enters, Gains, Sets, Gathered, Tidies}
-use Rattle.suspension.specs.Sleeping.{numbers_at, IsKey, AreKeys, IsFoundBy, IsFound, FallsAsleep}
+use Rattle.suspension.specs.Sleeping.{numbers_at, IsKey, AreKeys, FallsAsleep}
 use Rattle.suspension.specs.declared.sleepers.Sleepers.{Sleepers}
 
 -- Lists

@@ -1,18 +1,18 @@
 -- How threads are woken.
-use Rattle.std.proofs.Common.{◌≡◌, ◌⊎◌, inl, inr, ℕ, ◌==◌, Bool, true, false, List, [], ◌∷◌, ◌++◌, sym, subst, ◌∙◌, Contains, Some, None, Result, Ok, Err, OnOk, is_err}
+use Rattle.std.proofs.Common.{◌≡◌, ◌⊎◌, inl, inr, ℕ, ◌==◌, false, List, [], ◌∷◌, ◌++◌, sym, subst, Contains, Some, None, Result, Ok, Err, OnOk}
 use Rattle.std.specs.List.{list_any}
 use Rattle.std.specs.List.Sorted.{IsStrictlyIncreasing}
 use Rattle.std.proofs.lemmas.List.Elements.{Contains-push, Contains-push_cases, Contains-append_left, Contains-append_right, Contains-append_cases}
 use Rattle.oz_base.specs.Names.{ident_eq}
 use Rattle.oz_base.specs.declared.names.Ident.{Ident}
 use Rattle.oz_semantics.specs.Store.{View, Same, reversed, joined}
-use Rattle.oz_laws.specs.Touched.{Meets, Touches}
+use Rattle.oz_laws.specs.Touched.{Meets}
 use Rattle.oz_laws.proofs.SameLaws.{eq-true, eq-refl, ident_eq-true}
 use Rattle.view_laws.proofs.Members.{decide, not_both, some_of, by_some}
-use Rattle.suspension.specs.Changes.{is_key, AreListed, Finds, Leaves, Tidies, Waking}
-use Rattle.suspension.specs.Sleeping.{numbers_at, IsKey, AreKeys, IsFoundBy, IsFound, Wakes, KeysStay, FoundStays}
+use Rattle.suspension.specs.Changes.{AreListed, Finds, Leaves, Tidies, Waking}
+use Rattle.suspension.specs.Sleeping.{numbers_at, IsKey, AreKeys, Wakes, KeysStay, FoundStays}
 use Rattle.suspension.specs.declared.sleepers.Sleepers.{Sleepers}
-use Rattle.suspension.proofs.KeyLaws.{nothing_in, one, only_one, is_key_of, set_here, set_other, meets_left}
+use Rattle.suspension.proofs.KeyLaws.{nothing_in, is_key_of, set_here, set_other, meets_left}
 
 -- a number stands in a list, or not
 stands : (xs : List ℕ) (n : ℕ) → Contains xs n ⊎ (Contains xs n → ⊥)

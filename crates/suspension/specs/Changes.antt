@@ -1,6 +1,5 @@
 -- What becomes of keys and their lists.
 use Rattle.std.specs.Prelude.{ℕ, ◌≡◌, ◌⊎◌, Bool, true, not, if◌then◌else◌, List, [], Option, Some, None, Contains}
-use Rattle.std.specs.List.Sorted.{IsStrictlyIncreasing}
 use Rattle.oz_base.specs.Lists.{is_empty}
 use Rattle.oz_base.specs.Names.{ident_eq}
 use Rattle.oz_base.specs.declared.names.Ident.{Ident}

@@ -1,8 +1,7 @@
 use Rattle.std.proofs.Common.{◌∷◌, [], List, take, subst, sym}
-use Rattle.std.proofs.lemmas.List.{take_all}
 use Rattle.oz_base.specs.declared.names.Ident.{Ident}
 use Rattle.suspension.specs.Sleeping.{FallsAsleep}
-use Rattle.suspension.proofs.KeyLaws.{falls_more, falls_none, taken_item}
+use Rattle.suspension.proofs.KeyLaws.{falls_more, taken_item}
 use Rattle.suspension.proofs.sleepers.Sleepers.fall_asleep.Goals as goal
 
 pub loop-variable-preserved : goal.loop-variable-preserved

@@ -1,7 +1,7 @@
-use Rattle.std.proofs.Common.{◌≡◌, true, Some, None, sym, subst}
+use Rattle.std.proofs.Common.{Some, None, subst}
 use Rattle.std.proofs.lemmas.Result.{on_ok_weaker}
 use Rattle.oz_semantics.specs.Store.{Same, reversed, joined}
-use Rattle.suspension.specs.Changes.{is_key, Finds}
+use Rattle.suspension.specs.Changes.{Finds}
 use Rattle.suspension.proofs.KeyLaws.{falls_one, is_key_of, root_same}
 use Rattle.suspension.proofs.sleepers.Sleepers.wait_for.Goals as goal
 

@@ -1,5 +1,4 @@
 use Rattle.std.proofs.Common.{Some, None, subst}
-use Rattle.std.proofs.lemmas.Result.{on_ok_weaker}
 use Rattle.suspension.specs.Changes.{Finds}
 use Rattle.suspension.proofs.WakeLaws.{waking_still, waking_more, on_ok_both}
 use Rattle.suspension.proofs.sleepers.Sleepers.wake_one.Goals as goal
