@@ -21,11 +21,11 @@ use term_store::Store;
 #[derive(Drop)]
 pub struct Sleepers {
     /// All keys. Among them may be variables that are none any more.
-    pub variables: SharedList<Ident>,
+    variables: SharedList<Ident>,
     /// A variable without a list, or with an empty one, is no key.
-    pub lists: IdentMap<SharedList<u64>>,
+    lists: IdentMap<SharedList<u64>>,
     /// How many keys were taken out since the variables were last gathered.
-    pub taken: u64,
+    taken: u64,
 }
 
 impl Sleepers {
@@ -140,7 +140,7 @@ impl Sleepers {
         }
     }
 
-    /// The thread with this number waits for these variables. An error is for lack of memory; it leaves no more than a thing to be dropped.
+    /// The thread with this number waits for these variables. An error is for lack of memory, and leaves what is only to be dropped.
     pub fn fall_asleep(
         &mut self,
         alloc: Global,
@@ -248,8 +248,8 @@ impl Sleepers {
         Ok(())
     }
 
-    /// Takes out the numbers of the threads that wait for a variable of a class that will be touched. An error is for lack of memory; it
-    /// leaves no more than a thing to be dropped.
+    /// Takes out the numbers of the threads that wait for a variable of a class that will be touched, before the store is told. An error is
+    /// for lack of memory, and leaves what is only to be dropped.
     pub fn wake(
         &mut self,
         alloc: Global,
