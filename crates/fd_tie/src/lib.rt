@@ -5,7 +5,7 @@
 
 ghost use Rattle.fd_form_law.specs.Laws.{Tie};
 ghost use Rattle.fd_form_law.specs.FdCompleteness.{FdCompleteness, FdReply};
-ghost use Rattle.fd_form_law.specs.FdOptimality.{BestTie};
+ghost use Rattle.fd_form_law.specs.FdOptimality.{BestTie, FdOptimality};
 
 /// Whenever the top of a script has come to rest, the nodes below its search root show a tree of its problem. Nothing: it holds a law.
 pub fn script_law()
@@ -26,4 +26,9 @@ pub fn reply_law()
 /// it holds a law.
 pub fn best_script_law()
     ensures { BestTie }
+{}
+
+/// A finished best search of a script has found an assignment that none betters, or that there is none. Nothing: it holds a law.
+pub fn optimal_law()
+    ensures { FdOptimality }
 {}
