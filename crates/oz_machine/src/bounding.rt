@@ -1,16 +1,17 @@
 //! Bounds of a best search: a space that is committed to an alternative is told besides that its cost is below a bound (branch and
 //! bound: Schulte, LNCS 2302, on search; CTM 12.4).
-ghost use Rattle.std.specs.Prelude.{◌≡◌, true, is_some, not, IfOk, OnOk, OnErr, option_copied};
+ghost use Rattle.std.specs.Prelude.{◌≡◌, [], true, false, is_some, IfOk, IfSome, OnOk, OnErr, option_copied};
 ghost use Rattle.std.specs.Option.{option_and_then};
-ghost use Rattle.oz_language.specs.declared.kernel.Statement.{Statement};
-ghost use Rattle.oz_search.specs.declared.best.Bounded.{Bounded};
 ghost use Rattle.oz_semantics.specs.Names.{is_top};
 ghost use Rattle.oz_semantics.specs.Values.{integer_in};
 ghost use Rattle.oz_semantics.specs.Store.{value_of};
-ghost use Rattle.oz_semantics.specs.Configurations.{layer_at, view};
+ghost use Rattle.oz_semantics.specs.Configurations.{in_layer, layer_at, layer_of, telling, view};
+ghost use Rattle.oz_semantics.specs.Edits.{committed};
+ghost use Rattle.oz_semantics.specs.Settling.{without_inconsistent};
 ghost use Rattle.oz_semantics.specs.BestSearch.{bound_tells, chosen_below, field_in, root_field, told_below, values_below};
+ghost use Rattle.oz_semantics.specs.declared.configuration.Status.TheVariants.{Open};
 ghost use Rattle.settle_laws.specs.Settles.{Settles};
-ghost use Rattle.oz_machine.specs.Bounding.{Follows};
+ghost use Rattle.oz_machine.specs.Bounding.{allows_none, IsOpenAt};
 ghost use Rattle.oz_machine.specs.Courses.{config_of};
 
 use crate::course::Course;
@@ -24,6 +25,7 @@ use oz_search::Bounded;
 use oz_semantics::{Status, Tell};
 use space_core::Levels;
 use std::alloc::{AllocError, Global};
+use std::slice::from_ref;
 use term_store::Store;
 
 /// The variable at a feature of the space's root variable, if there is one.
@@ -49,10 +51,11 @@ fn root_field<'a>(
 fn integer_at(store: &Store, variable: Option<&Ident>) -> Option<i128>
     ensures { result ≡ option_and_then (λ x. option_and_then integer_in (value_of store.now x)) (option_copied variable.entry) }
 {
-    integer_in(store.value(variable?)?)
+    let value = store.value(variable?)?;
+    integer_in(value)
 }
 
-/// The integer at a feature of the space's root variable, if there is one.
+/// The integer at a feature of the space's root variable, if there is one. It refuses for want of memory, and a space that is not there.
 pub fn field_in(
     alloc: Global,
     levels: &Levels,
@@ -82,68 +85,39 @@ fn values_below(bound: i128) -> Interval
     }
 }
 
-/// What a space is told of its cost: that it is below the bound, as far as that is news to what it sees.
+/// Whether no domain value is below the bound, where there is one.
+fn allows_none(bound: Option<i128>) -> bool
+    ensures { result ≡ allows_none bound }
+{
+    match bound {
+        None => false,
+        Some(bound) => bound <= LEAST_VALUE as i128,
+    }
+}
+
+/// What a space is told of its cost: that it is below the bound, if there is one, as far as that is news to what it sees.
 fn bound_tells(
     alloc: Global,
     store: &Store,
     space: &SpaceName,
     feature: Constant,
-    bound: i128,
+    bound: Option<i128>,
 ) -> Result<Vec<Tell>, AllocError>
-    ensures { IfOk result (λ tells. tells.items ≡ bound_tells store.now space.now feature (Some bound)) }
+    ensures { IfOk result (λ tells. tells.items ≡ bound_tells store.now space.now feature bound) }
 {
-    let field = root_field(alloc, store, space, feature)?;
-    let Some(cost) = field else {
+    let Some(bound) = bound else {
+        return Ok(Vec::new(alloc));
+    };
+    let Some(cost) = root_field(alloc, store, space, feature)? else {
         return Ok(Vec::new(alloc));
     };
     interval_news(alloc, store, from_ref(cost), values_below(bound))
 }
 
-/// A space that is there and below the top is told this of its cost, where values that it may have are given, and fails where that
-/// clashes with what it sees.
-fn tell_or_fail(
-    alloc: Global,
-    space: &SpaceName,
-    tells: &[Tell],
-    has_values: bool,
-    levels: &mut Levels,
-) -> Result<(), AllocError>
+/// The place of a space that has not ended.
+fn open_place(levels: &Levels, space: &SpaceName) -> Option<usize>
+    ensures { IfSome result (IsOpenAt levels.now space.now) }
 {
-    if tells.is_empty() {
-        levels.consistent();
-        return Ok(());
-    }
-    if has_values && levels.tell(alloc, space, tells)? {
-        return Ok(());
-    }
-    levels.fail(space);
-    Ok(())
-}
-
-/// A space below the top is told that its cost is below the bound. Where no value that it may have is, it fails. It refuses the top, and a
-/// space that has ended.
-fn tell_below(
-    alloc: Global,
-    space: &SpaceName,
-    feature: Constant,
-    bound: i128,
-    levels: &mut Levels,
-) -> Result<(), AllocError>
-    ensures ok { OnOk result (Settles [] (told_below space.now feature (Some bound) levels.old) levels.new) }
-    ensures err { OnErr result (levels.new ≡ levels.old) }
-{
-    let Some(place) = open_place(levels, space) else {
-        return Err(AllocError);
-    };
-    let tells = bound_tells(alloc, levels.store_at(place), space, feature, bound)?;
-    tell_or_fail(alloc, space, &tells, LEAST_VALUE as i128 <= bound - 1, levels)
-}
-
-/// The place of a space below the top that has not ended.
-fn open_place(levels: &Levels, space: &SpaceName) -> Option<usize> {
-    if space.is_top() {
-        return None;
-    }
     let place = levels.place(space)?;
     match levels.status_at(place) {
         Status::Open => Some(place),
@@ -151,7 +125,55 @@ fn open_place(levels: &Levels, space: &SpaceName) -> Option<usize> {
     }
 }
 
-/// The layers, where a space is committed to the alternative of a branch and told its bound.
+/// A space that has not ended is told this, and fails where it clashes with what the space sees.
+fn tell_or_fail(
+    alloc: Global,
+    space: &SpaceName,
+    tells: &[Tell],
+    levels: &mut Levels,
+) -> Result<(), AllocError>
+    requires there { is_some (layer_at levels.old space.now) ≡ true }
+    requires opened { (layer_of levels.old space.now).status ≡ Open }
+    ensures ok { OnOk result (levels.new ≡ without_inconsistent (in_layer space.now (telling tells.now) levels.old)) }
+    ensures err { OnErr result (levels.new ≡ levels.old) }
+{
+    levels.consistent();
+    if levels.tell(alloc, space, tells)? {
+        return Ok(());
+    }
+    levels.fail(space);
+    Ok(())
+}
+
+/// A space is told that its cost is below the bound, if there is one. It fails where no value is left. It refuses for want of memory,
+/// and a space that has ended.
+fn tell_below(
+    alloc: Global,
+    space: &SpaceName,
+    feature: Constant,
+    bound: Option<i128>,
+    levels: &mut Levels,
+) -> Result<(), AllocError>
+    ensures ok { OnOk result (levels.new ≡ without_inconsistent (told_below space.now feature bound levels.old)) }
+    ensures err { OnErr result (levels.new ≡ levels.old) }
+{
+    let Some(place) = open_place(levels, space) else {
+        return Err(AllocError);
+    };
+    let tells = bound_tells(alloc, levels.store_at(place), space, feature, bound)?;
+    levels.consistent();
+    if tells.is_empty() {
+        return Ok(());
+    }
+    if allows_none(bound) {
+        levels.fail(space);
+        return Ok(());
+    }
+    tell_or_fail(alloc, space, &tells, levels)
+}
+
+/// The layers, where a space is committed to the alternative of a branch and told its bound. It refuses for want of memory, and a space
+/// that is the top or has ended.
 fn committed_below(
     alloc: Global,
     statements: &[Statement],
@@ -160,17 +182,26 @@ fn committed_below(
     branch: Bounded,
     levels: &Levels,
 ) -> Result<Levels, AllocError>
+    ensures settles { IfOk result (λ left. Settles [] (told_below space.now feature branch.bound (committed statements.now space.now branch.alternative levels.now)) left) }
+    ensures lower { OnOk result (is_top space.now ≡ false) }
 {
-    let mut left = levels.copied(alloc)?;
-    commit_in(alloc, statements, space, u64::from(branch.alternative), &mut left)?;
-    if let Some(bound) = branch.bound {
-        tell_below(alloc, space, feature, bound, &mut left)?;
+    if space.is_top() {
+        return Err(AllocError);
     }
+    let mut left = levels.copied(alloc)?;
+    commit_in(
+        alloc,
+        statements,
+        space,
+        u64::from(branch.alternative),
+        &mut left,
+    )?;
+    tell_below(alloc, space, feature, branch.bound, &mut left)?;
     Ok(left)
 }
 
 /// Commits a space that offers alternatives to the one of a branch, and tells it that its cost is below the bound, if there is one: where
-/// no value that the cost may have is, the space fails. It refuses the top.
+/// no value is left, the space fails. It refuses for want of memory, and a space that is the top or has ended.
 pub fn commit_below(
     alloc: Global,
     statements: &[Statement],
@@ -180,6 +211,7 @@ pub fn commit_below(
     course: &mut Course,
 ) -> Result<(), AllocError>
     ensures commit { OnOk result (config_of statements.now course.new ≡ chosen_below statements.now space.now feature branch (config_of statements.now course.old)) }
+    ensures lower { OnOk result (is_top space.now ≡ false) }
     ensures err { OnErr result (config_of statements.now course.new ≡ config_of statements.now course.old) }
 {
     settle_only(alloc, statements, course)?;
