@@ -1,5 +1,5 @@
 -- A space that is committed to an alternative and told a bound.
-use Rattle.std.proofs.Common.{◌≡◌, ◌<◌, ℕ, ℤ, ◌<ℤ◌, int_le, Bool, true, false, not, ◌&&◌, ◌||◌, if◌then◌else◌, List, [], ◌∷◌, ◌++◌, length, inl, inr, refl, sym, ap, ap₂, subst, ◌∙◌, Contains, Option, Some, None, Result, Ok, Err, option_to_list, is_some, arith}
+use Rattle.std.proofs.Common.{◌≡◌, ◌<◌, ℕ, ℤ, ◌<ℤ◌, int_le, Bool, true, false, not, ◌&&◌, ◌||◌, if◌then◌else◌, List, [], ◌∷◌, ◌++◌, length, inl, inr, refl, sym, ap, subst, ◌∙◌, Option, Some, None, Result, Ok, Err, option_to_list, is_some, arith}
 use Rattle.std.specs.Prelude.{OnOk, OnErr}
 use Rattle.std.proofs.lemmas.Bool.{false≢true}
 use Rattle.std.proofs.lemmas.Int.{ints, clamps}
@@ -13,7 +13,7 @@ use Rattle.oz_domains.specs.Domains.{among}
 use Rattle.oz_language.specs.declared.kernel.Constant.{Constant}
 use Rattle.oz_language.specs.declared.kernel.Statement.{Statement}
 use Rattle.oz_search.specs.declared.best.Bounded.{Bounded}
-use Rattle.oz_semantics.specs.Names.{is_below, is_properly_below, is_top}
+use Rattle.oz_semantics.specs.Names.{is_properly_below, is_top}
 use Rattle.oz_semantics.specs.Store.{View, itself, is_consistent, is_news, news}
 use Rattle.oz_semantics.specs.Constraints.{confined}
 use Rattle.oz_semantics.specs.Builtins.{interval_news}
@@ -28,10 +28,10 @@ use Rattle.oz_semantics.specs.declared.value.Tell.TheVariants.{Within}
 use Rattle.oz_semantics.specs.declared.configuration.Layer.{Layer}
 use Rattle.oz_semantics.specs.declared.configuration.Status.TheVariants.{Open}
 use Rattle.oz_semantics.specs.declared.configuration.Configuration.{Configuration}
-use Rattle.oz_laws.proofs.SameLaws.{In, In-from_contains, contains-from_In, and-left, and-right}
+use Rattle.oz_laws.proofs.SameLaws.{In, In-from_contains, and-left}
 use Rattle.oz_laws.proofs.StoreLaws.{tests_consistent}
 use Rattle.view_laws.proofs.Members.{decide, not_both, and_both, some_of}
-use Rattle.view_laws.proofs.ListLaws.{in_edit, found_in}
+use Rattle.view_laws.proofs.ListLaws.{in_edit}
 use Rattle.view_laws.specs.Queues.{is_once}
 use Rattle.view_laws.proofs.NumberLaws.{runnable_once}
 use Rattle.view_laws.proofs.QueueLaws.{queue_exact, queue_once}

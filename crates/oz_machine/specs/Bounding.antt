@@ -1,7 +1,7 @@
 -- Spaces that may be told a bound, and bounds below which nothing is.
 use Rattle.std.specs.Prelude.{◌≡◌, ◌<◌, ℕ, ℤ, int_le, Bool, false, List, Option, None, Some, length, position}
 use Rattle.oz_base.specs.declared.interval.TheConstants.{LEAST_VALUE}
-use Rattle.oz_semantics.specs.Configurations.{is_of, layer_at, layer_of}
+use Rattle.oz_semantics.specs.Configurations.{is_of, layer_of}
 use Rattle.oz_semantics.specs.declared.configuration.Layer.{Layer}
 use Rattle.oz_semantics.specs.declared.configuration.Status.TheVariants.{Open}
 
