@@ -5,6 +5,7 @@ pub mod RestLaws
 pub mod TurnLaws
 pub mod DeclareLaws
 pub mod SearchLaws
+pub mod BoundLaws
 pub mod QuietLaws
 pub mod AwakeLaws
 pub mod StepEdits

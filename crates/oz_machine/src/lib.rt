@@ -2,6 +2,7 @@
 //! search asks for.
 #![tactic(auto)]
 
+mod bounding;
 mod course;
 mod declarations;
 mod editing;

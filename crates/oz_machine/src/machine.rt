@@ -4,6 +4,7 @@ ghost use Rattle.oz_semantics.specs.Configurations.{view};
 ghost use Rattle.oz_semantics.specs.Texts.{term_text};
 ghost use Rattle.oz_semantics.specs.Schedule.{turn};
 ghost use Rattle.oz_semantics.specs.Runs.{opening, run};
+ghost use Rattle.oz_semantics.specs.BestSearch.{chosen_below, field_in};
 ghost use Rattle.oz_semantics.specs.Search.{with_root, search_space, chosen_in, state_text};
 ghost use Rattle.oz_machine.specs.Turns.{CostsWithin, IsTurn};
 ghost use Rattle.oz_machine.specs.Answers.{IsLeftOff, IsRun, IsScript, PrintsWithin};
@@ -12,11 +13,12 @@ use crate::course::Course;
 use crate::opening::opening;
 use crate::runs::{Ran, run};
 use crate::scripts::{has_script, script_variable};
-use crate::searching;
 use crate::texts::{Text, state_text, variable_text};
 use crate::turn::step;
+use crate::{bounding, searching};
 use oz_base::{Copies, Ident, Sequence, Shared, SpaceName};
-use oz_language::Kernel;
+use oz_language::{Constant, Kernel};
+use oz_search::Bounded;
 use oz_semantics::{State, Stepped};
 use shared_list::SharedList;
 use std::alloc::{AllocError, Global};
@@ -159,6 +161,38 @@ impl Machine {
         let Machine { kernel, course, .. } = self;
         let statements = kernel.get().statements.as_slice();
         searching::commit(alloc, statements, space, index, course)
+    }
+
+    /// Commits a space that offers alternatives to the one of a branch, and tells it that its cost, the field of its root variable at the
+    /// feature, is below the bound, if there is one: where no value is left, the space fails. It refuses for want of memory, and a space
+    /// that is the top or has ended: then nothing changes.
+    pub fn commit_below(
+        &mut self,
+        alloc: Global,
+        space: &SpaceName,
+        feature: Constant,
+        branch: Bounded,
+    ) -> Result<(), AllocError>
+        ensures commit { OnOk result (self.new.config ≡ chosen_below self.old.kernel.statements space.now feature branch self.old.config) }
+        ensures kernel { OnOk result (self.new.kernel ≡ self.old.kernel) }
+        ensures err { OnErr result (self.new ≡ self.old) }
+    {
+        let Machine { kernel, course, .. } = self;
+        let statements = kernel.get().statements.as_slice();
+        bounding::commit_below(alloc, statements, space, feature, branch, course)
+    }
+
+    /// The integer at a feature of the space's root variable, as the space sees it, if there is one. It refuses for want of memory, and
+    /// a space that is not there.
+    pub fn field(
+        &self,
+        alloc: Global,
+        space: &SpaceName,
+        feature: Constant,
+    ) -> Result<Option<i128>, AllocError>
+        ensures { IfOk result (λ integer. integer ≡ field_in (view self.now.config.layers space.now) space.now feature) }
+    {
+        bounding::field_in(alloc, &self.course.levels, space, feature)
     }
 
     /// What is shown of a space in this state. None exactly where that costs more than the fuel.

@@ -18,7 +18,7 @@ use stability::{Choice, chosen};
 use std::alloc::{AllocError, Global};
 
 /// What follows an edit: everybody is due.
-fn follow_edit(course: &mut Course)
+pub fn follow_edit(course: &mut Course)
     ensures { (statements : List Statement) (space : List ℕ) (before made : List Layer) → Settles space made course.old.levels
         → config_of statements course.new ≡ followed statements (record { layers = before; queue = course.old.queue; shown = course.old.shown }) made }
 {
