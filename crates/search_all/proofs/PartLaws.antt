@@ -24,6 +24,7 @@ use Rattle.fd_domain.specs.contracts.domain.Domain as domain
 use Rattle.term_store.specs.contracts.class_domain.ClassDomain as class_domain
 use Rattle.term_store.specs.contracts.cell.Kept as kept
 use Rattle.term_store.specs.contracts.cell.Cell as cell
+use Rattle.term_store.specs.contracts.chunk.Chunk as chunk
 use Rattle.term_store.specs.contracts.log.Log as log
 use Rattle.term_store.specs.contracts.classes.Classes as classes
 use Rattle.term_store.specs.contracts.store.Store as store
@@ -91,24 +92,43 @@ classes_send s y = view_send _ _ _ _ _ (declared_send classes.TheInside.the_type
 pub classes_sync : IsSend cell.the_row → IsSync cell.the_row → IsSync classes.the_row
 classes_sync s y = view_sync _ _ _ _ _ (declared_sync classes.TheInside.the_type (map_sync cell.the_row s y, tt))
 
+-- ---- what a store was told
+list_send : (T : RattleType) → IsSend T → IsSync T → IsSend (list.the_row T)
+list_send T s y = search (crosses, tree.crosses_both, sendable) depth 60 fits 20000
+
+list_sync : (T : RattleType) → IsSend T → IsSync T → IsSync (list.the_row T)
+list_sync T s y = search (crosses, tree.crosses_both, sendable) depth 60 fits 20000
+
+chunk_send : IsSend told.the_row → IsSync told.the_row → IsSend chunk.the_row
+chunk_send s y = view_send _ _ _ _ _ (declared_send chunk.TheInside.the_type (Arc-send _ (Vec-send told.the_row s) (Vec-sync told.the_row y), tt))
+
+chunk_sync : IsSend told.the_row → IsSync told.the_row → IsSync chunk.the_row
+chunk_sync s y = view_sync _ _ _ _ _ (declared_sync chunk.TheInside.the_type (Arc-sync _ (Vec-send told.the_row s) (Vec-sync told.the_row y), tt))
+
+log_send : IsSend told.the_row → IsSync told.the_row → IsSend log.the_row
+log_send s y =
+    let one : IsSend chunk.the_row = chunk_send s y in
+    view_send _ _ _ _ _
+    (declared_send log.TheInside.the_type (list_send chunk.the_row one (chunk_sync s y), (variants_send (option.enum chunk.the_row) (tt, ((one, tt), tt)), (Vec-send told.the_row s, tt))))
+
+log_sync : IsSend told.the_row → IsSync told.the_row → IsSync log.the_row
+log_sync s y =
+    let one : IsSync chunk.the_row = chunk_sync s y in
+    view_sync _ _ _ _ _
+    (declared_sync log.TheInside.the_type (list_sync chunk.the_row (chunk_send s y) one, (variants_sync (option.enum chunk.the_row) (tt, ((one, tt), tt)), (Vec-sync told.the_row y, tt))))
+
+pub store_send : IsSend told.the_row → IsSync told.the_row → IsSend classes.the_row → IsSend store.the_row
+store_send s y c = view_send _ _ _ _ _ (declared_send store.TheInside.the_type (log_send s y, (c, tt)))
+
+pub store_sync : IsSend told.the_row → IsSync told.the_row → IsSync classes.the_row → IsSync store.the_row
+store_sync s y c = view_sync _ _ _ _ _ (declared_sync store.TheInside.the_type (log_sync s y, (c, tt)))
+
 -- ---- the parts of a machine
 due_send : IsSend ident.the_row → IsSend (option.the_row ident.the_row) → IsSend due.the_row
 due_send i o = variants_send due.enum (tt, ((i, (o, tt)), ((o, tt), tt)))
 
 due_sync : IsSync ident.the_row → IsSync (option.the_row ident.the_row) → IsSync due.the_row
 due_sync i o = variants_sync due.enum (tt, ((i, (o, tt)), ((o, tt), tt)))
-
-log_send : IsSend (list.the_row (shared.the_row (sequence.the_row told.the_row))) → IsSend told.the_row → IsSend log.the_row
-log_send l t = view_send _ _ _ _ _ (declared_send log.TheInside.the_type (l, (Vec-send told.the_row t, tt)))
-
-log_sync : IsSync (list.the_row (shared.the_row (sequence.the_row told.the_row))) → IsSync told.the_row → IsSync log.the_row
-log_sync l t = view_sync _ _ _ _ _ (declared_sync log.TheInside.the_type (l, (Vec-sync told.the_row t, tt)))
-
-pub store_send : IsSend (list.the_row (shared.the_row (sequence.the_row told.the_row))) → IsSend told.the_row → IsSend classes.the_row → IsSend store.the_row
-store_send l t c = view_send _ _ _ _ _ (declared_send store.TheInside.the_type (log_send l t, (c, tt)))
-
-pub store_sync : IsSync (list.the_row (shared.the_row (sequence.the_row told.the_row))) → IsSync told.the_row → IsSync classes.the_row → IsSync store.the_row
-store_sync l t c = view_sync _ _ _ _ _ (declared_sync store.TheInside.the_type (log_sync l t, (c, tt)))
 
 threads_send : IsSend (sequence.the_row thread.the_row) → IsSend threads.the_row
 threads_send h = view_send _ _ _ _ _ (declared_send threads.TheInside.the_type (h, (search sendable, (search sendable, tt))))

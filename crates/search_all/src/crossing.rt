@@ -58,14 +58,6 @@ fn list_crosses<T: Send + Sync>()
     shares::<SharedList<T>>();
 }
 
-fn chunks_cross()
-    ensures send { IsSend (list.the_row (shared.the_row (sequence.the_row told.the_row))) }
-    ensures sync { IsSync (list.the_row (shared.the_row (sequence.the_row told.the_row))) }
-{
-    tells_cross();
-    list_crosses::<Shared<Sequence<Tell>>>();
-}
-
 fn ident_crosses()
     ensures send { IsSend ident.the_row }
     ensures sync { IsSync ident.the_row }
@@ -256,7 +248,6 @@ fn store_crosses()
     ensures send { IsSend store.the_row }
     ensures sync { IsSync store.the_row }
 {
-    chunks_cross();
     tells_cross();
     classes_cross();
 }
