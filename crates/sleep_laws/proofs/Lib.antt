@@ -1,0 +1,4 @@
+pub mod AsleepLaws
+pub mod LeftLaws
+pub mod WokenLaws
+pub mod WakesLaws
