@@ -2,3 +2,4 @@ pub mod AsleepLaws
 pub mod LeftLaws
 pub mod WokenLaws
 pub mod WakesLaws
+pub mod TouchingLaws

@@ -21,7 +21,7 @@ same_rising : (ms ns : List ℕ) → IsRising ms → IsRising ns → ((k : ℕ) 
 same_rising [] [] h k f g = refl
 same_rising [] (n ∷ ns) h k f g = elim (g n (inl refl)) [ ]
 same_rising (m ∷ ms) [] h k f g = elim (f m (inl refl)) [ ]
-same_rising (m ∷ ms) (n ∷ ns) h k f g = ap₂ (λ (a : ℕ) (as : List ℕ). a ∷ as) head (same_rising ms ns h.1 k.1 forward back)
+same_rising (m ∷ ms) (n ∷ ns) h k f g = ap₂ (λ (a : ℕ) (rest : List ℕ). a ∷ rest) head (same_rising ms ns h.1 k.1 forward back)
   where
     above : (a : ℕ) → In a ms → m < a
     above a i = h.0 a (contains-from_In ms a i)

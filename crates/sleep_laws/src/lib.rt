@@ -4,6 +4,7 @@
 #![tactic(auto)]
 
 ghost use Rattle.sleep_laws.specs.Asleep.{AsleepRests, StaysAsleep, ToldLeft, QuietLeft, StackLeft};
+ghost use Rattle.sleep_laws.specs.Touching.{ValueTouches, EquationTouches};
 ghost use Rattle.sleep_laws.specs.Woken.{WokenOthers, TellWakes, TellWakesAwake};
 
 /// Threads that sleep can't step, and which steps leave them asleep. Nothing: it holds laws.
@@ -20,4 +21,10 @@ pub fn woken_law()
     ensures others { WokenOthers }
     ensures tell { TellWakes }
     ensures awake { TellWakesAwake }
+{}
+
+/// What a single tell touches. Nothing: it holds laws.
+pub fn touching_law()
+    ensures value { ValueTouches }
+    ensures equation { EquationTouches }
 {}
