@@ -1,17 +1,15 @@
 -- Threads that wait for variables alone.
-use Rattle.std.proofs.Common.{◌≡◌, inl, inr, ℕ, Bool, true, false, List, [], ◌∷◌, ◌++◌, refl, sym, ap, subst, ◌∙◌, Contains, Option, Some, None}
+use Rattle.std.proofs.Common.{◌≡◌, true, false, List, refl, sym, ap, subst, ◌∙◌, Contains, Some}
 use Rattle.std.specs.List.{list_any}
 use Rattle.oz_base.specs.declared.names.Ident.{Ident}
-use Rattle.oz_language.specs.declared.kernel.Statement.{Statement}
-use Rattle.oz_semantics.specs.Store.{Same, reversed, same, itself, is_determined}
-use Rattle.oz_semantics.specs.Sights.{Sight, States, Offer, Readiness, Steps, Waits, WaitsForState, Offers, can_step}
+use Rattle.oz_semantics.specs.Store.{same, itself}
+use Rattle.oz_semantics.specs.Sights.{Sight, States, Readiness, Steps, Waits, WaitsForState, Offers, can_step}
 use Rattle.oz_semantics.specs.Answers.{Answer, Acts, Edits, RaisesKind, RaisesTerm, Operates, Widens, Rests}
 use Rattle.oz_semantics.specs.Operations.{by_state}
 use Rattle.oz_semantics.specs.Statements.{stack_answer}
 use Rattle.oz_semantics.specs.Readiness.{answer_ready}
 use Rattle.oz_semantics.specs.Spaces.{sight}
 use Rattle.oz_semantics.specs.declared.value.Tell.{Tell}
-use Rattle.oz_semantics.specs.declared.configuration.Thread.{Thread}
 use Rattle.oz_semantics.specs.declared.configuration.Layer.{Layer}
 use Rattle.oz_laws.proofs.SameLaws.{tests_same}
 use Rattle.view_laws.specs.Readies.{IsUnmoved, SameClasses, SameReadiness, watched, seeing}
@@ -19,7 +17,7 @@ use Rattle.view_laws.proofs.Members.{some_of, by_some}
 use Rattle.view_laws.proofs.ViewLaws.{determined_same}
 use Rattle.view_laws.proofs.StayLaws.{readiness_stays}
 use Rattle.view_laws.proofs.WakeLaws.{untouched_unmoved}
-use Rattle.sleep_laws.specs.Asleep.{waits_only, rests_for, IsAsleep, SleepsOn, AsleepRests, StaysAsleep}
+use Rattle.sleep_laws.specs.Asleep.{waits_only, rests_for, AsleepRests, StaysAsleep}
 
 -- Answers that rest
 

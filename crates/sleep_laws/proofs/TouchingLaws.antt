@@ -1,15 +1,14 @@
 -- What a single tell touches.
-use Rattle.std.proofs.Common.{◌≡◌, ◌⊎◌, inl, inr, ℕ, Bool, true, false, List, [], ◌∷◌, ◌++◌, refl, sym, ap, subst, ◌∙◌, Contains, Option, Some, None, is_some, slice_get}
+use Rattle.std.proofs.Common.{◌≡◌, ◌⊎◌, inl, inr, ℕ, true, List, [], ◌∷◌, ◌++◌, refl, sym, ap, subst, ◌∙◌, Contains, Option, Some, None, is_some, slice_get}
 use Rattle.std.proofs.lemmas.Bool.{false≢true}
 use Rattle.oz_base.specs.declared.names.Ident.{Ident}
-use Rattle.oz_base.specs.declared.interval.Interval.{Interval}
 use Rattle.oz_semantics.specs.Values.{is_like, fields_of}
 use Rattle.oz_semantics.specs.Store.{Same, told, itself, reversed, joined, field, told_value}
 use Rattle.oz_semantics.specs.declared.value.Value.{Value}
 use Rattle.oz_semantics.specs.declared.value.Tell.{Tell}
 use Rattle.oz_semantics.specs.declared.value.Tell.TheVariants.{Equal, Is, Within}
-use Rattle.oz_laws.proofs.SameLaws.{In, In-from_contains, contains-from_In}
-use Rattle.oz_laws.specs.Touched.{Meets, Touches}
+use Rattle.oz_laws.proofs.SameLaws.{In-from_contains, contains-from_In}
+use Rattle.oz_laws.specs.Touched.{Meets}
 use Rattle.view_laws.proofs.Members.{has-cases}
 use Rattle.view_laws.proofs.ViewLaws.{told_some}
 use Rattle.sleep_laws.specs.Touching.{ValueTouches, EquationTouches}

@@ -1,5 +1,5 @@
 -- What the queue is where it is known which threads may wake.
-use Rattle.std.proofs.Common.{◌≡◌, ◌⊎◌, inl, inr, ℕ, Bool, true, false, not, ◌&&◌, ◌||◌, cond, if◌then◌else◌, List, [], ◌∷◌, ◌++◌, refl, sym, ap, ap₂, subst, ◌∙◌, Contains, Option, Some, None, is_some, filter, map, unwrap_or}
+use Rattle.std.proofs.Common.{◌≡◌, inl, inr, ℕ, Bool, true, false, not, ◌&&◌, ◌||◌, cond, if◌then◌else◌, List, [], ◌∷◌, ◌++◌, refl, sym, ap, ap₂, subst, ◌∙◌, Option, Some, None, is_some, filter, map, unwrap_or}
 use Rattle.std.specs.List.{list_any}
 use Rattle.oz_base.specs.Lists.{list_eq, holds_of}
 use Rattle.oz_base.specs.declared.names.Ident.{Ident}
@@ -25,7 +25,7 @@ use Rattle.view_laws.specs.Spaceless.{gives_space, has_spaces}
 use Rattle.view_laws.specs.Steps.{spawned_from, MadeOf, IsRising}
 use Rattle.view_laws.proofs.Members.{bool_eq, decide, In-left, In-right}
 use Rattle.view_laws.proofs.ListLaws.{among_in, in_among, in_filter, found_in}
-use Rattle.view_laws.proofs.NameLaws.{names_equal, equal_names}
+use Rattle.view_laws.proofs.NameLaws.{equal_names}
 use Rattle.view_laws.proofs.SightLaws.{space_of}
 use Rattle.view_laws.proofs.TreeLaws.{same_named_layer}
 use Rattle.view_laws.proofs.SpacelessLaws.{spaceless_ready, untold_spaceless}
@@ -155,34 +155,34 @@ module _ (statements : List Statement) (c : Configuration) (id : Ident) (queue :
   good : AreOrderly layers
   good = subst AreOrderly (sym left) (done_orderly id ts changes c.layers (kept_layers statements (record c { queue = id ∷ queue }) kept))
 
-  abbrev able : List Ident
-  able = runnable_in statements layers (layer_of layers id.space)
+  abbrev ran : List Ident
+  ran = runnable_in statements layers (layer_of layers id.space)
 
   own_ready : (t : Thread) → can_step (thread_ready statements layers (layer_of layers id.space).space t) ≡ true → can_step (thread_ready statements layers id.space t) ≡ true
   own_ready t e = subst (λ (s : List ℕ). can_step (thread_ready statements layers s t) ≡ true) (space_of layers id.space (layer_of layers id.space) at) e
 
   -- what can step and was in the queue stays there
-  stays : (o : Ident) → In o able → In o queue → In o (filter (is_able_still statements layers id.space) queue)
-  stays o i h = in_filter (is_able_still statements layers id.space) queue o h (by (not (list_eq o.space id.space)) (is_among able o) (in_among able o i))
+  stays : (o : Ident) → In o ran → In o queue → In o (filter (is_able_still statements layers id.space) queue)
+  stays o i h = in_filter (is_able_still statements layers id.space) queue o h (by (not (list_eq o.space id.space)) (is_among ran o) (in_among ran o i))
     where
       by : (a b : Bool) → b ≡ true → (a || b) ≡ true
       by true b e = refl
       by false b e = e
 
   -- all that can step is of these, or of the numbers
-  within : (ids : List Ident) → (In id able → In id ids) → ((o : Ident) → In o able → In o queue → In o ids) → WakesWithin statements layers (layer_of layers id.space) ids numbers
+  within : (ids : List Ident) → (In id ran → In id ids) → ((o : Ident) → In o ran → In o queue → In o ids) → WakesWithin statements layers (layer_of layers id.space) ids numbers
   within ids moves rests t h e =
       let name : named (layer_of layers id.space).space t.number ≡ named id.space t.number = ap (λ (s : List ℕ). named s t.number) (space_of layers id.space (layer_of layers id.space) at) in
-      let there : In (named id.space t.number) able = able_of statements layers id.space good at opened t (In-from_contains (layer_of layers id.space).threads t h) e in
+      let there : In (named id.space t.number) ran = able_of statements layers id.space good at opened t (In-from_contains (layer_of layers id.space).threads t h) e in
       elim (wakes t h (own_ready t e)) [
         | inl k ↦ inl (contains-from_In ids (named (layer_of layers id.space).space t.number) (subst (λ (o : Ident). In o ids) (sym name) (elim (In-from_contains (id ∷ queue) (named id.space t.number) k) [
-          | inl q ↦ subst (λ (o : Ident). In o ids) q (moves (subst (λ (o : Ident). In o able) (sym q) there))
+          | inl q ↦ subst (λ (o : Ident). In o ids) q (moves (subst (λ (o : Ident). In o ran) (sym q) there))
           | inr q ↦ rests (named id.space t.number) there q
         ])))
         | inr k ↦ inr k
       ]
 
-  others : (ids : List Ident) → (In id able → In id ids) → ((o : Ident) → In o able → In o queue → In o ids) → others_of ids able ≡ others_of ids (woken_among able id.space numbers)
+  others : (ids : List Ident) → (In id ran → In id ids) → ((o : Ident) → In o ran → In o queue → In o ids) → others_of ids ran ≡ others_of ids (woken_among ran id.space numbers)
   others ids moves rests = numbered_others statements layers id.space good at opened ids numbers rising (within ids moves rests)
 
   module _ (spaceless : has_spaces layers ≡ false) where
@@ -198,13 +198,13 @@ module _ (statements : List Statement) (c : Configuration) (id : Ident) (queue :
     stay_is : staying statements layers id queue ≡ rest_asked statements layers id queue
     stay_is = ap₂ (λ (xs ys : List Ident). xs ++ ys) (rest_able statements layers id.space good at opened spaceless queue) moves_in
 
-    mover_stays : In id able → In id (staying statements layers id queue)
+    mover_stays : In id ran → In id (staying statements layers id queue)
     mover_stays i =
-        let e : top_able statements layers id ≡ true = sym (one_able statements layers id.space good at opened spaceless id refl) ∙ in_among able id i in
+        let e : top_able statements layers id ≡ true = sym (one_able statements layers id.space good at opened spaceless id refl) ∙ in_among ran id i in
         let joins : mover_in (Some id) (runnable statements layers) ≡ id ∷ [] = moves_in ∙ ap (λ (b : Bool). if b then id ∷ [] else []) e in
         In-right id (filter (is_able_still statements layers id.space) queue) (mover_in (Some id) (runnable statements layers)) (subst (In id) (sym joins) (inl refl))
 
-    same_queue : staying statements layers id queue ++ others_of (staying statements layers id queue) able ≡ told_queue statements layers id numbers queue
+    same_queue : staying statements layers id queue ++ others_of (staying statements layers id queue) ran ≡ told_queue statements layers id numbers queue
     same_queue =
         ap (λ (xs : List Ident). staying statements layers id queue ++ xs)
         (others (staying statements layers id queue) mover_stays (λ o i h. In-left o (filter (is_able_still statements layers id.space) queue) (mover_in (Some id) (runnable statements layers)) (stays o i h)))
@@ -219,7 +219,7 @@ module _ (statements : List Statement) (c : Configuration) (id : Ident) (queue :
   pub told_wakes_awake : (cost : ℕ) → IsAble statements layers id
       → ◌≡◌ {A = Turned} (went_on statements id cost (done id ts changes (without_top id c.layers)) (record c { queue = queue })) (
         Moved cost,
-        record c { layers = layers; queue = rest_and statements layers id queue ++ others_of (rest_and statements layers id queue) (woken_among able id.space numbers) },
+        record c { layers = layers; queue = rest_and statements layers id queue ++ others_of (rest_and statements layers id queue) (woken_among ran id.space numbers) },
       )
   told_wakes_awake cost awake =
       let rest : List Ident = filter (is_able_still statements layers id.space) queue in

@@ -1,20 +1,18 @@
 -- Lists of threads by rising numbers.
 use Rattle.std.proofs.Common.{◌≡◌, ◌⊎◌, inl, inr, ℕ, ◌<◌, Bool, true, false, not, cond, if◌then◌else◌, List, [], ◌∷◌, refl, sym, ap, ap₂, subst, ◌∙◌, arith, Contains, filter, map}
+use Rattle.std.proofs.lemmas.Bool.{false≢true}
 use Rattle.oz_base.specs.declared.names.Ident.{Ident}
-use Rattle.oz_language.specs.declared.kernel.Statement.{Statement}
 use Rattle.oz_semantics.specs.Names.{named}
 use Rattle.oz_semantics.specs.Configurations.{is_open}
 use Rattle.oz_semantics.specs.Sights.{can_step}
 use Rattle.oz_semantics.specs.Spaces.{thread_ready}
 use Rattle.oz_semantics.specs.Settling.{is_among, runnable_in}
 use Rattle.oz_semantics.specs.declared.configuration.Thread.{Thread}
-use Rattle.oz_semantics.specs.declared.configuration.Layer.{Layer}
 use Rattle.oz_laws.proofs.SameLaws.{In, In-from_contains, contains-from_In}
 use Rattle.view_laws.specs.Steps.{IsRising}
-use Rattle.view_laws.proofs.Members.{not_both}
 use Rattle.view_laws.proofs.ListLaws.{among_in, in_among, filter_in, in_filter, map_in, in_map}
 use Rattle.turn_laws.specs.Telling.{others_of}
-use Rattle.sleep_laws.specs.Woken.{woken_among, WakesWithin, WokenOthers}
+use Rattle.sleep_laws.specs.Woken.{WokenOthers}
 
 -- two rising lists with the same members are equal
 same_rising : (ms ns : List ℕ) → IsRising ms → IsRising ns → ((k : ℕ) → In k ms → In k ns) → ((k : ℕ) → In k ns → In k ms) → ms ≡ ns
@@ -84,7 +82,7 @@ filter_map {A = A} {B = B} p f (x ∷ xs) = by (p (f x)) (filter_map p f xs)
     by false e = e
 
 not_true : (b : Bool) → not b ≡ true → b ≡ true → ⊥
-not_true b e f = not_both true refl (sym (ap not f) ∙ e)
+not_true b e f = false≢true (sym (ap not f) ∙ e)
 
 -- Threads of one space, by their numbers
 
@@ -150,11 +148,11 @@ woken_others statements layers l ids numbers numbered ordered wakes =
     let is : runnable_in statements layers l ≡ map (named l.space) able = names_able l.space can l.threads numbered.rising b in
     let within : (n : ℕ) → In n able → In (named l.space n) ids ⊎ In n numbers =
     λ n i.
-        let t = of_able l.space can l.threads numbered.rising b n i in
-        elim (wakes t.0 (contains-from_In l.threads t.0 t.1) t.2) [
-          | inl k ↦ inl (subst (λ (m : ℕ). In (named l.space m) ids) t.3 (In-from_contains ids (named l.space t.0.number) k))
-          | inr k ↦ inr (subst (λ (m : ℕ). In m numbers) t.3 (In-from_contains numbers t.0.number k))
-        ] in
+    let t = of_able l.space can l.threads numbered.rising b n i in
+    elim (wakes t.0 (contains-from_In l.threads t.0 t.1) t.2) [
+      | inl k ↦ inl (subst (λ (m : ℕ). In (named l.space m) ids) t.3 (In-from_contains ids (named l.space t.0.number) k))
+      | inr k ↦ inr (subst (λ (m : ℕ). In m numbers) t.3 (In-from_contains numbers t.0.number k))
+    ] in
     ap (others_of ids) is
     ∙ others_numbered l.space ids able numbers (able_rising l.space can l.threads numbered.rising b) ordered within
     ∙ sym (ap (λ (os : List Ident). others_of ids (filter (is_among os) (map (named l.space) numbers))) is)
