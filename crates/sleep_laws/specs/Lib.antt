@@ -1,0 +1,3 @@
+pub mod Asleep
+pub mod Woken
+pub mod Touching
