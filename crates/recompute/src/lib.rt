@@ -5,9 +5,11 @@ mod board;
 mod explorer;
 mod frozen;
 mod placed;
+mod source;
 mod waypoint;
 
 pub use board::Board;
 pub use explorer::{Explorer, Solved};
 pub use frozen::Frozen;
 pub use placed::{Found, Placed, Start, solve_root};
+pub use source::Source;

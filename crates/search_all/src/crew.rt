@@ -17,12 +17,12 @@ use std::thread::Threads;
 
 /// So many workers explore the tree, of which this is the first, until the search is over. Their numbers follow on those
 /// that were drawn before. They share the board. The one that is left stands for all.
-pub fn explore_together<R: Threads + Wait + Sync, G: Gate, S: Start + Send + Sync>(
+pub fn explore_together<R: Threads + Wait + Sync, G: Gate, S: Start<Frozen> + Send + Sync>(
     rt: &R,
     alloc: Global,
     pool: &SharedPool<Frozen>,
     worker: Worker<Frozen>,
-    board: &Mutex<Board<S>>,
+    board: &Mutex<Board<Frozen, S>>,
     frozen: &Frozen,
     drawn: u32,
     count: u32,

@@ -331,7 +331,7 @@ pub fn frozen_crosses()
 }
 
 /// Nothing: its clause says that threads may share the board of a search.
-pub fn board_crosses<S: Start>()
+pub fn board_crosses<S: Start<Frozen>>()
     ensures { IsSend (board.the_row S.row S.Start) }
 {
     machine_crosses();

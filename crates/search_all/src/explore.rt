@@ -104,7 +104,7 @@ fn close_claim<R: Wait>(
     pool: &SharedPool<Frozen>,
     worker: Worker<Frozen>,
     path: Path<Plain>,
-    solved: Result<Solved, AllocError>,
+    solved: Result<Solved<Outcome>, AllocError>,
 ) -> After
     requires small { pool.now.budget ≤ 2 ^ 48 }
     requires pool { IsOf worker pool.now }
@@ -121,11 +121,11 @@ fn close_claim<R: Wait>(
 }
 
 /// What there is at a path, by the way to it from the root.
-fn solve_from_root<S: Start>(
+fn solve_from_root<S: Start<Frozen>>(
     alloc: Global,
     frozen: &Frozen,
     path: &Path<Plain>,
-) -> Result<Found<S>, AllocError>
+) -> Result<Found<Frozen, S>, AllocError>
     ensures { IfOk result (λ found. found.solved ≡ answer_of (met_at frozen.now frozen.now.budget path.now)) }
 {
     let mut explorer = Explorer::new(alloc, frozen)?;
@@ -137,13 +137,13 @@ fn solve_from_root<S: Start>(
 }
 
 /// What there is at a path, by the node before it, if the board has that. The board is locked while it is asked, and no longer.
-fn solve_near<R: Wait, S: Start>(
+fn solve_near<R: Wait, S: Start<Frozen>>(
     rt: &R,
     alloc: Global,
-    board: &Mutex<Board<S>>,
+    board: &Mutex<Board<Frozen, S>>,
     frozen: &Frozen,
     path: &Path<Plain>,
-) -> Result<Found<S>, AllocError>
+) -> Result<Found<Frozen, S>, AllocError>
     requires start { frozen.now ≡ S.start }
     ensures { IfOk result (λ found. found.solved ≡ answer_of (met_at frozen.now frozen.now.budget path.now)) }
 {
@@ -159,13 +159,13 @@ fn solve_near<R: Wait, S: Start>(
 
 /// What there is at a path. A choice is put on the board, before anybody can be told of its alternatives. Where memory is refused
 /// for that, whoever takes one goes to it from the root.
-fn solve<R: Wait, S: Start>(
+fn solve<R: Wait, S: Start<Frozen>>(
     rt: &R,
     alloc: Global,
-    board: &Mutex<Board<S>>,
+    board: &Mutex<Board<Frozen, S>>,
     frozen: &Frozen,
     path: &Path<Plain>,
-) -> Result<Solved, AllocError>
+) -> Result<Solved<Outcome>, AllocError>
     requires start { frozen.now ≡ S.start }
     ensures { IfOk result (λ solved. solved ≡ answer_of (met_at frozen.now frozen.now.budget path.now)) }
 {
@@ -177,12 +177,12 @@ fn solve<R: Wait, S: Start>(
 }
 
 /// Takes nodes and settles them, until the search is over. The gate is called round the solving of each.
-pub fn explore<R: Wait, G: Gate, S: Start>(
+pub fn explore<R: Wait, G: Gate, S: Start<Frozen>>(
     rt: &R,
     alloc: Global,
     pool: &SharedPool<Frozen>,
     first: Worker<Frozen>,
-    board: &Mutex<Board<S>>,
+    board: &Mutex<Board<Frozen, S>>,
     frozen: &Frozen,
     number: u32,
     gate: &G,

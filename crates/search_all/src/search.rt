@@ -8,14 +8,14 @@ use node_pool::SharedPool;
 use oz_base::Sequence;
 use oz_outside::Gate;
 use oz_search::Outcome;
-use recompute::{Board, Frozen, Start};
+use recompute::{Board, Frozen, Source, Start};
 use std::alloc::{AllocError, Global};
 use std::marker::Brand;
 use std::sync::{Mutex, Wait};
 use std::thread::Threads;
 
 /// The search, whose start is that of a type.
-fn search_from<R: Threads + Wait + Sync, G: Gate, S: Start + Send + Sync>(
+fn search_from<R: Threads + Wait + Sync, G: Gate, S: Start<Frozen> + Send + Sync>(
     rt: &R,
     alloc: Global,
     frozen: &Frozen,
@@ -28,7 +28,7 @@ fn search_from<R: Threads + Wait + Sync, G: Gate, S: Start + Send + Sync>(
 {
     let tag = frozen.copy(alloc)?;
     let (pool, worker) = SharedPool::new(alloc, tag, frozen.budget())?;
-    let board: Mutex<Board<S>> = Mutex::new(Board::new(alloc));
+    let board: Mutex<Board<Frozen, S>> = Mutex::new(Board::new(alloc));
     let worker = explore_together(rt, alloc, &pool, worker, &board, frozen, 1, workers, gate);
     found(alloc, pool.close(worker))
 }
