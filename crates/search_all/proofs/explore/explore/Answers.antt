@@ -1,4 +1,5 @@
 use Rattle.std.proofs.Common.{◌≡◌, ◌≤◌, ◌^◌, ℕ, IfOk, List, Ok, sym, ap, subst, ◌∙◌}
+use Rattle.oz_search.specs.declared.leaf.Outcome.{Outcome}
 use Rattle.pool_state.specs.declared.pool.Claimed.{Claimed}
 use Rattle.recompute.specs.Origins.{Origin, met_at}
 use Rattle.recompute.specs.Ways.{answer_of}
@@ -11,8 +12,8 @@ close_claim-requires-clause-small g c = subst (λ (b : ℕ). b ≤ 2 ^ 48) (sym 
 
 pub close_claim-requires-clause-solved : goal.close_claim-requires-clause-solved
 close_claim-requires-clause-solved g c =
-    subst (λ (b : ℕ). IfOk c.solve-solved.result (λ (s : Solved). s ≡ answer_of (met_at c.args.pool.now.tag b c.in-Ok-Node.path))) (sym c.requires.tree.1)
-    (subst (λ (o : Origin). IfOk c.solve-solved.result (λ (s : Solved). s ≡ answer_of (met_at o c.args.frozen.now.budget c.in-Ok-Node.path))) (sym c.requires.tree.0) c.solve-solved.ensures)
+    subst (λ (b : ℕ). IfOk c.solve-solved.result (λ (s : Solved Outcome). s ≡ answer_of (met_at c.args.pool.now.tag b c.in-Ok-Node.path))) (sym c.requires.tree.1)
+    (subst (λ (o : Origin). IfOk c.solve-solved.result (λ (s : Solved Outcome). s ≡ answer_of (met_at o c.args.frozen.now.budget c.in-Ok-Node.path))) (sym c.requires.tree.0) c.solve-solved.ensures)
 
 pub returns-in-Ok-Finished : goal.returns-in-Ok-Finished
 returns-in-Ok-Finished g c =
