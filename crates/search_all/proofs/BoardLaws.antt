@@ -14,10 +14,14 @@ use Rattle.oz_search.specs.contracts.tree.Kind as kind
 use Rattle.oz_search.specs.contracts.tree.Report as report
 use Rattle.oz_machine.specs.contracts.machine.Machine as machine
 use Rattle.recompute.specs.declared.placed.Start as start
+use Rattle.recompute.specs.contracts.frozen.Frozen as frozen
+use Rattle.recompute.specs.contracts.frozen.FrozenSource as its_source
+use Rattle.recompute.specs.contracts.frozen.FrozenTree as its_tree
 use Rattle.recompute.specs.contracts.waypoint.Waypoint as waypoint
 use Rattle.recompute.specs.contracts.placed.Placed as placed
 use Rattle.recompute.specs.contracts.board.Entry as entry
 use Rattle.recompute.specs.contracts.board.Board as board
+use Rattle.search_all.specs.Boards.{board_row}
 
 -- ---- what is known of a node
 
@@ -47,11 +51,14 @@ report_sync = declared_sync (report.the_type outcome.the_row) (kind_sync, (searc
 
 -- ---- a node with its machine
 
-waypoint_send : IsSend machine.the_row → IsSend waypoint.the_row
-waypoint_send m = declared_send waypoint.the_type (search sendable, (m, (report_send, tt)))
+abbrev waypoint_row : RattleType
+waypoint_row = waypoint.the_row u32 outcome.the_row
 
-waypoint_sync : IsSync machine.the_row → IsSync waypoint.the_row
-waypoint_sync m = declared_sync waypoint.the_type (search sendable, (m, (report_sync, tt)))
+waypoint_send : IsSend machine.the_row → IsSend waypoint_row
+waypoint_send m = declared_send (waypoint.the_type u32 outcome.the_row) (search sendable, (m, (report_send, tt)))
+
+waypoint_sync : IsSync machine.the_row → IsSync waypoint_row
+waypoint_sync m = declared_sync (waypoint.the_type u32 outcome.the_row) (search sendable, (m, (report_sync, tt)))
 
 -- ---- a path of plain search
 
@@ -64,18 +71,24 @@ path_send = view_send _ _ _ _ _ (declared_send (path.TheInside.the_type plain.th
 path_sync : IsSync path_row
 path_sync = view_sync _ _ _ _ _ (declared_sync (path.TheInside.the_type plain.the_row u32 outcome.the_row unit its_kind.TheImpl.ghosts) (Vec-sync u32 (search sendable), tt))
 
-module _ (S : RattleType) (its : start.Ghosts S.Denot) where
-  placed_send : IsSend machine.the_row → IsSend (placed.the_row S its)
-  placed_send m = view_send _ _ _ _ _ (declared_send (placed.TheInside.the_type S its) (path_send, (waypoint_send m, (search sendable depth 20, tt))))
+module _ (S : RattleType) (its : start.Ghosts S.Denot frozen.the_row.Denot) where
+  abbrev placed_row : RattleType
+  placed_row = placed.the_row frozen.the_row plain.the_row u32 outcome.the_row unit S its_source.TheImpl.ghosts its_tree.TheImpl.ghosts its_kind.TheImpl.ghosts its
 
-  placed_sync : IsSync machine.the_row → IsSync (placed.the_row S its)
-  placed_sync m = view_sync _ _ _ _ _ (declared_sync (placed.TheInside.the_type S its) (path_sync, (waypoint_sync m, (search sendable depth 20, tt))))
+  abbrev entry_row : RattleType
+  entry_row = entry.the_row frozen.the_row plain.the_row u32 outcome.the_row unit S its_source.TheImpl.ghosts its_tree.TheImpl.ghosts its_kind.TheImpl.ghosts its
 
-  shared_send : IsSend machine.the_row → IsSync machine.the_row → IsSend (shared.the_row (placed.the_row S its))
-  shared_send m n = view_send _ _ _ _ _ (declared_send (shared.TheInside.the_type (placed.the_row S its)) (Arc-send (placed.the_row S its) (placed_send m) (placed_sync n), tt))
+  placed_send : IsSend machine.the_row → IsSend placed_row
+  placed_send m = view_send _ _ _ _ _ (declared_send (placed.TheInside.the_type frozen.the_row plain.the_row u32 outcome.the_row unit S its_source.TheImpl.ghosts its_tree.TheImpl.ghosts its_kind.TheImpl.ghosts its) (path_send, (waypoint_send m, (search sendable depth 20, tt))))
 
-  entry_send : IsSend machine.the_row → IsSync machine.the_row → IsSend (entry.the_row S its)
-  entry_send m n = declared_send (entry.the_type S its) (shared_send m n, (search sendable, tt))
+  placed_sync : IsSync machine.the_row → IsSync placed_row
+  placed_sync m = view_sync _ _ _ _ _ (declared_sync (placed.TheInside.the_type frozen.the_row plain.the_row u32 outcome.the_row unit S its_source.TheImpl.ghosts its_tree.TheImpl.ghosts its_kind.TheImpl.ghosts its) (path_sync, (waypoint_sync m, (search sendable depth 20, tt))))
 
-  pub board_send : IsSend machine.the_row → IsSync machine.the_row → IsSend (board.the_row S its)
-  board_send m n = declared_send (board.the_type S its) (Vec-send (entry.the_row S its) (entry_send m n), tt)
+  shared_send : IsSend machine.the_row → IsSync machine.the_row → IsSend (shared.the_row placed_row)
+  shared_send m n = view_send _ _ _ _ _ (declared_send (shared.TheInside.the_type placed_row) (Arc-send placed_row (placed_send m) (placed_sync n), tt))
+
+  entry_send : IsSend machine.the_row → IsSync machine.the_row → IsSend entry_row
+  entry_send m n = declared_send (entry.the_type frozen.the_row plain.the_row u32 outcome.the_row unit S its_source.TheImpl.ghosts its_tree.TheImpl.ghosts its_kind.TheImpl.ghosts its) (shared_send m n, (search sendable, tt))
+
+  pub board_send : IsSend machine.the_row → IsSync machine.the_row → IsSend (board_row S its)
+  board_send m n = declared_send (board.the_type frozen.the_row plain.the_row u32 outcome.the_row unit S its_source.TheImpl.ghosts its_tree.TheImpl.ghosts its_kind.TheImpl.ghosts its) (Vec-send entry_row (entry_send m n), tt)

@@ -28,8 +28,8 @@ ghost use Rattle.space_core.specs.contracts.constraints.Constraints as constrain
 ghost use Rattle.space_core.specs.contracts.levels.Levels as levels;
 ghost use Rattle.oz_threads.specs.contracts.queue.Queue as queue;
 ghost use Rattle.oz_machine.specs.contracts.machine.Machine as machine;
-ghost use Rattle.recompute.specs.contracts.board.Board as board;
 ghost use Rattle.recompute.specs.contracts.frozen.Frozen as frozen;
+ghost use Rattle.search_all.specs.Boards.{board_row};
 
 use environments::Environment;
 use fd_domain::Domain;
@@ -332,7 +332,7 @@ pub fn frozen_crosses()
 
 /// Nothing: its clause says that threads may share the board of a search.
 pub fn board_crosses<S: Start<Frozen>>()
-    ensures { IsSend (board.the_row S.row S.Start) }
+    ensures { IsSend (board_row S.row S.Start) }
 {
     machine_crosses();
 }
