@@ -2,6 +2,7 @@
 #![tactic(auto)]
 
 mod board;
+mod bounded;
 mod explorer;
 mod frozen;
 mod placed;
@@ -9,6 +10,7 @@ mod source;
 mod waypoint;
 
 pub use board::Board;
+pub use bounded::FrozenBest;
 pub use explorer::{Explorer, Solved};
 pub use frozen::Frozen;
 pub use placed::{Found, Placed, Start, solve_root};
