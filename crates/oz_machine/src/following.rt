@@ -7,12 +7,12 @@ ghost use Rattle.oz_semantics.specs.Settling.{settled};
 ghost use Rattle.oz_semantics.specs.Steps.{went_on};
 ghost use Rattle.oz_semantics.specs.declared.configuration.Layer.{Layer};
 ghost use Rattle.oz_semantics.specs.declared.outcome.Stepped.TheVariants.{Moved};
-ghost use Rattle.oz_machine.specs.declared.course.Due.TheVariants.{Nobody, Mover, Everybody};
+ghost use Rattle.oz_machine.specs.declared.course.Due.TheVariants.{Nobody, Mover, Told, Everybody};
 ghost use Rattle.oz_machine.specs.Courses.{config_of, stepping};
 ghost use Rattle.settle_laws.specs.Settles.{Settles};
 
 use crate::course::{Course, Due};
-use oz_base::Ident;
+use oz_base::{Ident, Sequence};
 use oz_semantics::Stepped;
 
 /// The thread that stepped leaves the head of the queue. It is due, and so is the one that it started, if it did.
@@ -24,6 +24,19 @@ pub fn leave_alone(course: &mut Course, started: Option<Ident>)
 {
     if let Some(mover) = course.queue.next() {
         course.due = Due::Mover { mover, started };
+    }
+}
+
+/// The thread that told its space something leaves the head of the queue. It is due, and so are those of its space that are in the queue
+/// or have these numbers.
+pub fn leave_told(course: &mut Course, woken: Sequence<u64>)
+    ensures levels { course.new.levels ≡ course.old.levels }
+    ensures queue { course.new.queue ≡ drop 1 course.old.queue }
+    ensures due { (mover : Ident) → first course.old.queue ≡ Some mover → course.new.due ≡ Told mover woken }
+    ensures shown { course.new.shown ≡ course.old.shown }
+{
+    if let Some(mover) = course.queue.next() {
+        course.due = Due::Told { mover, woken };
     }
 }
 

@@ -13,6 +13,7 @@ use crate::opening::opening;
 use crate::runs::{Ran, run};
 use crate::scripts::{has_script, script_variable};
 use crate::searching;
+use crate::sleeping::Sleeping;
 use crate::texts::{Text, state_text, variable_text};
 use crate::turn::step;
 use oz_base::{Copies, Ident, Sequence, Shared, SpaceName};
@@ -29,6 +30,8 @@ pub struct Machine {
     course: Course,
     /// Whether all is known to hold that holds from turn to turn. It is not once the top has ended.
     kept: bool,
+    /// Who is known to sleep.
+    sleeping: Sleeping,
 }
 
 impl Model for Machine {
@@ -56,6 +59,7 @@ impl Machine {
             kernel: Shared::new(alloc, kernel)?,
             course,
             kept: true,
+            sleeping: Sleeping::unknown(alloc),
         })
     }
 
@@ -67,6 +71,7 @@ impl Machine {
             kernel: self.kernel.copied(alloc)?,
             course: self.course.copied(alloc)?,
             kept: self.kept,
+            sleeping: self.sleeping.copied(alloc)?,
         })
     }
 
@@ -82,8 +87,9 @@ impl Machine {
             kernel,
             course,
             kept,
+            sleeping,
         } = self;
-        step(alloc, kernel.get(), course, kept, fuel)
+        step(alloc, kernel.get(), course, kept, sleeping, fuel)
     }
 
     /// Turns while something of the space or below it can step, for no more than the fuel. A text that is shown costs a step for
@@ -98,8 +104,9 @@ impl Machine {
             kernel,
             course,
             kept,
+            sleeping,
         } = self;
-        run(alloc, kernel.get(), course, kept, space, fuel)
+        run(alloc, kernel.get(), course, kept, sleeping, space, fuel)
     }
 
     /// The texts that were shown, in their order.
@@ -145,9 +152,14 @@ impl Machine {
         ensures kernel { OnOk result (self.new.kernel ≡ self.old.kernel) }
         ensures err { OnErr result (self.new ≡ self.old) }
     {
-        let Machine { kernel, course, .. } = self;
+        let Machine {
+            kernel,
+            course,
+            sleeping,
+            ..
+        } = self;
         let statements = kernel.get().statements.as_slice();
-        searching::root(alloc, statements, procedure, course)
+        searching::root(alloc, statements, procedure, course, sleeping)
     }
 
     /// Commits a space that offers alternatives to one of them, from 1. Where it is refused nothing changes.
@@ -156,9 +168,14 @@ impl Machine {
         ensures kernel { OnOk result (self.new.kernel ≡ self.old.kernel) }
         ensures err { OnErr result (self.new ≡ self.old) }
     {
-        let Machine { kernel, course, .. } = self;
+        let Machine {
+            kernel,
+            course,
+            sleeping,
+            ..
+        } = self;
         let statements = kernel.get().statements.as_slice();
-        searching::commit(alloc, statements, space, index, course)
+        searching::commit(alloc, statements, space, index, course, sleeping)
     }
 
     /// What is shown of a space in this state. None exactly where that costs more than the fuel.

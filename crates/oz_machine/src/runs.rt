@@ -11,6 +11,7 @@ ghost use Rattle.oz_machine.specs.declared.course.Due.TheVariants.{Nobody};
 
 use crate::course::Course;
 use crate::settling::settle;
+use crate::sleeping::Sleeping;
 use crate::turn::turn;
 use builtins::Answer;
 use oz_base::{Ident, SpaceName};
@@ -83,6 +84,7 @@ fn run_turns(
     answered: &mut Option<Answer>,
     course: &mut Course,
     kept: &mut bool,
+    sleeping: &mut Sleeping,
     space: &SpaceName,
     fuel: u64,
 ) -> Result<Ran, AllocError>
@@ -93,18 +95,18 @@ fn run_turns(
 {
     let statements = kernel.statements.as_slice();
     let mut left = fuel;
-    settle(alloc, statements, course, answered)?;
+    settle(alloc, statements, course, answered, sleeping)?;
     'turns: while goes_on(alloc, statements, course, *kept, space)? {
-        let Some(stepped) = turn(alloc, kernel, answered, course, kept, left)? else {
+        let Some(stepped) = turn(alloc, kernel, answered, course, kept, sleeping, left)? else {
             return Ok(Ran::OutOfFuel);
         };
         match stepped {
             Stepped::Moved { cost } => {
                 left -= cost;
-                settle(alloc, statements, course, answered)?;
+                settle(alloc, statements, course, answered, sleeping)?;
             }
             Stepped::Quiescent => {
-                settle(alloc, statements, course, answered)?;
+                settle(alloc, statements, course, answered, sleeping)?;
                 return ended(alloc, kernel, course, space, fuel, left);
             }
             Stepped::TopEnded { exception, cost } => {
@@ -123,6 +125,7 @@ pub fn run(
     kernel: &Kernel,
     course: &mut Course,
     kept: &mut bool,
+    sleeping: &mut Sleeping,
     space: &SpaceName,
     fuel: u64,
 ) -> Result<Ran, AllocError>
@@ -132,5 +135,5 @@ pub fn run(
     ensures err { OnErr result (IsLeftOff kernel.now space.now fuel (config_of kernel.now.statements course.old) (config_of kernel.now.statements course.new)) }
 {
     let mut answered = None;
-    run_turns(alloc, kernel, &mut answered, course, kept, space, fuel)
+    run_turns(alloc, kernel, &mut answered, course, kept, sleeping, space, fuel)
 }

@@ -10,6 +10,7 @@ ghost use Rattle.oz_machine.specs.Courses.{config_of};
 
 use crate::course::{Course, Due};
 use crate::settling::settle_only;
+use crate::sleeping::Sleeping;
 use oz_base::{Ident, SpaceName};
 use oz_language::Statement;
 use oz_semantics::Tell;
@@ -31,12 +32,13 @@ pub fn root(
     statements: &[Statement],
     procedure: Ident,
     course: &mut Course,
+    sleeping: &mut Sleeping,
 ) -> Result<SpaceName, AllocError>
     ensures root { OnOk result (config_of statements.now course.new ≡ with_root statements.now procedure (config_of statements.now course.old)) }
     ensures name { IfOk result (λ space. space ≡ search_space (config_of statements.now course.old)) }
     ensures err { OnErr result (config_of statements.now course.new ≡ config_of statements.now course.old) }
 {
-    settle_only(alloc, statements, course)?;
+    settle_only(alloc, statements, course, sleeping)?;
     let top = SpaceName::top();
     if course.levels.place(&top).is_none() {
         return Err(AllocError);
@@ -100,11 +102,12 @@ pub fn commit(
     space: &SpaceName,
     index: u64,
     course: &mut Course,
+    sleeping: &mut Sleeping,
 ) -> Result<(), AllocError>
     ensures commit { OnOk result (config_of statements.now course.new ≡ chosen_in statements.now space.now index (config_of statements.now course.old)) }
     ensures err { OnErr result (config_of statements.now course.new ≡ config_of statements.now course.old) }
 {
-    settle_only(alloc, statements, course)?;
+    settle_only(alloc, statements, course, sleeping)?;
     commit_in(alloc, statements, space, index, &mut course.levels)?;
     follow_edit(course);
     Ok(())

@@ -9,8 +9,10 @@ ghost use Rattle.oz_machine.specs.declared.course.Due.TheVariants.{Nobody};
 ghost use Rattle.oz_machine.specs.Courses.{asked, config_of, layers_after};
 ghost use Rattle.oz_machine.specs.Quiet.{top_steps, able_in, waits, IsHeadAnswer};
 
+use crate::asking::ask_told;
 use crate::course::{Course, Due};
 use crate::declarations::declares;
+use crate::sleeping::Sleeping;
 use builtins::Answer;
 use oz_base::{Copies, Ident};
 use oz_language::Statement;
@@ -213,6 +215,89 @@ fn join_mover(
     join_able(alloc, statements, levels, id, queue)
 }
 
+/// A thread joins the end of the queue, if it can step, and else falls asleep. Its answer is left in `answered`, where no other was in
+/// the queue and it is a step.
+fn join_or_sleep(
+    alloc: Global,
+    statements: &[Statement],
+    levels: &Levels,
+    id: &Ident,
+    queue: &mut Queue,
+    answered: &mut Option<Answer>,
+    sleeping: &mut Sleeping,
+) -> Result<(), AllocError>
+    requires { answered.old ≡ None }
+    ensures ok { OnOk result (queue.new ≡ queue.old ++ able_in statements.now levels.now id.now) }
+    ensures answer { OnOk result (IsHeadAnswer statements.now levels.now queue.new answered.new) }
+    ensures err { OnErr result (queue.new ≡ queue.old) }
+{
+    let before = queue.len();
+    join_mover(alloc, statements, levels, id, queue, answered)?;
+    if queue.len() == before {
+        sleeping.lay_down(alloc, statements, levels, id);
+    }
+    Ok(())
+}
+
+/// Two threads join the end of the queue, as far as they can step, and else fall asleep.
+fn join_both_or_sleep(
+    alloc: Global,
+    statements: &[Statement],
+    levels: &Levels,
+    id: &Ident,
+    other: &Ident,
+    queue: &mut Queue,
+    sleeping: &mut Sleeping,
+) -> Result<(), AllocError>
+    ensures ok { OnOk result (queue.new ≡ (queue.old ++ able_in statements.now levels.now id.now) ++ able_in statements.now levels.now other.now) }
+    ensures err { OnErr result (queue.new ≡ queue.old) }
+{
+    let before = queue.len();
+    join_both(alloc, statements, levels, id, other, queue)?;
+    if queue.len() < before + 2 {
+        sleeping.lay_down(alloc, statements, levels, id);
+        sleeping.lay_down(alloc, statements, levels, other);
+    }
+    Ok(())
+}
+
+/// The thread that told its space something joins the queue, as those do with these numbers, as far as they can step.
+fn join_told(
+    alloc: Global,
+    statements: &[Statement],
+    levels: &Levels,
+    mover: &Ident,
+    woken: &[u64],
+    queue: &mut Queue,
+    answered: &mut Option<Answer>,
+    sleeping: &mut Sleeping,
+) -> Result<(), AllocError> {
+    if queue.len() == 0 && woken.is_empty() {
+        return join_or_sleep(alloc, statements, levels, mover, queue, answered, sleeping);
+    }
+    ask_told(alloc, statements, levels, mover, woken, queue, sleeping)
+}
+
+/// All threads that can step make the queue, and the others of the space of the thread that stepped fall asleep, where that is of use.
+fn requeue_all(
+    alloc: Global,
+    statements: &[Statement],
+    levels: &Levels,
+    mover: Option<&Ident>,
+    queue: &mut Queue,
+    sleeping: &mut Sleeping,
+) -> Result<(), AllocError>
+    ensures ok { OnOk result (queue.new ≡ queue_after (runnable statements.now levels.now) (option_copied mover.entry) queue.old) }
+    ensures err { OnErr result (queue.new ≡ queue.old) }
+{
+    requeue(alloc, statements, levels, mover, queue)?;
+    match mover {
+        None => sleeping.forget(alloc),
+        Some(mover) => sleeping.learn(alloc, statements, levels, &mover.space),
+    }
+    Ok(())
+}
+
 /// Those who are due join the queue, as far as they can step, where all that is needed has begun. The answer of the head is left in
 /// `answered`, where it was made.
 fn ask(
@@ -222,6 +307,7 @@ fn ask(
     due: &Due,
     queue: &mut Queue,
     answered: &mut Option<Answer>,
+    sleeping: &mut Sleeping,
 ) -> Result<(), AllocError>
     requires answered { answered.old ≡ None }
     requires begun { layers_after statements.now levels.now due.now ≡ levels.now }
@@ -234,12 +320,33 @@ fn ask(
         Due::Mover {
             mover,
             started: None,
-        } => join_mover(alloc, statements, levels, mover, queue, answered),
+        } => {
+            sleeping.keep_for(alloc, &mover.space);
+            join_or_sleep(alloc, statements, levels, mover, queue, answered, sleeping)
+        }
         Due::Mover {
             mover,
             started: Some(started),
-        } => join_both(alloc, statements, levels, mover, started, queue),
-        Due::Everybody { mover } => requeue(alloc, statements, levels, mover.as_ref(), queue),
+        } => {
+            sleeping.keep_for(alloc, &mover.space);
+            join_both_or_sleep(alloc, statements, levels, mover, started, queue, sleeping)
+        }
+        Due::Told { mover, woken } => {
+            sleeping.keep_for(alloc, &mover.space);
+            join_told(
+                alloc,
+                statements,
+                levels,
+                mover,
+                woken.as_slice(),
+                queue,
+                answered,
+                sleeping,
+            )
+        }
+        Due::Everybody { mover } => {
+            requeue_all(alloc, statements, levels, mover.as_ref(), queue, sleeping)
+        }
     }
 }
 
@@ -254,7 +361,7 @@ fn begin_needed(
     ensures begun { OnOk result (layers_after statements.now course.new.levels course.new.due ≡ course.new.levels) }
 {
     match course.due {
-        Due::Nobody | Due::Mover { .. } => Ok(()),
+        Due::Nobody | Due::Mover { .. } | Due::Told { .. } => Ok(()),
         Due::Everybody { .. } => {
             by_need::fire(alloc, statements, &mut course.levels)?;
             Ok(())
@@ -269,6 +376,7 @@ pub fn settle(
     statements: &[Statement],
     course: &mut Course,
     answered: &mut Option<Answer>,
+    sleeping: &mut Sleeping,
 ) -> Result<(), AllocError>
     ensures same { config_of statements.now course.new ≡ config_of statements.now course.old }
     ensures due { OnOk result (course.new.due ≡ Nobody) }
@@ -283,6 +391,7 @@ pub fn settle(
         &course.due,
         &mut course.queue,
         answered,
+        sleeping,
     )?;
     course.due = Due::Nobody;
     Ok(())
@@ -293,10 +402,11 @@ pub fn settle_only(
     alloc: Global,
     statements: &[Statement],
     course: &mut Course,
+    sleeping: &mut Sleeping,
 ) -> Result<(), AllocError>
     ensures same { config_of statements.now course.new ≡ config_of statements.now course.old }
     ensures due { OnOk result (course.new.due ≡ Nobody) }
 {
     let mut answered = None;
-    settle(alloc, statements, course, &mut answered)
+    settle(alloc, statements, course, &mut answered, sleeping)
 }

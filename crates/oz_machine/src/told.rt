@@ -14,9 +14,9 @@ ghost use Rattle.oz_machine.specs.Courses.{config_of, stepping};
 ghost use Rattle.oz_machine.specs.Quiet.{IsAwakeAlone, IsHead, LetsNoneStep};
 
 use crate::course::Course;
-use crate::following::{follow, leave_alone};
+use crate::following::{follow, leave_alone, leave_told};
 use crate::quiet::is_known_able;
-use oz_base::Ident;
+use oz_base::{Ident, Sequence};
 use oz_language::Kernel;
 use oz_semantics::{Stepped, Thread};
 use space_core::Levels;
@@ -71,11 +71,26 @@ fn lets_none_step(alloc: Global, kernel: &Kernel, levels: &Levels, id: &Ident) -
     is_awake_alone(alloc, kernel, levels, id)
 }
 
+/// Threads of its space with these numbers alone may wake by what a thread told its space, if that is known.
+fn go_on_waking(woken: Option<Sequence<u64>>, cost: u64, course: &mut Course) -> Stepped {
+    match woken {
+        Some(woken) if course.levels.is_plain() => {
+            leave_told(course, woken);
+            Stepped::Moved { cost }
+        }
+        _ => {
+            course.levels.consistent();
+            follow(cost, course)
+        }
+    }
+}
+
 /// A thread goes on after a step that told its space, below which there is none, what is consistent with what it sees.
 pub fn go_on_told(
     alloc: Global,
     kernel: &Kernel,
     mover: &Ident,
+    woken: Option<Sequence<u64>>,
     cost: u64,
     course: &mut Course,
 ) -> Stepped
@@ -88,10 +103,9 @@ pub fn go_on_told(
     ensures cost { result ≡ Moved cost }
 {
     course.levels.drop_terminated(&mover.space);
-    if !lets_none_step(alloc, kernel, &course.levels, mover) {
-        course.levels.consistent();
-        return follow(cost, course);
+    if lets_none_step(alloc, kernel, &course.levels, mover) {
+        leave_alone(course, None);
+        return Stepped::Moved { cost };
     }
-    leave_alone(course, None);
-    Stepped::Moved { cost }
+    go_on_waking(woken, cost, course)
 }

@@ -30,7 +30,9 @@ use crate::propagating::propagate;
 use crate::quiet::go_on_quietly;
 use crate::raising::{clash, raise, raise_kind};
 use crate::settling::{settle_only, top_answer};
+use crate::sleeping::Sleeping;
 use crate::told::go_on_told;
+use crate::waking::woken;
 use builtins::{Act, Answer, Edit};
 use operations::Outcome;
 use oz_acts::{act, give_term, is_quiet, started, take_off};
@@ -84,6 +86,21 @@ fn is_known_lowest(levels: &Levels, id: &Ident, kept: bool, quiet: bool) -> bool
     kept && !quiet && !levels.has_below(&id.space)
 }
 
+/// Who may wake by an act, where it tells a space with none below it, no space is a value and each by-need computation has begun.
+fn foreseen(
+    alloc: Global,
+    levels: &Levels,
+    id: &Ident,
+    what: &Act,
+    lowest: bool,
+    sleeping: &mut Sleeping,
+) -> Result<Option<Sequence<u64>>, AllocError> {
+    if !lowest || !levels.is_plain() {
+        return Ok(None);
+    }
+    woken(alloc, levels, id, what, sleeping)
+}
+
 /// The thread does what an act says that shows nothing. The act is of no use afterwards.
 fn make_act(
     alloc: Global,
@@ -91,6 +108,7 @@ fn make_act(
     id: &Ident,
     what: &mut Act,
     kept: bool,
+    sleeping: &mut Sleeping,
     course: &mut Course,
 ) -> Result<Stepped, AllocError>
     requires head { first course.old.queue ≡ Some id.now }
@@ -106,11 +124,12 @@ fn make_act(
     let still = is_known_still(what, quiet);
     let gives = gives_out(what);
     let started = started(alloc, &course.levels, id, what)?;
+    let woken = foreseen(alloc, &course.levels, id, what, lowest, sleeping)?;
     if !act(alloc, &mut course.levels, id, what)? {
         return clash(alloc, id, course);
     }
     if lowest {
-        return Ok(go_on_told(alloc, kernel, id, 1, course));
+        return Ok(go_on_told(alloc, kernel, id, woken, 1, course));
     }
     if still {
         return Ok(go_on_quietly(alloc, kernel, id, started, gives, 1, course));
@@ -199,6 +218,7 @@ fn make_step(
     id: &Ident,
     answer: &mut Answer,
     kept: bool,
+    sleeping: &mut Sleeping,
     course: &mut Course,
 ) -> Result<Stepped, AllocError>
     requires head { first course.old.queue ≡ Some id.now }
@@ -213,7 +233,7 @@ fn make_step(
         Answer::Rests => Ok(rest(course)),
         Answer::Operates { .. } => Ok(rest(course)),
         Answer::Edits(edit) => make_edit(alloc, kernel, id, edit, course),
-        Answer::Acts(what) => make_act(alloc, kernel, id, what, kept, course),
+        Answer::Acts(what) => make_act(alloc, kernel, id, what, kept, sleeping, course),
         Answer::Widens(tells) => widen(alloc, id, tells.as_slice(), course),
         Answer::RaisesKind(kind) => raise_kind(alloc, id, *kind, course),
         Answer::RaisesTerm(exception) => raise(
@@ -325,6 +345,7 @@ fn step_as(
     id: &Ident,
     answer: &mut Answer,
     kept: bool,
+    sleeping: &mut Sleeping,
     course: &mut Course,
     fuel: u64,
 ) -> Result<Option<Stepped>, AllocError>
@@ -340,7 +361,7 @@ fn step_as(
     if let Some(variable) = shown(answer) {
         return show(alloc, kernel, place, id, variable, kept, course, fuel);
     }
-    Ok(Some(make_step(alloc, kernel, id, answer, kept, course)?))
+    Ok(Some(make_step(alloc, kernel, id, answer, kept, sleeping, course)?))
 }
 
 /// The thread makes the declaration on top of its stack.
@@ -392,6 +413,7 @@ fn step_outcome(
     id: &Ident,
     outcome: Outcome,
     kept: bool,
+    sleeping: &mut Sleeping,
     course: &mut Course,
     fuel: u64,
 ) -> Result<Option<Stepped>, AllocError>
@@ -407,7 +429,7 @@ fn step_outcome(
     match outcome {
         Outcome::Answers(answer) => {
             let mut answer = answer;
-            step_as(alloc, kernel, place, id, &mut answer, kept, course, fuel)
+            step_as(alloc, kernel, place, id, &mut answer, kept, sleeping, course, fuel)
         }
         Outcome::GivesTerm { variable, nodes } => Ok(Some(make_term(
             alloc,
@@ -450,6 +472,7 @@ fn step_operating(
     place: usize,
     id: &Ident,
     kept: bool,
+    sleeping: &mut Sleeping,
     course: &mut Course,
     fuel: u64,
 ) -> Result<Option<Stepped>, AllocError>
@@ -464,7 +487,7 @@ fn step_operating(
 {
     let statements = kernel.statements.as_slice();
     let outcome = outcome(alloc, statements, &course.levels, place, id)?;
-    step_outcome(alloc, kernel, place, id, outcome, kept, course, fuel)
+    step_outcome(alloc, kernel, place, id, outcome, kept, sleeping, course, fuel)
 }
 
 /// A step of the thread at the head of the queue, whose answer is made now.
@@ -474,6 +497,7 @@ fn step_answering(
     place: usize,
     id: &Ident,
     kept: bool,
+    sleeping: &mut Sleeping,
     course: &mut Course,
     fuel: u64,
 ) -> Result<Option<Stepped>, AllocError>
@@ -488,7 +512,7 @@ fn step_answering(
 {
     let statements = kernel.statements.as_slice();
     let mut answer = top_answer(alloc, statements, &course.levels, place, id)?;
-    step_answered(alloc, kernel, place, id, &mut answer, kept, course, fuel)
+    step_answered(alloc, kernel, place, id, &mut answer, kept, sleeping, course, fuel)
 }
 
 /// A step of the thread at the head of the queue, whose answer was not made. A declaration needs none.
@@ -498,6 +522,7 @@ fn step_anew(
     place: usize,
     id: &Ident,
     kept: bool,
+    sleeping: &mut Sleeping,
     course: &mut Course,
     fuel: u64,
 ) -> Result<Option<Stepped>, AllocError>
@@ -511,7 +536,7 @@ fn step_anew(
     ensures err { OnErr result (course.new ≡ course.old) }
 {
     match declaration(kernel.statements.as_slice(), &course.levels, id) {
-        None => step_answering(alloc, kernel, place, id, kept, course, fuel),
+        None => step_answering(alloc, kernel, place, id, kept, sleeping, course, fuel),
         Some((names, body)) => Ok(Some(declare(alloc, kernel, id, names, body, kept, course)?)),
     }
 }
@@ -524,6 +549,7 @@ fn step_answered(
     id: &Ident,
     answer: &mut Answer,
     kept: bool,
+    sleeping: &mut Sleeping,
     course: &mut Course,
     fuel: u64,
 ) -> Result<Option<Stepped>, AllocError>
@@ -538,9 +564,9 @@ fn step_answered(
     ensures err { OnErr result (course.new ≡ course.old) }
 {
     if operates(answer) {
-        return step_operating(alloc, kernel, place, id, kept, course, fuel);
+        return step_operating(alloc, kernel, place, id, kept, sleeping, course, fuel);
     }
-    step_as(alloc, kernel, place, id, answer, kept, course, fuel)
+    step_as(alloc, kernel, place, id, answer, kept, sleeping, course, fuel)
 }
 
 /// A step of the thread at the head of the queue. Its answer was made already, or it is made now. None exactly where the step costs more
@@ -551,6 +577,7 @@ fn step_of(
     id: &Ident,
     answered: &mut Option<Answer>,
     kept: bool,
+    sleeping: &mut Sleeping,
     course: &mut Course,
     fuel: u64,
 ) -> Result<Option<Stepped>, AllocError>
@@ -567,8 +594,8 @@ fn step_of(
         return Ok(Some(follow(1, course)));
     };
     match answered {
-        Some(answer) => step_answered(alloc, kernel, place, id, answer, kept, course, fuel),
-        None => step_anew(alloc, kernel, place, id, kept, course, fuel),
+        Some(answer) => step_answered(alloc, kernel, place, id, answer, kept, sleeping, course, fuel),
+        None => step_anew(alloc, kernel, place, id, kept, sleeping, course, fuel),
     }
 }
 
@@ -578,6 +605,7 @@ fn take_step(
     kernel: &Kernel,
     answered: &mut Option<Answer>,
     kept: bool,
+    sleeping: &mut Sleeping,
     course: &mut Course,
     fuel: u64,
 ) -> Result<Option<Stepped>, AllocError>
@@ -596,7 +624,7 @@ fn take_step(
         return Ok(None);
     }
     let id = id.copied(alloc)?;
-    step_of(alloc, kernel, &id, answered, kept, course, fuel)
+    step_of(alloc, kernel, &id, answered, kept, sleeping, course, fuel)
 }
 
 /// The least propagator that is due runs, unless there is no fuel.
@@ -625,6 +653,7 @@ fn take_turn(
     kernel: &Kernel,
     answered: &mut Option<Answer>,
     kept: bool,
+    sleeping: &mut Sleeping,
     course: &mut Course,
     fuel: u64,
 ) -> Result<Option<Stepped>, AllocError>
@@ -638,7 +667,7 @@ fn take_turn(
     if let Some(due) = least_due(&course.levels) {
         return take_run(alloc, kernel, due, course, fuel);
     }
-    take_step(alloc, kernel, answered, kept, course, fuel)
+    take_step(alloc, kernel, answered, kept, sleeping, course, fuel)
 }
 
 /// Whether all that was known to hold before a turn is known after it: the top has not ended.
@@ -661,6 +690,7 @@ pub fn turn(
     answered: &mut Option<Answer>,
     course: &mut Course,
     kept: &mut bool,
+    sleeping: &mut Sleeping,
     fuel: u64,
 ) -> Result<Option<Stepped>, AllocError>
     requires due { course.old.due ≡ Nobody }
@@ -671,7 +701,13 @@ pub fn turn(
     ensures kept { Keeps kernel.now.statements kept.new course.new }
     ensures err { OnErr result (course.new ≡ course.old) }
 {
-    let turned = take_turn(alloc, kernel, answered, *kept, course, fuel)?;
+    let turned = match take_turn(alloc, kernel, answered, *kept, sleeping, course, fuel) {
+        Ok(turned) => turned,
+        Err(error) => {
+            sleeping.forget(alloc);
+            return Err(error);
+        }
+    };
     *kept = is_still_kept(*kept, &turned);
     Ok(turned)
 }
@@ -682,6 +718,7 @@ fn turn_anew(
     kernel: &Kernel,
     course: &mut Course,
     kept: &mut bool,
+    sleeping: &mut Sleeping,
     fuel: u64,
 ) -> Result<Option<Stepped>, AllocError>
     requires due { course.old.due ≡ Nobody }
@@ -692,7 +729,7 @@ fn turn_anew(
     ensures err { OnErr result (course.new ≡ course.old) }
 {
     let mut answered = None;
-    turn(alloc, kernel, &mut answered, course, kept, fuel)
+    turn(alloc, kernel, &mut answered, course, kept, sleeping, fuel)
 }
 
 /// A turn, after those who are due were asked.
@@ -701,6 +738,7 @@ pub fn step(
     kernel: &Kernel,
     course: &mut Course,
     kept: &mut bool,
+    sleeping: &mut Sleeping,
     fuel: u64,
 ) -> Result<Option<Stepped>, AllocError>
     requires { Keeps kernel.now.statements kept.old course.old }
@@ -709,6 +747,6 @@ pub fn step(
     ensures kept { Keeps kernel.now.statements kept.new course.new }
     ensures err { OnErr result (config_of kernel.now.statements course.new ≡ config_of kernel.now.statements course.old) }
 {
-    settle_only(alloc, kernel.statements.as_slice(), course)?;
-    turn_anew(alloc, kernel, course, kept, fuel)
+    settle_only(alloc, kernel.statements.as_slice(), course, sleeping)?;
+    turn_anew(alloc, kernel, course, kept, sleeping, fuel)
 }
