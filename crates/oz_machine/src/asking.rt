@@ -1,4 +1,10 @@
 //! After a step that told a space something, where it is known who may wake by that.
+ghost use Rattle.std.specs.Prelude.{ℕ, ◌≡◌, ◌∷◌, ◌++◌, [], if◌then◌else◌, List, map, filter, IfOk, OnOk, OnErr};
+ghost use Rattle.oz_base.specs.declared.names.Ident.{Ident};
+ghost use Rattle.oz_semantics.specs.Names.{named};
+ghost use Rattle.sleep_laws.specs.Woken.{top_able, is_asked_still, told_queue};
+ghost use Rattle.oz_machine.specs.Asleep.{Lays};
+
 use crate::sleeping::Sleeping;
 use oz_base::{Copies, Ident, SpaceName, same_space};
 use oz_language::Statement;
@@ -14,7 +20,11 @@ fn stays(
     space: &SpaceName,
     id: &Ident,
     sleeping: &mut Sleeping,
-) -> Result<bool, AllocError> {
+) -> Result<bool, AllocError>
+    ensures able { IfOk result (λ stays. stays ≡ is_asked_still statements.now levels.now space.now id.now) }
+    ensures laid { IfOk result (λ stays. (ids : List Ident) → Lays statements.now levels.now sleeping.old (id.now ∷ ids) → Lays statements.now levels.now sleeping.new (if stays then id.now ∷ ids else ids)) }
+    ensures err { OnErr result (sleeping.new ≡ sleeping.old) }
+{
     if !same_space(&id.space, space) {
         return Ok(true);
     }
@@ -29,7 +39,11 @@ fn staying(
     space: &SpaceName,
     queue: &Queue,
     sleeping: &mut Sleeping,
-) -> Result<Vec<Ident>, AllocError> {
+) -> Result<Vec<Ident>, AllocError>
+    ensures able { IfOk result (λ able. able.items ≡ filter (is_asked_still statements.now levels.now space.now) queue.now) }
+    ensures laid { IfOk result (λ able. (ids : List Ident) → Lays statements.now levels.now sleeping.old (queue.now ++ ids) → Lays statements.now levels.now sleeping.new (able.items ++ ids)) }
+    ensures err { OnErr result ((ids : List Ident) → Lays statements.now levels.now sleeping.old (queue.now ++ ids) → Lays statements.now levels.now sleeping.new (queue.now ++ ids)) }
+{
     let mut rest = queue.copied(alloc)?;
     let mut able = Vec::new(alloc);
     'queued: while let Some(id) = rest.next() {
@@ -48,7 +62,11 @@ fn add_able(
     id: Ident,
     sleeping: &mut Sleeping,
     able: &mut Vec<Ident>,
-) -> Result<(), AllocError> {
+) -> Result<(), AllocError>
+    ensures able { OnOk result (able.new.items ≡ able.old.items ++ (if top_able statements.now levels.now id then id ∷ [] else [])) }
+    ensures laid { (ids : List Ident) → Lays statements.now levels.now sleeping.old (able.old.items ++ id ∷ ids) → OnOk result (Lays statements.now levels.now sleeping.new (able.new.items ++ ids)) }
+    ensures err { (ids : List Ident) → Lays statements.now levels.now sleeping.old (id ∷ ids) → OnErr result (Lays statements.now levels.now sleeping.new (id ∷ ids)) }
+{
     if sleeping.asks(alloc, statements, levels, &id)? {
         able.push(id)?;
     }
@@ -64,7 +82,11 @@ fn add_woken(
     woken: &[u64],
     sleeping: &mut Sleeping,
     able: &mut Vec<Ident>,
-) -> Result<(), AllocError> {
+) -> Result<(), AllocError>
+    ensures able { OnOk result (able.new.items ≡ able.old.items ++ filter (top_able statements.now levels.now) (map (named space.now) woken.now)) }
+    ensures laid { Lays statements.now levels.now sleeping.old (able.old.items ++ map (named space.now) woken.now) → OnOk result (Lays statements.now levels.now sleeping.new able.new.items) }
+    ensures err { (ids : List Ident) → Lays statements.now levels.now sleeping.old (ids ++ map (named space.now) woken.now) → OnErr result (Lays statements.now levels.now sleeping.new (ids ++ map (named space.now) woken.now)) }
+{
     for number in woken {
         let id = Ident {
             space: space.copied(alloc)?,
@@ -85,7 +107,13 @@ pub fn ask_told(
     woken: &[u64],
     queue: &mut Queue,
     sleeping: &mut Sleeping,
-) -> Result<(), AllocError> {
+) -> Result<(), AllocError>
+    requires { Lays statements.now levels.now sleeping.old (queue.old ++ mover.now ∷ map (named mover.now.space) woken.now) }
+    ensures ok { OnOk result (queue.new ≡ told_queue statements.now levels.now mover.now woken.now queue.old) }
+    ensures laid { OnOk result (Lays statements.now levels.now sleeping.new queue.new) }
+    ensures err { OnErr result (queue.new ≡ queue.old) }
+    ensures left { OnErr result (Lays statements.now levels.now sleeping.new (queue.old ++ mover.now ∷ map (named mover.now.space) woken.now)) }
+{
     let mut able = staying(alloc, statements, levels, &mover.space, queue, sleeping)?;
     add_able(
         alloc,

@@ -45,7 +45,9 @@ impl Model for Machine {
 
     ghost view = { λ m. record { kernel = m.kernel; config = config_of m.kernel.statements m.course } };
 
-    ghost invariant = { λ m. Keeps m.kernel.statements m.kept m.course };
+    ghost use Rattle.oz_machine.specs.Asleep.{Sleeps};
+
+    ghost invariant = { λ m. Keeps m.kernel.statements m.kept m.course × Sleeps m.kernel.statements m.sleeping m.course };
 }
 
 impl Machine {

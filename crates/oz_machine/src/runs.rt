@@ -8,6 +8,7 @@ ghost use Rattle.oz_semantics.specs.Runs.{run, Ended};
 ghost use Rattle.oz_machine.specs.Courses.{config_of, Keeps};
 ghost use Rattle.oz_machine.specs.Answers.{IsRun, IsLeftOff};
 ghost use Rattle.oz_machine.specs.declared.course.Due.TheVariants.{Nobody};
+ghost use Rattle.oz_machine.specs.Asleep.{Sleeps};
 
 use crate::course::Course;
 use crate::settling::settle;
@@ -88,10 +89,12 @@ fn run_turns(
     space: &SpaceName,
     fuel: u64,
 ) -> Result<Ran, AllocError>
-    requires { Keeps kernel.now.statements kept.old course.old }
+    requires kept { Keeps kernel.now.statements kept.old course.old }
+    requires asleep { Sleeps kernel.now.statements sleeping.old course.old }
     ensures run { IfOk result (IsRun (record { kernel = kernel.now; config = config_of kernel.now.statements course.new }) space.now fuel (run kernel.now space.now (config_of kernel.now.statements course.old) fuel)) }
     ensures kept { Keeps kernel.now.statements kept.new course.new }
     ensures err { OnErr result (IsLeftOff kernel.now space.now fuel (config_of kernel.now.statements course.old) (config_of kernel.now.statements course.new)) }
+    ensures asleep { Sleeps kernel.now.statements sleeping.new course.new }
 {
     let statements = kernel.statements.as_slice();
     let mut left = fuel;
@@ -129,11 +132,22 @@ pub fn run(
     space: &SpaceName,
     fuel: u64,
 ) -> Result<Ran, AllocError>
-    requires { Keeps kernel.now.statements kept.old course.old }
+    requires kept { Keeps kernel.now.statements kept.old course.old }
+    requires asleep { Sleeps kernel.now.statements sleeping.old course.old }
     ensures run { IfOk result (IsRun (record { kernel = kernel.now; config = config_of kernel.now.statements course.new }) space.now fuel (run kernel.now space.now (config_of kernel.now.statements course.old) fuel)) }
     ensures kept { Keeps kernel.now.statements kept.new course.new }
     ensures err { OnErr result (IsLeftOff kernel.now space.now fuel (config_of kernel.now.statements course.old) (config_of kernel.now.statements course.new)) }
+    ensures asleep { Sleeps kernel.now.statements sleeping.new course.new }
 {
     let mut answered = None;
-    run_turns(alloc, kernel, &mut answered, course, kept, sleeping, space, fuel)
+    run_turns(
+        alloc,
+        kernel,
+        &mut answered,
+        course,
+        kept,
+        sleeping,
+        space,
+        fuel,
+    )
 }

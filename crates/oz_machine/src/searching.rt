@@ -7,6 +7,8 @@ ghost use Rattle.settle_laws.specs.Settles.{Settles};
 ghost use Rattle.oz_semantics.specs.Search.{followed, with_root, search_space, chosen_in};
 ghost use Rattle.oz_semantics.specs.declared.configuration.Layer.{Layer};
 ghost use Rattle.oz_machine.specs.Courses.{config_of};
+ghost use Rattle.oz_machine.specs.Asleep.{Sleeps};
+ghost use Rattle.oz_machine.specs.declared.sleeping.Sleeping.{Sleeping};
 
 use crate::course::{Course, Due};
 use crate::settling::settle_only;
@@ -20,7 +22,8 @@ use std::alloc::{AllocError, Global};
 
 /// What follows an edit: everybody is due.
 fn follow_edit(course: &mut Course)
-    ensures { (statements : List Statement) (space : List ℕ) (before made : List Layer) → Settles space made course.old.levels
+    ensures asleep { (statements : List Statement) (s : Sleeping) → Sleeps statements s course.new }
+    ensures follows { (statements : List Statement) (space : List ℕ) (before made : List Layer) → Settles space made course.old.levels
         → config_of statements course.new ≡ followed statements (record { layers = before; queue = course.old.queue; shown = course.old.shown }) made }
 {
     course.due = Due::Everybody { mover: None };
@@ -34,9 +37,11 @@ pub fn root(
     course: &mut Course,
     sleeping: &mut Sleeping,
 ) -> Result<SpaceName, AllocError>
+    requires asleep { Sleeps statements.now sleeping.old course.old }
     ensures root { OnOk result (config_of statements.now course.new ≡ with_root statements.now procedure (config_of statements.now course.old)) }
     ensures name { IfOk result (λ space. space ≡ search_space (config_of statements.now course.old)) }
     ensures err { OnErr result (config_of statements.now course.new ≡ config_of statements.now course.old) }
+    ensures asleep { Sleeps statements.now sleeping.new course.new }
 {
     settle_only(alloc, statements, course, sleeping)?;
     let top = SpaceName::top();
@@ -104,8 +109,10 @@ pub fn commit(
     course: &mut Course,
     sleeping: &mut Sleeping,
 ) -> Result<(), AllocError>
+    requires asleep { Sleeps statements.now sleeping.old course.old }
     ensures commit { OnOk result (config_of statements.now course.new ≡ chosen_in statements.now space.now index (config_of statements.now course.old)) }
     ensures err { OnErr result (config_of statements.now course.new ≡ config_of statements.now course.old) }
+    ensures asleep { Sleeps statements.now sleeping.new course.new }
 {
     settle_only(alloc, statements, course, sleeping)?;
     commit_in(alloc, statements, space, index, &mut course.levels)?;

@@ -1,11 +1,15 @@
 //! What comes before each step: those who are due are asked whether they can step.
-ghost use Rattle.std.specs.Prelude.{◌≡◌, ◌<◌, ◌++◌, [], None, Some, length, position, option_copied, option_to_list, IfOk, OnOk, OnErr};
+ghost use Rattle.std.specs.Prelude.{◌≡◌, ◌<◌, ◌++◌, ◌∷◌, [], true, map, None, Some, length, position, option_copied, option_to_list, IfOk, OnOk, OnErr};
 ghost use Rattle.oz_semantics.specs.Configurations.{is_of, stack_of};
 ghost use Rattle.oz_semantics.specs.Settling.{runnable, queue_after};
 ghost use Rattle.oz_semantics.specs.Spaces.{sight};
 ghost use Rattle.oz_semantics.specs.Statements.{stack_answer};
 ghost use Rattle.builtins.specs.Answers.{IsAnswer};
 ghost use Rattle.oz_machine.specs.declared.course.Due.TheVariants.{Nobody};
+ghost use Rattle.oz_semantics.specs.Names.{named};
+ghost use Rattle.sleep_laws.specs.Woken.{told_queue};
+ghost use Rattle.oz_machine.specs.Asleep.{AreLaidBut, Lays, Sleeps};
+ghost use Rattle.oz_machine.specs.declared.sleeping.Sleeping.{Sleeping};
 ghost use Rattle.oz_machine.specs.Courses.{asked, config_of, layers_after};
 ghost use Rattle.oz_machine.specs.Quiet.{top_steps, able_in, waits, IsHeadAnswer};
 
@@ -226,10 +230,13 @@ fn join_or_sleep(
     answered: &mut Option<Answer>,
     sleeping: &mut Sleeping,
 ) -> Result<(), AllocError>
-    requires { answered.old ≡ None }
+    requires answered { answered.old ≡ None }
+    requires asleep { Lays statements.now levels.now sleeping.old (queue.old ++ id.now ∷ []) }
     ensures ok { OnOk result (queue.new ≡ queue.old ++ able_in statements.now levels.now id.now) }
     ensures answer { OnOk result (IsHeadAnswer statements.now levels.now queue.new answered.new) }
+    ensures asleep { OnOk result (Lays statements.now levels.now sleeping.new queue.new) }
     ensures err { OnErr result (queue.new ≡ queue.old) }
+    ensures left { OnErr result (sleeping.new ≡ sleeping.old) }
 {
     let before = queue.len();
     join_mover(alloc, statements, levels, id, queue, answered)?;
@@ -249,8 +256,11 @@ fn join_both_or_sleep(
     queue: &mut Queue,
     sleeping: &mut Sleeping,
 ) -> Result<(), AllocError>
+    requires asleep { Lays statements.now levels.now sleeping.old (queue.old ++ id.now ∷ other.now ∷ []) }
     ensures ok { OnOk result (queue.new ≡ (queue.old ++ able_in statements.now levels.now id.now) ++ able_in statements.now levels.now other.now) }
+    ensures asleep { OnOk result (Lays statements.now levels.now sleeping.new queue.new) }
     ensures err { OnErr result (queue.new ≡ queue.old) }
+    ensures left { OnErr result (sleeping.new ≡ sleeping.old) }
 {
     let before = queue.len();
     join_both(alloc, statements, levels, id, other, queue)?;
@@ -271,7 +281,15 @@ fn join_told(
     queue: &mut Queue,
     answered: &mut Option<Answer>,
     sleeping: &mut Sleeping,
-) -> Result<(), AllocError> {
+) -> Result<(), AllocError>
+    requires answered { answered.old ≡ None }
+    requires asleep { Lays statements.now levels.now sleeping.old (queue.old ++ mover.now ∷ map (named mover.now.space) woken.now) }
+    ensures ok { OnOk result (queue.new ≡ told_queue statements.now levels.now mover.now woken.now queue.old) }
+    ensures answer { OnOk result (IsHeadAnswer statements.now levels.now queue.new answered.new) }
+    ensures asleep { OnOk result (Lays statements.now levels.now sleeping.new queue.new) }
+    ensures err { OnErr result (queue.new ≡ queue.old) }
+    ensures left { OnErr result (Lays statements.now levels.now sleeping.new (queue.old ++ mover.now ∷ map (named mover.now.space) woken.now)) }
+{
     if queue.len() == 0 && woken.is_empty() {
         return join_or_sleep(alloc, statements, levels, mover, queue, answered, sleeping);
     }
@@ -288,6 +306,7 @@ fn requeue_all(
     sleeping: &mut Sleeping,
 ) -> Result<(), AllocError>
     ensures ok { OnOk result (queue.new ≡ queue_after (runnable statements.now levels.now) (option_copied mover.entry) queue.old) }
+    ensures asleep { OnOk result (Lays statements.now levels.now sleeping.new queue.new) }
     ensures err { OnErr result (queue.new ≡ queue.old) }
 {
     requeue(alloc, statements, levels, mover, queue)?;
@@ -311,9 +330,12 @@ fn ask(
 ) -> Result<(), AllocError>
     requires answered { answered.old ≡ None }
     requires begun { layers_after statements.now levels.now due.now ≡ levels.now }
+    requires asleep { sleeping.old.known ≡ true → AreLaidBut statements.now levels.now sleeping.old due.now queue.old }
     ensures ok { OnOk result (queue.new ≡ asked statements.now levels.now due.now queue.old) }
     ensures answer { OnOk result (IsHeadAnswer statements.now levels.now queue.new answered.new) }
+    ensures asleep { OnOk result (Lays statements.now levels.now sleeping.new queue.new) }
     ensures err { OnErr result (queue.new ≡ queue.old) }
+    ensures left { OnErr result (sleeping.new.known ≡ true → AreLaidBut statements.now levels.now sleeping.new due.now queue.old) }
 {
     match due {
         Due::Nobody => Ok(()),
@@ -359,6 +381,7 @@ fn begin_needed(
 ) -> Result<(), AllocError>
     ensures same { config_of statements.now course.new ≡ config_of statements.now course.old }
     ensures begun { OnOk result (layers_after statements.now course.new.levels course.new.due ≡ course.new.levels) }
+    ensures asleep { (s : Sleeping) → Sleeps statements.now s course.old → Sleeps statements.now s course.new }
 {
     match course.due {
         Due::Nobody | Due::Mover { .. } | Due::Told { .. } => Ok(()),
@@ -378,8 +401,10 @@ pub fn settle(
     answered: &mut Option<Answer>,
     sleeping: &mut Sleeping,
 ) -> Result<(), AllocError>
+    requires asleep { Sleeps statements.now sleeping.old course.old }
     ensures same { config_of statements.now course.new ≡ config_of statements.now course.old }
     ensures due { OnOk result (course.new.due ≡ Nobody) }
+    ensures asleep { Sleeps statements.now sleeping.new course.new }
     ensures answer { OnOk result (IsHeadAnswer statements.now course.new.levels course.new.queue answered.new) }
 {
     *answered = None;
@@ -404,8 +429,10 @@ pub fn settle_only(
     course: &mut Course,
     sleeping: &mut Sleeping,
 ) -> Result<(), AllocError>
+    requires asleep { Sleeps statements.now sleeping.old course.old }
     ensures same { config_of statements.now course.new ≡ config_of statements.now course.old }
     ensures due { OnOk result (course.new.due ≡ Nobody) }
+    ensures asleep { Sleeps statements.now sleeping.new course.new }
 {
     let mut answered = None;
     settle(alloc, statements, course, &mut answered, sleeping)

@@ -1,5 +1,5 @@
 //! What follows a step that told its space something, where no space is below: threads of its own space alone can step by that.
-ghost use Rattle.std.specs.Prelude.{◌≡◌, ◌++◌, [], List, Some, true, drop};
+ghost use Rattle.std.specs.Prelude.{◌≡◌, ◌++◌, [], List, Some, true, drop, IfSome};
 ghost use Rattle.std.specs.List.{list_all};
 ghost use Rattle.oz_base.specs.Lists.{first};
 ghost use Rattle.oz_semantics.specs.Store.{is_consistent};
@@ -12,6 +12,9 @@ ghost use Rattle.oz_semantics.specs.declared.outcome.Stepped.TheVariants.{Moved}
 ghost use Rattle.turn_laws.specs.Telling.{IsAlone};
 ghost use Rattle.oz_machine.specs.Courses.{config_of, stepping};
 ghost use Rattle.oz_machine.specs.Quiet.{IsAwakeAlone, IsHead, LetsNoneStep};
+ghost use Rattle.oz_machine.specs.Asleep.{AreLaidBut, IsForetold};
+ghost use Rattle.oz_machine.specs.Waking.{IsLeftTold};
+ghost use Rattle.oz_machine.specs.declared.sleeping.Sleeping.{Sleeping};
 
 use crate::course::Course;
 use crate::following::{follow, leave_alone, leave_told};
@@ -72,7 +75,10 @@ fn lets_none_step(alloc: Global, kernel: &Kernel, levels: &Levels, id: &Ident) -
 }
 
 /// Threads of its space with these numbers alone may wake by what a thread told its space, if that is known.
-fn go_on_waking(woken: Option<Sequence<u64>>, cost: u64, course: &mut Course) -> Stepped {
+fn go_on_waking(woken: Option<Sequence<u64>>, cost: u64, course: &mut Course) -> Stepped
+    ensures follows { (statements : List Statement) (mover : Ident) → first course.old.queue ≡ Some mover → IsLeftTold statements mover cost woken course.old result course.new }
+    ensures cost { result ≡ Moved cost }
+{
     match woken {
         Some(woken) if course.levels.is_plain() => {
             leave_told(course, woken);
@@ -95,11 +101,18 @@ pub fn go_on_told(
     course: &mut Course,
 ) -> Stepped
     requires { first course.old.queue ≡ Some mover.now }
-    ensures turn { (layers : List Layer) (ts : List Tell) (changes : List Change)
+    ensures turn { (s : Sleeping) (layers : List Layer) (ts : List Tell) (changes : List Change)
         → IsHead kernel.now.statements mover.now layers (drop 1 course.old.queue) course.old.shown
         → IsAlone layers mover.now.space → is_consistent (view layers mover.now.space ++ ts) ≡ true
         → course.old.levels ≡ done mover.now ts changes (without_top mover.now layers)
+        → IsForetold kernel.now.statements layers s mover.now (drop 1 course.old.queue) woken ts changes
         → went_on kernel.now.statements mover.now cost course.old.levels (stepping course.old) ≡ (result, config_of kernel.now.statements course.new) }
+    ensures asleep { (s : Sleeping) (layers : List Layer) (ts : List Tell) (changes : List Change)
+        → IsHead kernel.now.statements mover.now layers (drop 1 course.old.queue) course.old.shown
+        → IsAlone layers mover.now.space → is_consistent (view layers mover.now.space ++ ts) ≡ true
+        → course.old.levels ≡ done mover.now ts changes (without_top mover.now layers)
+        → IsForetold kernel.now.statements layers s mover.now (drop 1 course.old.queue) woken ts changes
+        → IfSome woken (λ numbers. AreLaidBut kernel.now.statements course.new.levels s course.new.due course.new.queue) }
     ensures cost { result ≡ Moved cost }
 {
     course.levels.drop_terminated(&mover.space);

@@ -21,6 +21,7 @@ ghost use Rattle.oz_machine.specs.Courses.{config_of, stepping, Keeps};
 ghost use Rattle.oz_acts.specs.Doings.{is_quiet, is_shown};
 ghost use Rattle.oz_machine.specs.Quiet.{delays, gives_out, IsDeclaration, IsHeadAnswer, KeepsHead, operates, shows};
 ghost use Rattle.oz_machine.specs.Turns.{cost_of, CostsWithin, HasNotEnded, IsTurn};
+ghost use Rattle.oz_machine.specs.Asleep.{Foretells, Pends, Sleeps};
 
 use crate::course::Course;
 use crate::declarations::declaration;
@@ -86,7 +87,8 @@ fn is_known_lowest(levels: &Levels, id: &Ident, kept: bool, quiet: bool) -> bool
     kept && !quiet && !levels.has_below(&id.space)
 }
 
-/// Who may wake by an act, where it tells a space with none below it, no space is a value and each by-need computation has begun.
+/// Who may wake by an act that tells a space with none below it, where no space is a value and each by-need computation has begun. None
+/// where that is not known.
 fn foreseen(
     alloc: Global,
     levels: &Levels,
@@ -94,8 +96,16 @@ fn foreseen(
     what: &Act,
     lowest: bool,
     sleeping: &mut Sleeping,
-) -> Result<Option<Sequence<u64>>, AllocError> {
-    if !lowest || !levels.is_plain() {
+) -> Result<Option<Sequence<u64>>, AllocError>
+    ensures known { sleeping.new.known ≡ sleeping.old.known }
+    ensures quiet { lowest ≡ false → sleeping.new ≡ sleeping.old }
+    ensures foretold { lowest ≡ true → IfOk result (Foretells levels.now id.now (act_of what.now) sleeping.old sleeping.new) }
+{
+    if !lowest {
+        return Ok(None);
+    }
+    if !levels.is_plain() {
+        sleeping.drop_pending();
         return Ok(None);
     }
     woken(alloc, levels, id, what, sleeping)
@@ -115,9 +125,11 @@ fn make_act(
     requires there { is_some (layer_at course.old.levels id.now.space) ≡ true }
     requires kept { KeepsHead kernel.now.statements id.now kept course.old }
     requires shown { is_shown (act_of what.old) ≡ false }
+    requires asleep { Pends kernel.now.statements sleeping.old course.old }
     ensures turn { IfOk result (λ stepped. after_answer kernel.now id.now (without_top id.now course.old.levels) (stepping course.old) (answers.Acts (act_of what.old)) ≡ (stepped, config_of kernel.now.statements course.new)) }
     ensures cost { IfOk result (λ stepped. cost_of stepped ≡ 1) }
     ensures err { OnErr result (course.new ≡ course.old) }
+    ensures asleep { Sleeps kernel.now.statements sleeping.new course.new }
 {
     let quiet = is_known_quiet(what, kept);
     let lowest = is_known_lowest(&course.levels, id, kept, quiet);
@@ -129,10 +141,14 @@ fn make_act(
         return clash(alloc, id, course);
     }
     if lowest {
-        return Ok(go_on_told(alloc, kernel, id, woken, 1, course));
+        let stepped = go_on_told(alloc, kernel, id, woken, 1, course);
+        sleeping.resume();
+        return Ok(stepped);
     }
     if still {
-        return Ok(go_on_quietly(alloc, kernel, id, started, gives, 1, course));
+        let stepped = go_on_quietly(alloc, kernel, id, started, gives, 1, course);
+        sleeping.resume();
+        return Ok(stepped);
     }
     course.levels.consistent();
     Ok(go_on(id, 1, course))
@@ -225,9 +241,11 @@ fn make_step(
     requires there { is_some (layer_at course.old.levels id.now.space) ≡ true }
     requires kept { KeepsHead kernel.now.statements id.now kept course.old }
     requires shown { shows answer.old ≡ false }
+    requires asleep { Pends kernel.now.statements sleeping.old course.old }
     ensures turn { (a : answers.Answer) → IsAnswer a answer.old → IfOk result (λ stepped. after_answer kernel.now id.now (without_top id.now course.old.levels) (stepping course.old) a ≡ (stepped, config_of kernel.now.statements course.new)) }
     ensures cost { IfOk result (λ stepped. cost_of stepped ≡ 1) }
     ensures err { OnErr result (course.new ≡ course.old) }
+    ensures asleep { Sleeps kernel.now.statements sleeping.new course.new }
 {
     match answer {
         Answer::Rests => Ok(rest(course)),
@@ -354,9 +372,11 @@ fn step_as(
     requires head { first course.old.queue ≡ Some id.now }
     requires kept { KeepsHead kernel.now.statements id.now kept course.old }
     requires fuel { 1 ≤ fuel }
+    requires asleep { Pends kernel.now.statements sleeping.old course.old }
     ensures turn { (a : answers.Answer) → IsAnswer a answer.old → IfOk result (IsTurn (after_answer kernel.now id.now (without_top id.now course.old.levels) (stepping course.old) a) fuel (config_of kernel.now.statements course.old) (config_of kernel.now.statements course.new)) }
     ensures cost { IfOk result (λ turned. IfSome turned (CostsWithin fuel)) }
     ensures err { OnErr result (course.new ≡ course.old) }
+    ensures asleep { Sleeps kernel.now.statements sleeping.new course.new }
 {
     if let Some(variable) = shown(answer) {
         return show(alloc, kernel, place, id, variable, kept, course, fuel);
@@ -372,19 +392,24 @@ fn declare(
     names: &[Identifier],
     body: &[u32],
     kept: bool,
+    sleeping: &mut Sleeping,
     course: &mut Course,
 ) -> Result<Stepped, AllocError>
     requires head { first course.old.queue ≡ Some id.now }
     requires there { is_some (layer_at course.old.levels id.now.space) ≡ true }
     requires kept { KeepsHead kernel.now.statements id.now kept course.old }
     requires declared { IsDeclaration kernel.now.statements (stack_of course.old.levels id.now) names.now body.now }
+    requires asleep { Pends kernel.now.statements sleeping.old course.old }
     ensures turn { IfOk result (λ made. stepped kernel.now id.now (stepping course.old) ≡ (made, config_of kernel.now.statements course.new)) }
     ensures cost { IfOk result (λ made. cost_of made ≡ 1) }
     ensures err { OnErr result (course.new ≡ course.old) }
+    ensures asleep { Sleeps kernel.now.statements sleeping.new course.new }
 {
     course.levels.declare_in(alloc, id, names, body)?;
     if kept {
-        return Ok(go_on_quietly(alloc, kernel, id, None, true, 1, course));
+        let stepped = go_on_quietly(alloc, kernel, id, None, true, 1, course);
+        sleeping.resume();
+        return Ok(stepped);
     }
     course.levels.consistent();
     Ok(go_on(id, 1, course))
@@ -413,7 +438,6 @@ fn step_outcome(
     id: &Ident,
     outcome: Outcome,
     kept: bool,
-    sleeping: &mut Sleeping,
     course: &mut Course,
     fuel: u64,
 ) -> Result<Option<Stepped>, AllocError>
@@ -429,7 +453,18 @@ fn step_outcome(
     match outcome {
         Outcome::Answers(answer) => {
             let mut answer = answer;
-            step_as(alloc, kernel, place, id, &mut answer, kept, sleeping, course, fuel)
+            let mut nobody = Sleeping::unknown(alloc);
+            step_as(
+                alloc,
+                kernel,
+                place,
+                id,
+                &mut answer,
+                kept,
+                &mut nobody,
+                course,
+                fuel,
+            )
         }
         Outcome::GivesTerm { variable, nodes } => Ok(Some(make_term(
             alloc,
@@ -472,7 +507,6 @@ fn step_operating(
     place: usize,
     id: &Ident,
     kept: bool,
-    sleeping: &mut Sleeping,
     course: &mut Course,
     fuel: u64,
 ) -> Result<Option<Stepped>, AllocError>
@@ -487,7 +521,7 @@ fn step_operating(
 {
     let statements = kernel.statements.as_slice();
     let outcome = outcome(alloc, statements, &course.levels, place, id)?;
-    step_outcome(alloc, kernel, place, id, outcome, kept, sleeping, course, fuel)
+    step_outcome(alloc, kernel, place, id, outcome, kept, course, fuel)
 }
 
 /// A step of the thread at the head of the queue, whose answer is made now.
@@ -506,13 +540,25 @@ fn step_answering(
     requires head { first course.old.queue ≡ Some id.now }
     requires kept { KeepsHead kernel.now.statements id.now kept course.old }
     requires fuel { 1 ≤ fuel }
+    requires asleep { Pends kernel.now.statements sleeping.old course.old }
     ensures turn { IfOk result (IsTurn (stepped kernel.now id.now (stepping course.old)) fuel (config_of kernel.now.statements course.old) (config_of kernel.now.statements course.new)) }
     ensures cost { IfOk result (λ turned. IfSome turned (CostsWithin fuel)) }
     ensures err { OnErr result (course.new ≡ course.old) }
+    ensures asleep { Sleeps kernel.now.statements sleeping.new course.new }
 {
     let statements = kernel.statements.as_slice();
     let mut answer = top_answer(alloc, statements, &course.levels, place, id)?;
-    step_answered(alloc, kernel, place, id, &mut answer, kept, sleeping, course, fuel)
+    step_answered(
+        alloc,
+        kernel,
+        place,
+        id,
+        &mut answer,
+        kept,
+        sleeping,
+        course,
+        fuel,
+    )
 }
 
 /// A step of the thread at the head of the queue, whose answer was not made. A declaration needs none.
@@ -531,13 +577,17 @@ fn step_anew(
     requires head { first course.old.queue ≡ Some id.now }
     requires kept { KeepsHead kernel.now.statements id.now kept course.old }
     requires fuel { 1 ≤ fuel }
+    requires asleep { Pends kernel.now.statements sleeping.old course.old }
     ensures turn { IfOk result (IsTurn (stepped kernel.now id.now (stepping course.old)) fuel (config_of kernel.now.statements course.old) (config_of kernel.now.statements course.new)) }
     ensures cost { IfOk result (λ turned. IfSome turned (CostsWithin fuel)) }
     ensures err { OnErr result (course.new ≡ course.old) }
+    ensures asleep { Sleeps kernel.now.statements sleeping.new course.new }
 {
     match declaration(kernel.statements.as_slice(), &course.levels, id) {
         None => step_answering(alloc, kernel, place, id, kept, sleeping, course, fuel),
-        Some((names, body)) => Ok(Some(declare(alloc, kernel, id, names, body, kept, course)?)),
+        Some((names, body)) => Ok(Some(declare(
+            alloc, kernel, id, names, body, kept, sleeping, course,
+        )?)),
     }
 }
 
@@ -559,14 +609,18 @@ fn step_answered(
     requires answered { IsAnswer (stack_answer (sight kernel.now.statements course.old.levels id.now.space) (stack_of course.old.levels id.now)) answer.old }
     requires kept { KeepsHead kernel.now.statements id.now kept course.old }
     requires fuel { 1 ≤ fuel }
+    requires asleep { Pends kernel.now.statements sleeping.old course.old }
     ensures turn { IfOk result (IsTurn (stepped kernel.now id.now (stepping course.old)) fuel (config_of kernel.now.statements course.old) (config_of kernel.now.statements course.new)) }
     ensures cost { IfOk result (λ turned. IfSome turned (CostsWithin fuel)) }
     ensures err { OnErr result (course.new ≡ course.old) }
+    ensures asleep { Sleeps kernel.now.statements sleeping.new course.new }
 {
     if operates(answer) {
-        return step_operating(alloc, kernel, place, id, kept, sleeping, course, fuel);
+        return step_operating(alloc, kernel, place, id, kept, course, fuel);
     }
-    step_as(alloc, kernel, place, id, answer, kept, sleeping, course, fuel)
+    step_as(
+        alloc, kernel, place, id, answer, kept, sleeping, course, fuel,
+    )
 }
 
 /// A step of the thread at the head of the queue. Its answer was made already, or it is made now. None exactly where the step costs more
@@ -585,16 +639,20 @@ fn step_of(
     requires answered { IsHeadAnswer kernel.now.statements course.old.levels course.old.queue answered.old }
     requires kept { KeepsHead kernel.now.statements id.now kept course.old }
     requires fuel { 1 ≤ fuel }
+    requires asleep { Pends kernel.now.statements sleeping.old course.old }
     ensures turn { IfOk result (IsTurn (stepped kernel.now id.now (stepping course.old)) fuel (config_of kernel.now.statements course.old) (config_of kernel.now.statements course.new)) }
     ensures cost { IfOk result (λ turned. IfSome turned (CostsWithin fuel)) }
     ensures err { OnErr result (course.new ≡ course.old) }
+    ensures asleep { Sleeps kernel.now.statements sleeping.new course.new }
 {
     let Some(place) = course.levels.place(&id.space) else {
         course.levels.consistent();
         return Ok(Some(follow(1, course)));
     };
     match answered {
-        Some(answer) => step_answered(alloc, kernel, place, id, answer, kept, sleeping, course, fuel),
+        Some(answer) => step_answered(
+            alloc, kernel, place, id, answer, kept, sleeping, course, fuel,
+        ),
         None => step_anew(alloc, kernel, place, id, kept, sleeping, course, fuel),
     }
 }
@@ -613,9 +671,11 @@ fn take_step(
     requires least { least_due course.old.levels ≡ None }
     requires answered { IsHeadAnswer kernel.now.statements course.old.levels course.old.queue answered.old }
     requires kept { Keeps kernel.now.statements kept course.old }
+    requires asleep { Pends kernel.now.statements sleeping.old course.old }
     ensures turn { IfOk result (IsTurn (turn kernel.now (config_of kernel.now.statements course.old)) fuel (config_of kernel.now.statements course.old) (config_of kernel.now.statements course.new)) }
     ensures cost { IfOk result (λ turned. IfSome turned (CostsWithin fuel)) }
     ensures err { OnErr result (course.new ≡ course.old) }
+    ensures asleep { Sleeps kernel.now.statements sleeping.new course.new }
 {
     let Some(id) = course.queue.first() else {
         return Ok(Some(Stepped::Quiescent));
@@ -660,9 +720,11 @@ fn take_turn(
     requires due { course.old.due ≡ Nobody }
     requires answered { IsHeadAnswer kernel.now.statements course.old.levels course.old.queue answered.old }
     requires kept { Keeps kernel.now.statements kept course.old }
+    requires asleep { Pends kernel.now.statements sleeping.old course.old }
     ensures turn { IfOk result (IsTurn (turn kernel.now (config_of kernel.now.statements course.old)) fuel (config_of kernel.now.statements course.old) (config_of kernel.now.statements course.new)) }
     ensures cost { IfOk result (λ turned. IfSome turned (CostsWithin fuel)) }
     ensures err { OnErr result (course.new ≡ course.old) }
+    ensures asleep { Sleeps kernel.now.statements sleeping.new course.new }
 {
     if let Some(due) = least_due(&course.levels) {
         return take_run(alloc, kernel, due, course, fuel);
@@ -696,18 +758,16 @@ pub fn turn(
     requires due { course.old.due ≡ Nobody }
     requires answered { IsHeadAnswer kernel.now.statements course.old.levels course.old.queue answered.old }
     requires kept { Keeps kernel.now.statements kept.old course.old }
+    requires asleep { Sleeps kernel.now.statements sleeping.old course.old }
     ensures turn { IfOk result (IsTurn (turn kernel.now (config_of kernel.now.statements course.old)) fuel (config_of kernel.now.statements course.old) (config_of kernel.now.statements course.new)) }
     ensures cost { IfOk result (λ turned. IfSome turned (CostsWithin fuel)) }
     ensures kept { Keeps kernel.now.statements kept.new course.new }
     ensures err { OnErr result (course.new ≡ course.old) }
+    ensures asleep { Sleeps kernel.now.statements sleeping.new course.new }
 {
-    let turned = match take_turn(alloc, kernel, answered, *kept, sleeping, course, fuel) {
-        Ok(turned) => turned,
-        Err(error) => {
-            sleeping.forget(alloc);
-            return Err(error);
-        }
-    };
+    sleeping.begin_turn();
+    let turned = take_turn(alloc, kernel, answered, *kept, sleeping, course, fuel)?;
+    sleeping.end_turn();
     *kept = is_still_kept(*kept, &turned);
     Ok(turned)
 }
@@ -723,10 +783,12 @@ fn turn_anew(
 ) -> Result<Option<Stepped>, AllocError>
     requires due { course.old.due ≡ Nobody }
     requires kept { Keeps kernel.now.statements kept.old course.old }
+    requires asleep { Sleeps kernel.now.statements sleeping.old course.old }
     ensures turn { IfOk result (IsTurn (turn kernel.now (config_of kernel.now.statements course.old)) fuel (config_of kernel.now.statements course.old) (config_of kernel.now.statements course.new)) }
     ensures cost { IfOk result (λ turned. IfSome turned (CostsWithin fuel)) }
     ensures kept { Keeps kernel.now.statements kept.new course.new }
     ensures err { OnErr result (course.new ≡ course.old) }
+    ensures asleep { Sleeps kernel.now.statements sleeping.new course.new }
 {
     let mut answered = None;
     turn(alloc, kernel, &mut answered, course, kept, sleeping, fuel)
@@ -741,11 +803,13 @@ pub fn step(
     sleeping: &mut Sleeping,
     fuel: u64,
 ) -> Result<Option<Stepped>, AllocError>
-    requires { Keeps kernel.now.statements kept.old course.old }
+    requires kept { Keeps kernel.now.statements kept.old course.old }
+    requires asleep { Sleeps kernel.now.statements sleeping.old course.old }
     ensures turn { IfOk result (IsTurn (turn kernel.now (config_of kernel.now.statements course.old)) fuel (config_of kernel.now.statements course.old) (config_of kernel.now.statements course.new)) }
     ensures cost { IfOk result (λ turned. IfSome turned (CostsWithin fuel)) }
     ensures kept { Keeps kernel.now.statements kept.new course.new }
     ensures err { OnErr result (config_of kernel.now.statements course.new ≡ config_of kernel.now.statements course.old) }
+    ensures asleep { Sleeps kernel.now.statements sleeping.new course.new }
 {
     settle_only(alloc, kernel.statements.as_slice(), course, sleeping)?;
     turn_anew(alloc, kernel, course, kept, sleeping, fuel)
