@@ -8,7 +8,7 @@ use Rattle.settle_laws.specs.Settles.{Settles}
 use Rattle.oz_semantics.specs.declared.configuration.Layer.{Layer}
 use Rattle.oz_machine.specs.declared.course.Due.TheVariants.{Told}
 use Rattle.oz_machine.specs.declared.course.Course.{Course}
-use Rattle.oz_machine.specs.declared.sleeping.Sleeping.{Sleeping}
+use Rattle.oz_sleep.specs.declared.sleeping.Sleeping.{Sleeping}
 use Rattle.oz_machine.specs.Asleep.{AreLaidBut}
 use Rattle.oz_machine.specs.Courses.{config_of, stepping}
 use Rattle.oz_machine.specs.Quiet.{IsPlain}

@@ -11,7 +11,7 @@ ghost use Rattle.oz_machine.specs.declared.course.Due.TheVariants.{Nobody, Mover
 ghost use Rattle.oz_machine.specs.Courses.{config_of, stepping};
 ghost use Rattle.settle_laws.specs.Settles.{Settles};
 ghost use Rattle.oz_machine.specs.Asleep.{AreLaidBut};
-ghost use Rattle.oz_machine.specs.declared.sleeping.Sleeping.{Sleeping};
+ghost use Rattle.oz_sleep.specs.declared.sleeping.Sleeping.{Sleeping};
 
 use crate::course::{Course, Due};
 use oz_base::{Ident, Sequence};

@@ -2,7 +2,6 @@
 //! search asks for.
 #![tactic(auto)]
 
-mod asking;
 mod course;
 mod declarations;
 mod editing;
@@ -16,11 +15,9 @@ mod runs;
 mod scripts;
 mod searching;
 mod settling;
-mod sleeping;
 mod texts;
 mod told;
 mod turn;
-mod waking;
 
 pub use machine::Machine;
 pub use runs::Ran;

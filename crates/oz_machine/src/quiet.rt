@@ -14,8 +14,9 @@ ghost use Rattle.quiet_laws.specs.Unknown.{given_by};
 ghost use Rattle.unneeded_laws.specs.Unneeded.{adds_trigger, is_waiting};
 ghost use Rattle.oz_machine.specs.Courses.{config_of, stepping};
 ghost use Rattle.oz_machine.specs.Quiet.{top_steps, AreAwake, IsHead, LeavesOthers, names_in, news_of};
-ghost use Rattle.oz_machine.specs.Asleep.{AreLaid, AreLaidBut};
-ghost use Rattle.oz_machine.specs.declared.sleeping.Sleeping.{Sleeping};
+ghost use Rattle.oz_machine.specs.Asleep.{AreLaidBut};
+ghost use Rattle.oz_sleep.specs.Laid.{AreLaid};
+ghost use Rattle.oz_sleep.specs.declared.sleeping.Sleeping.{Sleeping};
 
 use crate::course::Course;
 use crate::declarations::declares;

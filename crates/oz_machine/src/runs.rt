@@ -12,12 +12,12 @@ ghost use Rattle.oz_machine.specs.Asleep.{Sleeps};
 
 use crate::course::Course;
 use crate::settling::settle;
-use crate::sleeping::Sleeping;
 use crate::turn::turn;
 use builtins::Answer;
 use oz_base::{Ident, SpaceName};
 use oz_language::{Kernel, Statement};
 use oz_semantics::{State, Stepped};
+use oz_sleep::Sleeping;
 use stability::{is_due_below, space_state};
 use std::alloc::{AllocError, Global};
 

@@ -8,14 +8,14 @@ ghost use Rattle.oz_semantics.specs.Search.{followed, with_root, search_space, c
 ghost use Rattle.oz_semantics.specs.declared.configuration.Layer.{Layer};
 ghost use Rattle.oz_machine.specs.Courses.{config_of};
 ghost use Rattle.oz_machine.specs.Asleep.{Sleeps};
-ghost use Rattle.oz_machine.specs.declared.sleeping.Sleeping.{Sleeping};
+ghost use Rattle.oz_sleep.specs.declared.sleeping.Sleeping.{Sleeping};
 
 use crate::course::{Course, Due};
 use crate::settling::settle_only;
-use crate::sleeping::Sleeping;
 use oz_base::{Ident, SpaceName};
 use oz_language::Statement;
 use oz_semantics::Tell;
+use oz_sleep::Sleeping;
 use space_core::Levels;
 use stability::{Choice, chosen};
 use std::alloc::{AllocError, Global};

@@ -14,7 +14,7 @@ ghost use Rattle.oz_machine.specs.Courses.{config_of, stepping};
 ghost use Rattle.oz_machine.specs.Quiet.{IsAwakeAlone, IsHead, LetsNoneStep};
 ghost use Rattle.oz_machine.specs.Asleep.{AreLaidBut, IsForetold};
 ghost use Rattle.oz_machine.specs.Waking.{IsLeftTold};
-ghost use Rattle.oz_machine.specs.declared.sleeping.Sleeping.{Sleeping};
+ghost use Rattle.oz_sleep.specs.declared.sleeping.Sleeping.{Sleeping};
 
 use crate::course::Course;
 use crate::following::{follow, leave_alone, leave_told};

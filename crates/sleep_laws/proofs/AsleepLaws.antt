@@ -37,7 +37,7 @@ pub asleep_rests : AsleepRests
 asleep_rests statements layers states space t xs h = rests_ready layers (sight statements layers space) states (stack_answer (sight statements layers space) t.frames) xs h.waits
 
 -- the readiness alone tells for what
-rests_by : (a : Answer) → rests_for a ≡ waits_only (answer_ready a)
+pub rests_by : (a : Answer) → rests_for a ≡ waits_only (answer_ready a)
 rests_by (Acts act) = refl
 rests_by (Edits edit) = refl
 rests_by (RaisesKind kind) = refl

@@ -3,3 +3,4 @@ pub mod LeftLaws
 pub mod WokenLaws
 pub mod WakesLaws
 pub mod TouchingLaws
+pub mod RestLaws

@@ -2,8 +2,9 @@
 use Rattle.std.specs.Prelude.{ℕ, ◌≡◌, ◌⊎◌, true, false, List, [], ◌∷◌, ◌++◌, Contains, Option, Some, None}
 use Rattle.oz_base.specs.declared.names.Ident.{Ident}
 use Rattle.oz_language.specs.declared.kernel.Statement.{Statement}
+use Rattle.oz_semantics.specs.Names.{named}
 use Rattle.oz_semantics.specs.Store.{IsConsistent, is_determined, is_consistent}
-use Rattle.oz_semantics.specs.Configurations.{layer_of, view, in_layer, with_frames, without_terminated}
+use Rattle.oz_semantics.specs.Configurations.{layer_of, stack_of, view, in_layer, with_frames, without_terminated}
 use Rattle.oz_semantics.specs.Sights.{States, Readiness, Steps, Waits, WaitsForState, Offers, can_step}
 use Rattle.oz_semantics.specs.Answers.{Answer, Acts, Edits, RaisesKind, RaisesTerm, Operates, Widens, Rests}
 use Rattle.oz_semantics.specs.Statements.{stack_answer}
@@ -98,3 +99,23 @@ abbrev pub StackLeft : Type 0
 StackLeft =
     (statements : List Statement) (c : Configuration) (id : Ident) (queue : List Ident) (frames : List Frame) → IsKept statements (record c { queue = id ∷ queue })
     → LeavesThreads id [] c.layers (in_layer id.space without_terminated (in_layer id.space (with_frames id.number (λ rest. frames)) (without_top id c.layers)))
+
+-- All threads of a space
+
+-- a thread, by its name
+abbrev pub thread_of : List Layer → Ident → Thread
+thread_of layers id = record { number = id.number; frames = stack_of layers id }
+
+-- each thread of the space is one of these, or sleeps and is found
+abbrev pub AreAtRest : List Statement → List Layer → List ℕ → (ℕ → List Ident → Type 0) → List Ident → Type 0
+AreAtRest statements layers space found ids =
+    (t : Thread) → Contains (layer_of layers space).threads t
+    → Contains ids (named space t.number) ⊎ ((xs : List Ident) × IsAsleep statements space (view layers space) (thread_of layers (named space t.number)) xs × found t.number xs)
+
+-- or has one of the numbers; and where it sleeps, none of what it waits for is touched
+abbrev pub AreForewarned : List Statement → List Layer → List ℕ → (ℕ → List Ident → Type 0) → List Ident → List ℕ → List Ident → Type 0
+AreForewarned statements layers space found touched numbers ids =
+    (t : Thread) → Contains (layer_of layers space).threads t
+    → Contains ids (named space t.number) ⊎ Contains numbers t.number
+    ⊎ ((xs : List Ident) × IsAsleep statements space (view layers space) (thread_of layers (named space t.number)) xs
+    × found t.number xs × ((x : Ident) → Contains xs x → Meets (view layers space) touched x → ⊥))

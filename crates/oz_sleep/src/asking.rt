@@ -3,7 +3,7 @@ ghost use Rattle.std.specs.Prelude.{ℕ, ◌≡◌, ◌∷◌, ◌++◌, [], if�
 ghost use Rattle.oz_base.specs.declared.names.Ident.{Ident};
 ghost use Rattle.oz_semantics.specs.Names.{named};
 ghost use Rattle.sleep_laws.specs.Woken.{top_able, is_asked_still, told_queue};
-ghost use Rattle.oz_machine.specs.Asleep.{Lays};
+ghost use Rattle.oz_sleep.specs.Laid.{Lays};
 
 use crate::sleeping::Sleeping;
 use oz_base::{Copies, Ident, SpaceName, same_space};

@@ -16,9 +16,7 @@ ghost use Rattle.builtins.specs.Answers.{IsReady};
 ghost use Rattle.sleep_laws.specs.Asleep.{waits_only};
 ghost use Rattle.sleep_laws.specs.Woken.{top_able};
 ghost use Rattle.space_core.specs.Levels.{OfLayer};
-ghost use Rattle.oz_machine.specs.Asleep.{Lays, Pends, PutsDown, Sleeps};
-ghost use Rattle.oz_machine.specs.declared.course.Course.{Course};
-ghost use Rattle.oz_machine.specs.declared.course.Due.TheVariants.{Nobody};
+ghost use Rattle.oz_sleep.specs.Laid.{Lays, PutsDown};
 
 use builtins::Readiness;
 use oz_base::{Copies, Ident, Sequence, SpaceName, same_space};
@@ -103,7 +101,7 @@ impl Sleeping {
 
     /// The turn is over. Where it left nothing known that was so before, that is to be found again.
     pub fn end_turn(&mut self)
-        ensures { (statements : List Statement) (c : Course) → Sleeps statements self.old c → Sleeps statements self.new c }
+        ensures { self.new ≡ record self.old { wanted = self.new.wanted } }
     {
         if self.pending && !self.known {
             self.wanted = true;

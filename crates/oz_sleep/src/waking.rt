@@ -8,7 +8,7 @@ ghost use Rattle.oz_semantics.specs.declared.value.Tell.TheVariants.{Equal, Is};
 ghost use Rattle.oz_laws.specs.Touched.{Touches};
 ghost use Rattle.builtins.specs.Answers.{act_of};
 ghost use Rattle.space_core.specs.Levels.{OfLayer};
-ghost use Rattle.oz_machine.specs.Asleep.{Foretells, TouchesBy};
+ghost use Rattle.oz_sleep.specs.Laid.{Foretells, TouchesBy};
 
 use crate::sleeping::Sleeping;
 use builtins::Act;
