@@ -1,6 +1,5 @@
 -- What becomes of keys and their lists.
 use Rattle.std.specs.Prelude.{ℕ, ◌≡◌, ◌⊎◌, Bool, true, not, if◌then◌else◌, List, [], Option, Some, None, Contains}
-use Rattle.std.specs.List.Sorted.{IsStrictlyIncreasing}
 use Rattle.oz_base.specs.Lists.{is_empty}
 use Rattle.oz_base.specs.Names.{ident_eq}
 use Rattle.oz_base.specs.declared.names.Ident.{Ident}
@@ -20,7 +19,7 @@ AreListed sleepers = (k : Ident) → IsKey sleepers k → Contains sleepers.vari
 -- the key that is equal to a variable; none where no key is
 abbrev pub Finds : View → Sleepers → Ident → Option Ident → Type 0
 Finds view sleepers x (Some k) = (is_key sleepers k ≡ true) × Same view x k
-Finds view sleepers x None = (k : Ident) → IsKey sleepers k → Same view x k → ⊥
+Finds view sleepers x None = AreListed sleepers → (k : Ident) → IsKey sleepers k → Same view x k → ⊥
 
 -- the variable has this list, and the others have theirs
 abbrev pub Sets : Sleepers → Sleepers → Ident → List ℕ → Type 0
@@ -31,6 +30,12 @@ pub record Gains (n : ℕ) (old new : List ℕ) : Type 0 where
   pub here : Contains new n
   pub kept : (m : ℕ) → Contains old m → Contains new m
   pub only : (m : ℕ) → Contains new m → Contains old m ⊎ (m ≡ n)
+
+-- the same lists, where the variable stands among those that may be keys
+pub record Admits (k : Ident) (old new : Sleepers) : Type 0 where
+  pub lists : new.lists ≡ old.lists
+  pub here : AreListed old → Contains new.variables k
+  pub kept : (y : Ident) → Contains old.variables y → Contains new.variables y
 
 -- a variable's list has this number too
 pub record Enters (n : ℕ) (k : Ident) (old new : Sleepers) : Type 0 where
@@ -44,10 +49,10 @@ pub record Leaves (k : Ident) (old new : Sleepers) : Type 0 where
   pub lists : Sets old new k []
   pub variables : new.variables ≡ old.variables
 
--- Of these variables, the lists are the same
+-- those of these variables that are keys are keys here too, with the same lists, and no others are
 pub record Gathered (old : Sleepers) (seen : List Ident) (new : Sleepers) : Type 0 where
-  pub same : (k : Ident) → Contains seen k → numbers_at new k ≡ numbers_at old k
-  pub only : (k : Ident) (n : ℕ) → Contains (numbers_at new k) n → Contains (numbers_at old k) n
+  pub same : (k : Ident) → IsKey new k → numbers_at new k ≡ numbers_at old k
+  pub kept : (k : Ident) → Contains seen k → IsKey old k → IsKey new k
   pub listed : AreListed new
 
 -- the same numbers in all lists

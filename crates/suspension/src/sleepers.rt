@@ -2,7 +2,7 @@
 ghost use Rattle.std.specs.Prelude.{◌≡◌, ◌++◌, ◌∷◌, ◌&&◌, [], List, ℕ, IfOk, OnOk, Contains};
 ghost use Rattle.oz_base.specs.declared.names.Ident.{Ident};
 ghost use Rattle.oz_semantics.specs.Store.{View, same};
-ghost use Rattle.suspension.specs.Changes.{is_key, AreListed, Finds, Enters, Leaves, Gathered, Tidies, Waking};
+ghost use Rattle.suspension.specs.Changes.{is_key, AreListed, Finds, Admits, Enters, Leaves, Gathered, Tidies, Waking};
 ghost use Rattle.suspension.specs.Sleeping.{AreKeys, FallsAsleep, Wakes, numbers_at};
 ghost use Rattle.suspension.specs.declared.sleepers.Sleepers.{Sleepers};
 
@@ -21,11 +21,11 @@ use term_store::Store;
 #[derive(Drop)]
 pub struct Sleepers {
     /// All keys. Among them may be variables that are none any more.
-    pub variables: SharedList<Ident>,
+    variables: SharedList<Ident>,
     /// A variable without a list, or with an empty one, is no key.
-    pub lists: IdentMap<SharedList<u64>>,
+    lists: IdentMap<SharedList<u64>>,
     /// How many keys were taken out since the variables were last gathered.
-    pub taken: u64,
+    taken: u64,
 }
 
 impl Sleepers {
@@ -72,7 +72,7 @@ impl Sleepers {
         store: &Store,
         variable: &Ident,
     ) -> Result<Option<Ident>, AllocError>
-        ensures { IfOk result (λ found. AreListed self.now → Finds store.now self.now variable.now found) }
+        ensures { IfOk result (Finds store.now self.now variable.now) }
     {
         'keys: for place in 0..self.variables.len() {
             let Some(key) = self.variables.get(place) else {
@@ -93,7 +93,7 @@ impl Sleepers {
         store: &Store,
         variable: &Ident,
     ) -> Result<Option<Ident>, AllocError>
-        ensures { IfOk result (λ found. AreListed self.now → Finds store.now self.now variable.now found) }
+        ensures { IfOk result (Finds store.now self.now variable.now) }
     {
         let root = store.classes().root(variable);
         if self.is_key(root) {
@@ -105,14 +105,22 @@ impl Sleepers {
         self.look(alloc, store, variable)
     }
 
+    /// Adds a variable to those among which each key is, unless it is a key.
+    fn admit(&mut self, alloc: Global, variable: &Ident) -> Result<(), AllocError>
+        ensures { OnOk result (Admits variable.now self.old self.new) }
+    {
+        if self.is_key(variable) {
+            return Ok(());
+        }
+        self.variables.push(alloc, variable.copied(alloc)?)
+    }
+
     /// Adds a number to the list of a variable, which is a key from now on.
     fn enter(&mut self, alloc: Global, key: &Ident, number: u64) -> Result<(), AllocError>
         ensures { OnOk result (Enters number key.now self.old self.new) }
     {
+        self.admit(alloc, key)?;
         let mut list = self.list_of(alloc, key)?;
-        if list.len() == 0 {
-            self.variables.push(alloc, key.copied(alloc)?)?;
-        }
         add(alloc, &mut list, number)?;
         self.lists.insert(alloc, key, list)
     }
@@ -132,7 +140,7 @@ impl Sleepers {
         }
     }
 
-    /// The thread with this number waits for these variables. An error is for lack of memory; it leaves no more than a thing to be dropped.
+    /// The thread with this number waits for these variables. An error is for lack of memory, and leaves what is only to be dropped.
     pub fn fall_asleep(
         &mut self,
         alloc: Global,
@@ -240,8 +248,8 @@ impl Sleepers {
         Ok(())
     }
 
-    /// Takes out the numbers of the threads that wait for a variable of a class that will be touched. An error is for lack of memory; it
-    /// leaves no more than a thing to be dropped.
+    /// Takes out the numbers of the threads that wait for a variable of a class that will be touched, before the store is told. An error is
+    /// for lack of memory, and leaves what is only to be dropped.
     pub fn wake(
         &mut self,
         alloc: Global,
