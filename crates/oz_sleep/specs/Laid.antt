@@ -1,5 +1,5 @@
 -- Which threads of a space sleep, and who may wake.
-use Rattle.std.specs.Prelude.{ℕ, ◌≡◌, true, false, List, [], ◌∷◌, Contains, Option, Some, None}
+use Rattle.std.specs.Prelude.{ℕ, ◌≡◌, ◌⊎◌, true, false, List, [], ◌∷◌, Contains, Option, Some, None}
 use Rattle.oz_base.specs.Lists.{list_eq}
 use Rattle.oz_base.specs.declared.names.Ident.{Ident}
 use Rattle.oz_language.specs.declared.kernel.Statement.{Statement}
@@ -15,7 +15,8 @@ use Rattle.oz_laws.specs.Touched.{Meets, Touches}
 use Rattle.view_laws.specs.Readies.{SameClasses}
 use Rattle.view_laws.specs.Steps.{IsRising, spawned_from}
 use Rattle.suspension.specs.Sleeping.{AreKeys, IsKey, IsFound, FallsAsleep}
-use Rattle.sleep_laws.specs.Asleep.{waits_only, AreAtRest, AreForewarned}
+use Rattle.sleep_laws.specs.Asleep.{waits_only, IsAsleep, thread_of, AreAtRest, AreForewarned}
+use Rattle.sleep_laws.specs.Woken.{top_able}
 use Rattle.oz_sleep.specs.declared.sleeping.Sleeping.{Sleeping}
 
 -- no two keys are equal, and each thread of the space is one of these, or sleeps and is found by what it waits for
@@ -26,6 +27,26 @@ pub record AreLaid (statements : List Statement) (layers : List Layer) (s : Slee
 -- so it is, where that is known
 abbrev pub Lays : List Statement → List Layer → Sleeping → List Ident → Type 0
 Lays statements layers s ids = s.known ≡ true → AreLaid statements layers s ids
+
+-- a thread of the space sleeps, where that is known, and is found by what it waits for
+abbrev pub RestsIn : List Statement → List Layer → Sleeping → Ident → Type 0
+RestsIn statements layers s id =
+    s.known ≡ true → id.space ≡ s.space
+    → (xs : List Ident) × IsAsleep statements s.space (view layers s.space) (thread_of layers id) xs × IsFound (view layers s.space) s.sleepers id.number xs
+
+-- or it can step
+abbrev pub RestsOr : List Statement → List Layer → Sleeping → Ident → Type 0
+RestsOr statements layers s id = (top_able statements layers id ≡ true) ⊎ RestsIn statements layers s id
+
+-- all that slept sleeps on, where that is known
+pub record LaidMore (layers : List Layer) (old new : Sleeping) : Type 0 where
+  pub known : old.known ≡ true
+  pub space : new.space ≡ old.space
+  pub keys : AreKeys (view layers old.space) old.sleepers → AreKeys (view layers old.space) new.sleepers
+  pub found : (n : ℕ) (xs : List Ident) → IsFound (view layers old.space) old.sleepers n xs → IsFound (view layers old.space) new.sleepers n xs
+
+abbrev pub LaysMore : List Layer → Sleeping → Sleeping → Type 0
+LaysMore layers old new = new.known ≡ true → LaidMore layers old new
 
 -- what can step no more is found by what it waits for, and none of that is determined
 pub record PutsDown (view : View) (number : ℕ) (ready : Readiness) (old new : Sleeping) : Type 0 where

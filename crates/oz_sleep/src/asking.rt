@@ -1,9 +1,9 @@
 //! After a step that told a space something, where it is known who may wake by that.
-ghost use Rattle.std.specs.Prelude.{ℕ, ◌≡◌, ◌∷◌, ◌++◌, [], if◌then◌else◌, List, map, filter, IfOk, OnOk, OnErr};
+ghost use Rattle.std.specs.Prelude.{ℕ, ◌≡◌, ◌⊎◌, ◌∷◌, ◌++◌, [], true, false, Contains, if◌then◌else◌, List, map, filter, IfOk, OnOk, OnErr};
 ghost use Rattle.oz_base.specs.declared.names.Ident.{Ident};
 ghost use Rattle.oz_semantics.specs.Names.{named};
 ghost use Rattle.sleep_laws.specs.Woken.{top_able, is_asked_still, told_queue};
-ghost use Rattle.oz_sleep.specs.Laid.{Lays};
+ghost use Rattle.oz_sleep.specs.Laid.{Lays, LaysMore, RestsIn, RestsOr};
 
 use crate::sleeping::Sleeping;
 use oz_base::{Copies, Ident, SpaceName, same_space};
@@ -22,8 +22,8 @@ fn stays(
     sleeping: &mut Sleeping,
 ) -> Result<bool, AllocError>
     ensures able { IfOk result (λ stays. stays ≡ is_asked_still statements.now levels.now space.now id.now) }
-    ensures laid { IfOk result (λ stays. (ids : List Ident) → Lays statements.now levels.now sleeping.old (id.now ∷ ids) → Lays statements.now levels.now sleeping.new (if stays then id.now ∷ ids else ids)) }
-    ensures err { OnErr result (sleeping.new ≡ sleeping.old) }
+    ensures more { LaysMore levels.now sleeping.old sleeping.new }
+    ensures rests { IfOk result (λ stays. stays ≡ false → RestsIn statements.now levels.now sleeping.new id.now) }
 {
     if !same_space(&id.space, space) {
         return Ok(true);
@@ -41,8 +41,8 @@ fn staying(
     sleeping: &mut Sleeping,
 ) -> Result<Vec<Ident>, AllocError>
     ensures able { IfOk result (λ able. able.items ≡ filter (is_asked_still statements.now levels.now space.now) queue.now) }
-    ensures laid { IfOk result (λ able. (ids : List Ident) → Lays statements.now levels.now sleeping.old (queue.now ++ ids) → Lays statements.now levels.now sleeping.new (able.items ++ ids)) }
-    ensures err { OnErr result ((ids : List Ident) → Lays statements.now levels.now sleeping.old (queue.now ++ ids) → Lays statements.now levels.now sleeping.new (queue.now ++ ids)) }
+    ensures more { LaysMore levels.now sleeping.old sleeping.new }
+    ensures rests { IfOk result (λ able. (id : Ident) → Contains queue.now id → (is_asked_still statements.now levels.now space.now id ≡ true) ⊎ RestsIn statements.now levels.now sleeping.new id) }
 {
     let mut rest = queue.copied(alloc)?;
     let mut able = Vec::new(alloc);
@@ -64,8 +64,8 @@ fn add_able(
     able: &mut Vec<Ident>,
 ) -> Result<(), AllocError>
     ensures able { OnOk result (able.new.items ≡ able.old.items ++ (if top_able statements.now levels.now id then id ∷ [] else [])) }
-    ensures laid { (ids : List Ident) → Lays statements.now levels.now sleeping.old (able.old.items ++ id ∷ ids) → OnOk result (Lays statements.now levels.now sleeping.new (able.new.items ++ ids)) }
-    ensures err { (ids : List Ident) → Lays statements.now levels.now sleeping.old (id ∷ ids) → OnErr result (Lays statements.now levels.now sleeping.new (id ∷ ids)) }
+    ensures more { LaysMore levels.now sleeping.old sleeping.new }
+    ensures rests { OnOk result (RestsOr statements.now levels.now sleeping.new id) }
 {
     if sleeping.asks(alloc, statements, levels, &id)? {
         able.push(id)?;
@@ -84,8 +84,8 @@ fn add_woken(
     able: &mut Vec<Ident>,
 ) -> Result<(), AllocError>
     ensures able { OnOk result (able.new.items ≡ able.old.items ++ filter (top_able statements.now levels.now) (map (named space.now) woken.now)) }
-    ensures laid { Lays statements.now levels.now sleeping.old (able.old.items ++ map (named space.now) woken.now) → OnOk result (Lays statements.now levels.now sleeping.new able.new.items) }
-    ensures err { (ids : List Ident) → Lays statements.now levels.now sleeping.old (ids ++ map (named space.now) woken.now) → OnErr result (Lays statements.now levels.now sleeping.new (ids ++ map (named space.now) woken.now)) }
+    ensures more { LaysMore levels.now sleeping.old sleeping.new }
+    ensures rests { OnOk result ((n : ℕ) → Contains woken.now n → RestsOr statements.now levels.now sleeping.new (named space.now n)) }
 {
     for number in woken {
         let id = Ident {

@@ -16,7 +16,7 @@ ghost use Rattle.builtins.specs.Answers.{IsReady};
 ghost use Rattle.sleep_laws.specs.Asleep.{waits_only};
 ghost use Rattle.sleep_laws.specs.Woken.{top_able};
 ghost use Rattle.space_core.specs.Levels.{OfLayer};
-ghost use Rattle.oz_sleep.specs.Laid.{Lays, PutsDown};
+ghost use Rattle.oz_sleep.specs.Laid.{Lays, LaysMore, PutsDown, RestsIn, RestsOr};
 
 use builtins::Readiness;
 use oz_base::{Copies, Ident, Sequence, SpaceName, same_space};
@@ -186,8 +186,8 @@ impl Sleeping {
         id: &Ident,
     ) -> Result<bool, AllocError>
         ensures able { IfOk result (λ able. able ≡ top_able statements.now levels.now id.now) }
-        ensures laid { IfOk result (λ able. (ids : List Ident) → Lays statements.now levels.now self.old (id.now ∷ ids) → Lays statements.now levels.now self.new (if able then id.now ∷ ids else ids)) }
-        ensures err { OnErr result (self.new ≡ self.old) }
+        ensures more { LaysMore levels.now self.old self.new }
+        ensures rests { IfOk result (λ able. able ≡ false → RestsIn statements.now levels.now self.new id.now) }
     {
         let Some(place) = levels.place(&id.space) else {
             return Ok(false);
@@ -208,7 +208,8 @@ impl Sleeping {
 
     /// A thread falls asleep, if it is one of those that are known, and can't step.
     pub fn lay_down(&mut self, alloc: Global, statements: &[Statement], levels: &Levels, id: &Ident)
-        ensures { (ids : List Ident) → Lays statements.now levels.now self.old (id.now ∷ ids) → Lays statements.now levels.now self.new (if top_able statements.now levels.now id.now then id.now ∷ ids else ids) }
+        ensures more { LaysMore levels.now self.old self.new }
+        ensures rests { top_able statements.now levels.now id.now ≡ false → RestsIn statements.now levels.now self.new id.now }
     {
         match self.asks(alloc, statements, levels, id) {
             Ok(_) => {}
@@ -224,8 +225,9 @@ impl Sleeping {
         place: usize,
     ) -> Result<(), AllocError>
         requires { place < length levels.now }
-        ensures { OnOk result (OfLayer levels.now place (λ l. (ids : List Ident) → ((id : Ident) → id.space ≡ self.old.space → top_able statements.now levels.now id ≡ true → Contains ids id)
-            → Lays statements.now levels.now self.old (ids ++ map (λ (t : running.Thread). named self.old.space t.number) l.threads) → Lays statements.now levels.now self.new ids)) }
+        ensures more { LaysMore levels.now self.old self.new }
+        ensures rests { OnOk result (OfLayer levels.now place (λ l. (t : running.Thread) → Contains l.threads t
+            → RestsOr statements.now levels.now self.new (named self.old.space t.number))) }
     {
         for thread in levels.threads_at(place) {
             let id = Ident {

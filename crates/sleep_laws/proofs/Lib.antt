@@ -4,3 +4,4 @@ pub mod WokenLaws
 pub mod WakesLaws
 pub mod TouchingLaws
 pub mod RestLaws
+pub mod RequeueLaws

@@ -43,13 +43,13 @@ use Rattle.sleep_laws.specs.Woken.{woken_among, WakesWithin, top_able, is_asked_
 use Rattle.sleep_laws.proofs.LeftLaws.{own_name}
 use Rattle.sleep_laws.proofs.WokenLaws.{woken_others}
 
-filter_same : (p q : Ident → Bool) (os : List Ident) → ((o : Ident) → In o os → p o ≡ q o) → filter p os ≡ filter q os
+pub filter_same : (p q : Ident → Bool) (os : List Ident) → ((o : Ident) → In o os → p o ≡ q o) → filter p os ≡ filter q os
 filter_same p q [] h = refl
 filter_same p q (o ∷ os) h =
     ap (λ (b : Bool). cond b (o ∷ filter p os) (filter p os)) (h o (inl refl))
     ∙ ap (λ (rest : List Ident). cond (q o) (o ∷ rest) rest) (filter_same p q os (λ x i. h x (inr i)))
 
-named_in : (space : List ℕ) (numbers : List ℕ) (o : Ident) → In o (map (named space) numbers) → o.space ≡ space
+pub named_in : (space : List ℕ) (numbers : List ℕ) (o : Ident) → In o (map (named space) numbers) → o.space ≡ space
 named_in space [] o i = elim i [ ]
 named_in space (n ∷ ns) o (inl e) = sym (ap (λ (i : Ident). i.space) e)
 named_in space (n ∷ ns) o (inr i) = named_in space ns o i

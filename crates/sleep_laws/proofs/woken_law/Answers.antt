@@ -1,3 +1,4 @@
+use Rattle.sleep_laws.proofs.RequeueLaws.{requeued_told}
 use Rattle.sleep_laws.proofs.WokenLaws.{woken_others}
 use Rattle.sleep_laws.proofs.WakesLaws.{tell_wakes, tell_wakes_awake}
 use Rattle.sleep_laws.proofs.woken_law.Goals as goal

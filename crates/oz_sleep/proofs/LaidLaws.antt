@@ -1,0 +1,177 @@
+-- Who sleeps, and is found.
+use Rattle.std.proofs.Common.{◌≡◌, ◌⊎◌, inl, inr, ℕ, Bool, true, false, not, ◌&&◌, if◌then◌else◌, List, [], ◌∷◌, ◌++◌, map, filter, refl, sym, ap, ap₂, subst, ◌∙◌, Contains, Option, Some, None, unwrap_or}
+use Rattle.std.specs.List.{list_any, list_all}
+use Rattle.std.proofs.lemmas.Bool.{false≢true}
+use Rattle.oz_base.specs.Lists.{first, list_eq}
+use Rattle.oz_base.specs.declared.names.Ident.{Ident}
+use Rattle.oz_language.specs.declared.kernel.Statement.{Statement}
+use Rattle.oz_semantics.specs.Names.{named}
+use Rattle.oz_semantics.specs.Store.{View, Same, itself, reversed, joined, same, is_determined}
+use Rattle.oz_semantics.specs.Configurations.{layer_at, layer_of, thread_at, frames_in, new_layer, stack_of, view}
+use Rattle.oz_semantics.specs.Sights.{Sight, Readiness, can_step}
+use Rattle.oz_semantics.specs.Answers.{Answer}
+use Rattle.oz_semantics.specs.Statements.{stack_answer, code_answer}
+use Rattle.oz_semantics.specs.Readiness.{answer_ready}
+use Rattle.oz_semantics.specs.Spaces.{sight}
+use Rattle.oz_semantics.specs.Settling.{is_among, mover_in, queue_after}
+use Rattle.oz_semantics.specs.declared.value.Tell.{Tell}
+use Rattle.oz_semantics.specs.declared.configuration.Frame.{Frame}
+use Rattle.oz_semantics.specs.declared.configuration.Thread.{Thread}
+use Rattle.oz_semantics.specs.declared.configuration.Layer.{Layer}
+use Rattle.oz_laws.proofs.SameLaws.{In, In-from_contains, contains-from_In, and-left, and-right, tests_same}
+use Rattle.view_laws.specs.Readies.{SameClasses}
+use Rattle.view_laws.proofs.Members.{decide, not_both, some_of, by_some, In-left, In-right, In-cases}
+use Rattle.view_laws.proofs.ListLaws.{among_in, in_among, filter_in, in_filter, in_map, map_in}
+use Rattle.view_laws.proofs.NameLaws.{names_equal, equal_names}
+use Rattle.view_laws.proofs.ViewLaws.{determined_same}
+use Rattle.view_laws.proofs.QueueLaws.{queue_exact}
+use Rattle.suspension.specs.Sleeping.{AreKeys, IsFoundBy, IsFound, FallsAsleep}
+use Rattle.suspension.specs.declared.sleepers.Sleepers.{Sleepers}
+use Rattle.sleep_laws.specs.Asleep.{waits_only, rests_for, IsAsleep, thread_of, AreAtRest}
+use Rattle.sleep_laws.specs.Woken.{top_able, is_asked_still, rest_asked, told_queue}
+use Rattle.turn_laws.specs.Telling.{others_of}
+use Rattle.sleep_laws.proofs.AsleepLaws.{rests_by}
+use Rattle.oz_sleep.specs.Laid.{AreLaid, Lays, RestsIn, RestsOr, LaidMore, LaysMore, PutsDown}
+use Rattle.oz_sleep.specs.declared.sleeping.Sleeping.{Sleeping}
+
+-- Classes
+
+pub class_of : (view : View) (xs ys : List Ident) → SameClasses view xs ys → (y : Ident) → Contains ys y → (x : Ident) × Contains xs x × Same view y x
+class_of view xs ys alike y c =
+    let here : list_any (same view y) ys ≡ true = by_some (same view y) ys y c ((tests_same view y y).1 itself) in
+    let there = some_of (same view y) xs (alike y ∙ here) in
+    (there.0, there.1, (tests_same view y there.0).0 there.2)
+
+pub found_class : (view : View) (sleepers : Sleepers) (n : ℕ) (xs ys : List Ident) → SameClasses view xs ys → IsFound view sleepers n xs → IsFound view sleepers n ys
+found_class view sleepers n xs ys alike found y c =
+    let x = class_of view xs ys alike y c in
+    let k = found x.0 x.1 in
+    (k.0, joined x.2 k.1, k.2)
+
+pub free_class : (view : View) (xs ys : List Ident) → SameClasses view xs ys → ((x : Ident) → Contains xs x → is_determined view x ≡ false) → (y : Ident) → Contains ys y → is_determined view y ≡ false
+free_class view xs ys alike free y c = let x = class_of view xs ys alike y c in determined_same view y x.0 x.2 ∙ free x.0 x.1
+
+-- More sleeps
+
+pub more_itself : (layers : List Layer) (s : Sleeping) → LaysMore layers s s
+more_itself layers s known = record { known = known; space = refl; keys = λ k. k; found = λ n xs k. k }
+
+pub more_same : (layers : List Layer) (s t : Sleeping) → t ≡ s → LaysMore layers s t
+more_same layers s t e = subst (LaysMore layers s) (sym e) (more_itself layers s)
+
+pub more_none : (layers : List Layer) (s t : Sleeping) → t.known ≡ false → LaysMore layers s t
+more_none layers s t e known = absurd (not_both t.known known e)
+
+pub rests_none : (statements : List Statement) (layers : List Layer) (s : Sleeping) (id : Ident) → s.known ≡ false → RestsIn statements layers s id
+rests_none statements layers s id e known own = absurd (not_both s.known known e)
+
+pub more_then : (layers : List Layer) (s t u : Sleeping) → LaysMore layers s t → LaysMore layers t u → LaysMore layers s u
+more_then layers s t u one other known =
+    let b = other known in
+    let a = one b.known in
+    record {
+      known = a.known;
+      space = b.space ∙ a.space;
+      keys = λ k. subst (λ v. AreKeys v u.sleepers) (ap (view layers) a.space) (b.keys (subst (λ v. AreKeys v t.sleepers) (sym (ap (view layers) a.space)) (a.keys k)));
+      found = λ n xs k. subst (λ v. IsFound v u.sleepers n xs) (ap (view layers) a.space) (b.found n xs (subst (λ v. IsFound v t.sleepers n xs) (sym (ap (view layers) a.space)) (a.found n xs k)));
+    }
+
+pub rests_then : (statements : List Statement) (layers : List Layer) (s t : Sleeping) (id : Ident) → LaysMore layers s t → RestsIn statements layers s id → RestsIn statements layers t id
+rests_then statements layers s t id more rests known own =
+    let m = more known in
+    let r = rests m.known (own ∙ m.space) in
+    (
+      r.0,
+      subst (λ (sp : List ℕ). IsAsleep statements sp (view layers sp) (thread_of layers id) r.0) (sym m.space) r.1,
+      subst (λ (sp : List ℕ). IsFound (view layers sp) t.sleepers id.number r.0) (sym m.space) (m.found id.number r.0 r.2),
+    )
+
+pub or_then : (statements : List Statement) (layers : List Layer) (s t : Sleeping) (id : Ident) → LaysMore layers s t → RestsOr statements layers s id → RestsOr statements layers t id
+or_then statements layers s t id more (inl e) = inl e
+or_then statements layers s t id more (inr r) = inr (rests_then statements layers s t id more r)
+
+pub or_from : (statements : List Statement) (layers : List Layer) (s : Sleeping) (id : Ident) → (top_able statements layers id ≡ false → RestsIn statements layers s id) → RestsOr statements layers s id
+or_from statements layers s id h = elim (decide (top_able statements layers id)) [ inl e ↦ inl e | inr e ↦ inr (h e) ]
+
+-- what sleeps after is all but these, where each of those before is one of these or sleeps
+pub lays_then : (statements : List Statement) (layers : List Layer) (s t : Sleeping) (ids others : List Ident) → LaysMore layers s t
+    → ((id : Ident) → Contains ids id → Contains others id ⊎ RestsIn statements layers t id) → Lays statements layers s ids → Lays statements layers t others
+lays_then statements layers s t ids others more each lays known =
+    let m = more known in
+    let l = lays m.known in
+    record {
+      keys = subst (λ (sp : List ℕ). AreKeys (view layers sp) t.sleepers) (sym m.space) (m.keys l.keys);
+      rest = subst (λ (sp : List ℕ). AreAtRest statements layers sp (IsFound (view layers sp) t.sleepers) others) (sym m.space)
+      (λ u c. elim (l.rest u c) [
+        | inl k ↦ elim (each (named s.space u.number) k) [
+          | inl h ↦ inl h
+          | inr h ↦ (let r = h known (sym m.space) in inr (
+              r.0,
+              subst (λ (sp : List ℕ). IsAsleep statements sp (view layers sp) (thread_of layers (named s.space u.number)) r.0) m.space r.1,
+              subst (λ (sp : List ℕ). IsFound (view layers sp) t.sleepers u.number r.0) m.space r.2,
+            ))
+        ]
+        | inr k ↦ inr (k.0, k.1, m.found u.number k.0 k.2)
+      ]);
+    }
+
+-- One that is put down
+
+module _ (layers : List Layer) (statements : List Statement) (id : Ident) (old new : Sleeping) (own : old.space ≡ id.space) (was : old.known ≡ true) (ready : Readiness)
+    (puts : PutsDown (view layers id.space) id.number ready old new) where
+  same_view : view layers old.space ≡ view layers id.space
+  same_view = ap (view layers) own
+
+  pub put_more : LaysMore layers old new
+  put_more known = record {
+    known = was;
+    space = puts.space;
+    keys = λ k. subst (λ v. AreKeys v new.sleepers) (sym same_view) (puts.falls.keys (subst (λ v. AreKeys v old.sleepers) same_view k));
+    found = λ n xs k. subst (λ v. IsFound v new.sleepers n xs) (sym same_view) (puts.falls.kept n xs (subst (λ v. IsFound v old.sleepers n xs) same_view k));
+  }
+
+  pub put_rests : ready ≡ answer_ready (stack_answer (sight statements layers id.space) (stack_of layers id)) → RestsIn statements layers new id
+  put_rests e known place =
+      let seen : view layers id.space ≡ view layers new.space = ap (view layers) place in
+      (
+        puts.variables,
+        subst (λ (sp : List ℕ). IsAsleep statements sp (view layers sp) (thread_of layers id) puts.variables) place (record {
+          waits = rests_by (stack_answer (sight statements layers id.space) (stack_of layers id)) ∙ ap waits_only (sym e) ∙ puts.waits;
+          free = free_class (view layers id.space) puts.names puts.variables puts.same puts.free;
+        }),
+        subst (λ v. IsFound v new.sleepers id.number puts.variables) seen (found_class (view layers id.space) new.sleepers id.number puts.names puts.variables puts.same puts.falls.found),
+      )
+
+-- one without statements waits for nothing
+pub empty_rests : (statements : List Statement) (layers : List Layer) (s : Sleeping) (id : Ident) → stack_of layers id ≡ [] → RestsIn statements layers s id
+empty_rests statements layers s id e known place = (
+  [],
+  record {
+    waits = ap (λ (fs : List Frame). rests_for (stack_answer (sight statements layers s.space) fs)) e;
+    free = λ x c. elim (In-from_contains [] x c) [ ];
+  },
+  λ x c. elim (In-from_contains [] x c) [ ],
+)
+
+pub empty_stack : (frames : List Frame) → None ≡ first frames → frames ≡ []
+empty_stack [] e = refl
+empty_stack (frame ∷ frames) e = absurd (cc)
+
+pub nowhere_stack : (layers : List Layer) (id : Ident) → layer_at layers id.space ≡ None → stack_of layers id ≡ []
+nowhere_stack layers id e = ap (λ (o : Option Layer). frames_in (thread_at (unwrap_or o (new_layer id.space)).threads id.number)) e
+
+pub empty_able : (statements : List Statement) (layers : List Layer) (id : Ident) → stack_of layers id ≡ [] → false ≡ top_able statements layers id
+empty_able statements layers id e = sym (ap (λ (fs : List Frame). can_step (answer_ready (stack_answer (sight statements layers id.space) fs))) e)
+
+pub top_answers : (s : Sight) (frames : List Frame) (frame : Frame) → Some frame ≡ first frames → stack_answer s frames ≡ code_answer s frame.environment frame.code
+top_answers s [] frame e = absurd (cc)
+top_answers s (other ∷ frames) frame e = let same : other ≡ frame = cc in subst (λ (f : Frame). code_answer s other.environment other.code ≡ code_answer s f.environment f.code) same refl
+
+-- one of another space need not sleep
+pub other_rests : (statements : List Statement) (layers : List Layer) (s : Sleeping) (id : Ident) → (s.known && list_eq s.space id.space) ≡ false → RestsIn statements layers s id
+other_rests statements layers s id e known own =
+    absurd (not_both (s.known && list_eq s.space id.space) (ap₂ (λ (a b : Bool). a && b) known (subst (λ (sp : List ℕ). list_eq sp id.space ≡ true) own (names_equal id.space))) e)
+
+pub attends_own : (s : Sleeping) (id : Ident) → (s.known && list_eq s.space id.space) ≡ true → (s.known ≡ true) × (s.space ≡ id.space)
+attends_own s id e = (and-left s.known (list_eq s.space id.space) e, equal_names s.space id.space (and-right s.known (list_eq s.space id.space) e))
+
