@@ -25,4 +25,5 @@ pub use calls::{answer_call, answer_given, arguments_of};
 pub use choices::choice_of;
 pub use domains::{part_of, posts};
 pub use readiness::{ready_by, ready_call, ready_given, ready_one};
+pub use records::field_of;
 pub use table::{Row, lookup, rows};

@@ -3,6 +3,7 @@ ghost use Rattle.std.specs.Prelude.{◌≡◌, pos, position, length, IfOk, opti
 ghost use Rattle.oz_language.specs.Constants.{constant_eq};
 ghost use Rattle.oz_semantics.specs.Answers.{gives_constant, of_kind};
 ghost use Rattle.oz_semantics.specs.Builtins.{gives_field, field_at, selects, label_in, arity_in};
+ghost use Rattle.oz_semantics.specs.BestSearch.{field_of};
 ghost use Rattle.builtins.specs.Exact.{answer_of, erased, selects_in, gives_label, gives_width, gives_arity};
 
 use crate::answer::{Act, Answer};
@@ -27,6 +28,20 @@ fn field_at<'a>(features: &[Constant], fields: &'a [Ident], feature: Constant) -
 {
     let place = place_of(features, feature)?;
     fields.get(place)
+}
+
+/// The field of a value at a feature, if it has one.
+pub fn field_of(value: &Value, feature: Constant) -> Option<&Ident>
+    ensures { option_copied result ≡ field_of feature value.now }
+{
+    match value {
+        Value::Record(whole) => field_at(
+            whole.get().features.as_slice(),
+            whole.get().fields.as_slice(),
+            feature,
+        ),
+        _ => None,
+    }
 }
 
 /// The output is what a field is, where there is one.

@@ -5,3 +5,5 @@ pub mod PostLaws
 pub mod NumberLaws
 pub mod VariableLaws
 pub mod ShapeLaws
+pub mod CostLaws
+pub mod BestTieLaws

@@ -15,4 +15,5 @@ pub use descriptions::{Range, WHOLE, bounds, interval_of, refusal_of};
 pub use distribution::{Distribution, distribute};
 pub use input::{Input, both};
 pub use news::interval_news;
+pub use values::integer_in;
 pub use vectors::vector;

@@ -1,5 +1,5 @@
 -- The top at which a program with a script comes to rest, and the root of its search.
-use Rattle.std.proofs.Common.{◌≡◌, ℕ, ◌+◌, List, [], ◌∷◌, ◌++◌, Contains, None, Some, slice_get, refl, sym, ◌∙◌, ap, subst}
+use Rattle.std.proofs.Common.{◌≡◌, ℕ, suc, ◌+◌, ◌-◌, List, [], ◌∷◌, ◌++◌, Contains, None, Some, slice_get, refl, sym, ◌∙◌, ap, subst}
 use Rattle.std.proofs.lemmas.List.{append-nil}
 use Rattle.std.proofs.lemmas.List.Elements.{Contains-append_right}
 use Rattle.environments.specs.Environments.{Environment, bound, binding_all}
@@ -36,7 +36,7 @@ use Rattle.fd_turns.proofs.SettleLaws.{IsPlainAnswer}
 use Rattle.fd_turns.proofs.ChoiceLaws.{first_node, top_alone, root_is}
 use Rattle.fd_opening.specs.Opened.{IsTop, Begins}
 use Rattle.fd_opening.proofs.ValueTells.{FieldsTop}
-use Rattle.fd_opening.proofs.TopLaws.{alone, top_thread, settled_alone, can_run, runs_on, turn_is, rests_alone, one_turn}
+use Rattle.fd_opening.proofs.TopLaws.{alone, top_thread, settled_alone, can_run, runs_on, turn_is, rests_alone, turn_ends, one_turn}
 use Rattle.fd_opening.proofs.OpeningLaws.{opening_tells, opening_scope, opening_fits, opening_is, script_is, fd_is, with_script, script_fits, script_plain, script_known, script_named, fd_told, row_told, distinct_told, distribute_told, distinct_found, distribute_found}
 
 -- ---- the call of the script
@@ -100,6 +100,13 @@ module _ (k : Kernel) (root : ℕ) (body : List ℕ) (number : ℕ) (starts : k.
       one_turn k (alone opening_tells open_threads open_next (top_thread ∷ [])) (top_alone (script_top 1)) budget left top
       (runs_on k opening_tells opening_scope number (Word script_word) (Word root ∷ []) body here (1 + fd_number) 2 1 1 1) turned (rests_alone k.statements told (script_next 1))
       (ap (λ c. run k [] c budget) (sym opened) ∙ ran)
+
+  -- it comes to rest there in one step
+  pub rests : (b : ℕ) → run k [] (opening k) (suc b) ≡ Ended (top_alone (script_top 1)) (suc b - 1)
+  rests b =
+      ap (λ c. run k [] c (suc b)) opened
+      ∙ turn_ends k (alone opening_tells open_threads open_next (top_thread ∷ [])) (top_alone (script_top 1)) b
+      (runs_on k opening_tells opening_scope number (Word script_word) (Word root ∷ []) body here (1 + fd_number) 2 1 1 1) turned (rests_alone k.statements told (script_next 1))
 
   is_top : IsTop (script_top 2) root body opening_scope
   is_top = record {

@@ -145,7 +145,16 @@ rests_alone statements ts n = refl
 pays_one : (b : ℕ) → nat_le 1 (suc b) ≡ true
 pays_one b = grind (arith, nat_tests)
 
--- a run of one turn
+-- a run of one turn ends with one step less
+pub turn_ends : (k : Kernel) (c d : Configuration) (b : ℕ) → goes_on k.statements c.layers [] ≡ true → ◌≡◌ {A = Turned} (turn k c) (Moved 1, d) → goes_on k.statements d.layers [] ≡ false → run k [] c (suc b) ≡ Ended d (suc b - 1)
+unfolding run_for
+turn_ends k c d b g t r =
+    ap (λ a. if a then after_turn (run_for k [] (suc b)) (suc b) c (turn k c) else Ended c (suc b)) g
+    ∙ ap (after_turn (run_for k [] (suc b)) (suc b) c) t
+    ∙ ap (λ a. if a then run_for k [] (suc b) d (suc b - 1) else Over c) (pays_one b)
+    ∙ ap (λ a. if a then after_turn (run_for k [] b) (suc b - 1) d (turn k d) else Ended d (suc b - 1)) r
+
+-- so a run that ended has ended there
 pub one_turn : (k : Kernel) (c d : Configuration) (budget left : ℕ) (end : Configuration) → goes_on k.statements c.layers [] ≡ true → ◌≡◌ {A = Turned} (turn k c) (Moved 1, d) → goes_on k.statements d.layers [] ≡ false
     → run k [] c budget ≡ Ended end left → d ≡ end
 unfolding run_for
@@ -155,11 +164,6 @@ one_turn k c d zero left end g t r e =
       never : (c end : Configuration) (left : ℕ) → Over c ≡ Ended end left → ⊥
       never c end left f = cc
 one_turn k c d (suc b) left end g t r e =
-    let ended : run k [] c (suc b) ≡ Ended d (suc b - 1) =
-    ap (λ a. if a then after_turn (run_for k [] (suc b)) (suc b) c (turn k c) else Ended c (suc b)) g
-    ∙ ap (after_turn (run_for k [] (suc b)) (suc b) c) t
-    ∙ ap (λ a. if a then run_for k [] (suc b) d (suc b - 1) else Over c) (pays_one b)
-    ∙ ap (λ a. if a then after_turn (run_for k [] b) (suc b - 1) d (turn k d) else Ended d (suc b - 1)) r in
-    same_end d end (suc b - 1) left (sym ended ∙ e) where
+    same_end d end (suc b - 1) left (sym (turn_ends k c d b g t r) ∙ e) where
       same_end : (d end : Configuration) (i j : ℕ) → Ended d i ≡ Ended end j → d ≡ end
       same_end d end i j f = cc

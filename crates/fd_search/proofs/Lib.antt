@@ -3,7 +3,14 @@ pub mod RestLaws
 pub mod BackLaws
 pub mod StateLaws
 pub mod OfferLaws
+pub mod NextLaws
+pub mod BoundLaws
+pub mod BelowLaws
 pub mod EndLaws
 pub mod RunLaws
 pub mod TreeLaws
 pub mod TextLaws
+pub mod BestBackLaws
+pub mod BestEndLaws
+pub mod BestRunLaws
+pub mod BestTreeLaws

@@ -1,2 +1,4 @@
 pub mod ReadLaws
 pub mod TieLaws
+pub mod FeatureLaws
+pub mod BestTieLaws

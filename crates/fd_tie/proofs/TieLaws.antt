@@ -59,7 +59,7 @@ use Rattle.fd_execution.proofs.ItemLaws.{all_in_front, range_below, base_is}
 use Rattle.fd_execution.proofs.StatementLaws.{Ready}
 use Rattle.fd_execution.proofs.ScopeLaws.{AreAt}
 use Rattle.fd_execution.proofs.ScriptLaws.{start_state, IsStart, IsScript, script_ready}
-use Rattle.fd_search.specs.Laws.{Setting, IsSearched, Stands, Arrives, ShowsSearch}
+use Rattle.fd_search.specs.Laws.{Setting, IsSearched, Stands, Arrives, StepsTo, ShowsSearch}
 use Rattle.fd_search.proofs.TextLaws.{texts_law}
 use Rattle.fd_search.proofs.BackLaws as back_laws
 use Rattle.fd_search.proofs.OfferLaws.{plain_here}
@@ -70,13 +70,13 @@ use Rattle.fd_tie.proofs.ReadLaws.{root_reads, root_text}
 -- ---- a script, its kernel and its top
 
 module _ (p : Program) (s : FdScript) (h : IsShaped p s) (problem : IsProblem s.problem) (bar : word_text p.words bar_word ≡ codes "|") where
-  abbrev fields : List (Constant × ℕ)
+  abbrev pub fields : List (Constant × ℕ)
   fields = (h.recorded).fields
 
   abbrev vs : List ℕ
   vs = s.variables
 
-  abbrev count : ℕ
+  abbrev pub count : ℕ
   count = s.problem.count
 
   abbrev cs : List Constraint
@@ -85,23 +85,23 @@ module _ (p : Program) (s : FdScript) (h : IsShaped p s) (problem : IsProblem s.
   abbrev items : List Item
   items = s.problem.items
 
-  abbrev first : Store
+  abbrev pub first : Store
   first = start s.problem
 
-  abbrev k : Kernel
+  abbrev pub k : Kernel
   k = kernel_of p
 
   abbrev statements : Stmts
   statements = (translated_each p.words 1 h.statements).code
 
-  abbrev body : Stmts
+  abbrev pub body : Stmts
   body = scoped (map Word h.names) (followed (record_or_label (Word h.root) s.label (map named_field fields)) statements)
 
-  fields_long : length fields ≡ count
+  pub fields_long : length fields ≡ count
   fields_long = (let r = h.recorded in sym (length-map fields (λ (f : Constant × ℕ). f.1)) ∙ ap length r.variables ∙ sym h.count)
 
   -- its code
-  code_is : statements_of p ≡ just (kernel.bind_procedure (Word script_word) (Word h.root ∷ []) body)
+  pub code_is : statements_of p ≡ just (kernel.bind_procedure (Word script_word) (Word h.root ∷ []) body)
   code_is =
       let r = h.recorded in
       h.code ∙ ap (λ (m : Made). just (kernel.bind_procedure (Word script_word) (Word h.root ∷ []) (scoped (map Word h.names) (m.code ⨾ (translated_each p.words m.next h.statements).code))))
@@ -144,7 +144,7 @@ module _ (p : Program) (s : FdScript) (h : IsShaped p s) (problem : IsProblem s.
   module _ (t : Top) (e0 : Environment) (top : IsTop t h.root (numbers 0 body) e0) where
     -- ---- the search, over these variables, of which the first are those of the problem
 
-    abbrev its : List Ident → List Ident → Setting
+    abbrev pub its : List Ident → List Ident → Setting
     its base more = record {
       kernel = k;
       top = t;
@@ -177,7 +177,7 @@ module _ (p : Program) (s : FdScript) (h : IsShaped p s) (problem : IsProblem s.
           ∙ root_text p.words s (view_of t st) st.variables st.store (own 0) (texts_law p.words (view_of t st) st.variables st.store (own 0) stands) count single stored inside fields fields_long r.features
           (subst (λ xs. HasValue (view_of t st) (own 0) (root_value s.label fields xs)) here has)
 
-      searched : IsSearched (its base more)
+      pub searched : IsSearched (its base more)
       searched = record {
         known = top.known;
         search = scripts.search s.problem problem;
@@ -185,19 +185,6 @@ module _ (p : Program) (s : FdScript) (h : IsShaped p s) (problem : IsProblem s.
         follows = scripts.follows s.problem problem;
         text = text;
       }
-
-    -- ---- the run of the space ends, over some such variables
-
-    abbrev R : Configuration → Store → Type 0
-    R c m = (base : List Ident) × (more : List Ident) × (length base ≡ count) × Arrives (its base more) c m
-
-    back : (c d : Configuration) (a m : Store) → goes_on k.statements c.layers node_space ≡ true → MovesTo k c d → Runs cs a m → R d m → R c a
-    back c d a m g moves r q = (q.0, q.1, q.2, back_laws.back (its q.0 q.1) c d a m (g, moves) r q.3)
-
-    failing : (c : Configuration) (n : ℕ) (a : Store) → goes_on k.statements c.layers node_space ≡ true → MovesTo k c (failed_config t n) → Fails cs a → R c a
-    failing c n a g moves f = (replicate count nowhere, [], length-replicate count nowhere, back_laws.failing (its (replicate count nowhere) []) c n a (g, moves) f)
-
-    -- ---- from where the script distributes
 
     last_stands : (last : State) (f : Frame) (w : IsLast k.statements t cs (constraints_from (length vs) items) s.problem.distribution s.label fields (length vs) first last f)
         → Stands (its w.base w.more) (config k.statements t (node_of last (f ∷ []))) last.store
@@ -214,7 +201,31 @@ module _ (p : Program) (s : FdScript) (h : IsShaped p s) (problem : IsProblem s.
       store = refl;
     }
 
-    module _ (stand : AreAt k.statements 0 body) where
+    -- the space calls the script
+    abbrev root_frames : List Frame
+    root_frames = applying script_variable (own 0) ∷ []
+
+    abbrev pub begins : Configuration
+    begins = config k.statements t (node_of (start_state first) root_frames)
+
+    -- ---- what is shown of the run of the space, over some such variables
+
+    module _ (A : List Ident → List Ident → Configuration → Store → Type 0)
+        (before : (base more : List Ident) (c d : Configuration) (a m : Store) → StepsTo k c d → Runs cs a m → A base more d m → A base more c a)
+        (fails : (base more : List Ident) (c : Configuration) (n : ℕ) (a : Store) → StepsTo k c (failed_config t n) → Fails cs a → A base more c a)
+        (runs : (base more : List Ident) (c : Configuration) (a : Store) → length base ≡ count → IsSearched (its base more) → Stands (its base more) c a → A base more c a)
+        (stand : AreAt k.statements 0 body) where
+      abbrev R : Configuration → Store → Type 0
+      R c m = (base : List Ident) × (more : List Ident) × (length base ≡ count) × A base more c m
+
+      back : (c d : Configuration) (a m : Store) → goes_on k.statements c.layers node_space ≡ true → MovesTo k c d → Runs cs a m → R d m → R c a
+      back c d a m g moves r q = (q.0, q.1, q.2, before q.0 q.1 c d a m (g, moves) r q.3)
+
+      failing : (c : Configuration) (n : ℕ) (a : Store) → goes_on k.statements c.layers node_space ≡ true → MovesTo k c (failed_config t n) → Fails cs a → R c a
+      failing c n a g moves f = (replicate count nowhere, [], length-replicate count nowhere, fails (replicate count nowhere) [] c n a (g, moves) f)
+
+      -- ---- from where the script distributes
+
       last_ready : (last : State) (f : Frame) → IsLast k.statements t cs (constraints_from (length vs) items) s.problem.distribution s.label fields (length vs) first last f → Ready k t cs top.known.fits R back failing last (f ∷ [])
       unfolding last_stands
       last_ready last f w =
@@ -223,32 +234,34 @@ module _ (p : Program) (s : FdScript) (h : IsShaped p s) (problem : IsProblem s.
           let stands = last_stands last f w in
           let is_searched = searched w.base w.more long in (
             plain_here its' is_searched last (full_stands its' (config k.statements t (node_of last (f ∷ []))) last.store stands) f w.distributes,
-            λ rests. (w.base, w.more, long, run_law its' (config k.statements t (node_of last (f ∷ []))) last.store is_searched stands),
+            λ rests. (w.base, w.more, long, runs w.base w.more (config k.statements t (node_of last (f ∷ []))) last.store long is_searched stands),
           )
 
       -- ---- from the call of the script
 
-      abbrev root_frames : List Frame
-      root_frames = applying script_variable (own 0) ∷ []
-
-      arrives : R (config k.statements t (node_of (start_state first) root_frames)) first
+      pub arrives : R begins first
       arrives =
           let items_fit : (i : Item) → Contains items i → IsItem (length vs) i = λ i c. subst (λ n. IsItem n i) h.count (problem.items i c) in
           let among : (c : Constraint) → Contains (constraints_from (length vs) items) c → Contains cs c = λ c i. subst (λ n. Contains (constraints_from n items) c) (sym h.count) i in
           let long : length first ≡ length vs + products_in items = start_long ∙ ap (λ n. n + products_in items) h.count in
           (script_ready k t cs top.known.fits R back failing h.root h.names vs e0 script s.label fields (let r = h.recorded in r.variables) items s.problem.distribution statements coded top stand first begin long items_fit among reads last_ready).1 refl
 
-      shows_search : (base more : List Ident) → length base ≡ count → Arrives (its base more) (config k.statements t (node_of (start_state first) root_frames)) first
-          → ShowsSearch (its base more) (config k.statements t (node_of (start_state first) root_frames)) first
-      shows_search base more long a =
-          let over = scripts.over s.problem problem in
-          tree_law (its base more) (config k.statements t (node_of (start_state first) root_frames)) first (searched base more long) (parts_refl first) over.domains a
+    -- ---- the search for all leaves
+
+    shows_search : (base more : List Ident) → length base ≡ count → Arrives (its base more) begins first → ShowsSearch (its base more) begins first
+    shows_search base more long a =
+        let over = scripts.over s.problem problem in
+        tree_law (its base more) begins first (searched base more long) (parts_refl first) over.domains a
+
+    all_arrive : AreAt k.statements 0 body → (base : List Ident) × (more : List Ident) × (length base ≡ count) × Arrives (its base more) begins first
+    all_arrive =
+        arrives (λ base more. Arrives (its base more)) (λ base more. back_laws.back (its base more)) (λ base more. back_laws.failing (its base more)) (λ base more c a long. run_law (its base more) c a)
 
   -- ---- the tie
 
   module _ (top : Configuration) (b : Begins k h.root (numbers 0 body) top) (stand : AreAt k.statements 0 body) where
     abbrev root : Configuration
-    root = config k.statements b.top (node_of (start_state first) (applying script_variable (own 0) ∷ []))
+    root = begins b.top b.environment b.is_top
 
     shows_at : (tree : Tree) (steps : ℕ) → ShowsTree k node_space (shown p.words s) root tree steps → ShowsTree k (search_space top) (shown p.words s) (with_root k.statements script_variable top) tree steps
     shows_at tree steps w =
@@ -257,8 +270,8 @@ module _ (p : Program) (s : FdScript) (h : IsShaped p s) (problem : IsProblem s.
 
     pub shows : Shows p.words s k top
     shows =
-        let a = arrives b.top b.environment b.is_top stand in
-        let w = shows_search b.top b.environment b.is_top stand a.0 a.1 a.2 a.3 in
+        let a = all_arrive b.top b.environment b.is_top stand in
+        let w = shows_search b.top b.environment b.is_top a.0 a.1 a.2 a.3 in
         record { tree = w.tree; is_tree = w.is_tree; steps = w.steps; shows = shows_at w.tree w.steps w.shows; quiet = b.quiet }
 
 pub tie : Tie

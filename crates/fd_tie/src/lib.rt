@@ -5,6 +5,7 @@
 
 ghost use Rattle.fd_form_law.specs.Laws.{Tie};
 ghost use Rattle.fd_form_law.specs.FdCompleteness.{FdCompleteness, FdReply};
+ghost use Rattle.fd_form_law.specs.FdOptimality.{BestTie, FdOptimality};
 
 /// Whenever the top of a script has come to rest, the nodes below its search root show a tree of its problem. Nothing: it holds a law.
 pub fn script_law()
@@ -19,4 +20,15 @@ pub fn complete_law()
 /// What is written of a script is the lines of its answers. Nothing: it holds a law.
 pub fn reply_law()
     ensures { FdReply }
+{}
+
+/// Whenever the top of a script with a cost has come to rest, the nodes of its best search show the bounded tree of its problem. Nothing:
+/// it holds a law.
+pub fn best_script_law()
+    ensures { BestTie }
+{}
+
+/// A finished best search of a script has found an assignment that none betters, or that there is none. Nothing: it holds a law.
+pub fn optimal_law()
+    ensures { FdOptimality }
 {}

@@ -1,18 +1,16 @@
 -- The machine is a maker of the nodes of best search.
-use Rattle.std.proofs.Common.{◌≡◌, ℕ, ◌≤◌, Bool, true, false, cond, if◌then◌else◌, List, [], ◌∷◌, ◌++◌, Option, Some, None, option_map, refl, sym, ap, ◌∙◌, subst}
+use Rattle.std.proofs.Common.{◌≡◌, ℕ, ◌≤◌, Bool, true, false, cond, if◌then◌else◌, List, [], ◌∷◌, ◌++◌, Option, Some, None, option_map, refl, ap, ◌∙◌, subst}
 use lib.Dec.{leb}
 use Rattle.std.proofs.lemmas.Option.{same_Some}
 use Rattle.oz_base.specs.Lists.{edit_first}
 use Rattle.oz_language.specs.declared.kernel.Constant.{Constant}
-use Rattle.oz_language.specs.declared.kernel.Kernel.{Kernel}
-use Rattle.oz_language.specs.declared.kernel.Statement.{Statement}
 use Rattle.oz_search.specs.Nodes.{Reached, if_within}
 use Rattle.oz_search.specs.Best.{best}
 use Rattle.oz_search.specs.declared.best.Bounded.{Bounded}
 use Rattle.oz_search.specs.declared.best.Costed.{Costed}
 use Rattle.oz_search.specs.declared.leaf.Outcome.{Outcome}
 use Rattle.search_law.proofs.NodeLaws as made
-use Rattle.oz_semantics.specs.Configurations.{is_of, in_layer, telling}
+use Rattle.oz_semantics.specs.Configurations.{is_of, telling}
 use Rattle.oz_semantics.specs.Edits.{committed}
 use Rattle.oz_semantics.specs.Search.{node_at, followed}
 use Rattle.oz_semantics.specs.declared.value.Tell.{Tell}
@@ -23,7 +21,7 @@ use Rattle.oz_semantics.specs.BestSearch.{costed, best_maker}
 use Rattle.machine_search.specs.BestNodes.{BestMakerLaw, BestTreeLaw, UnboundedLaw}
 
 -- a node of best search is one of plain search with its cost
-node_of : (space : List ℕ) (feature : Constant) (o : Option (Reached Configuration Outcome)) (r : Reached Configuration Costed) → option_map (costed space feature) o ≡ Some r
+pub node_of : (space : List ℕ) (feature : Constant) (o : Option (Reached Configuration Outcome)) (r : Reached Configuration Costed) → option_map (costed space feature) o ≡ Some r
     → (n : Reached Configuration Outcome) × (o ≡ Some n) × (costed space feature n ≡ r)
 node_of space feature None r e = absurd (cc)
 node_of space feature (Some n) r e = (n, refl, same_Some (costed space feature n) r e)

@@ -5,6 +5,8 @@ pub mod RunLaws
 pub mod MakerLaws
 pub mod VisitLaws
 pub mod SpaceLaws
+pub mod MetLaws
 pub mod RestLaws
 pub mod OpeningLaws
 pub mod BestMakerLaws
+pub mod BestNodeLaws

@@ -9,9 +9,7 @@ use Rattle.oz_language.specs.declared.kernel.Statement.{Statement}
 use Rattle.oz_language.specs.declared.kernel.Kernel.{Kernel}
 use Rattle.oz_search.specs.declared.leaf.Outcome.{Outcome}
 use Rattle.oz_search.specs.declared.tree.Kind.{Kind}
-use Rattle.oz_search.specs.declared.tree.Kind.TheVariants.{Alternatives, End}
-use Rattle.oz_search.specs.Paths.{is_among}
-use Rattle.oz_search.specs.Nodes.{Reached, Met, Node, OutOfFuel, NotANode, met_last, met_by_kind, met_next, met_from}
+use Rattle.oz_search.specs.Nodes.{Reached}
 use Rattle.oz_search.specs.Plain.{outcomes}
 use Rattle.oz_semantics.specs.Sights.{States, state_in, Offer}
 use Rattle.oz_semantics.specs.Configurations.{view}
@@ -23,7 +21,7 @@ use Rattle.oz_semantics.specs.Texts.{Printed}
 use Rattle.oz_semantics.specs.Schedule.{least_due, turn_of_queue, turn_of, turn}
 use Rattle.oz_semantics.specs.declared.configuration.Propagator.{Propagator}
 use Rattle.oz_semantics.specs.Runs.{Ran, Ended, TopRaised, Over, after_turn, left_by, run_for, run}
-use Rattle.oz_semantics.specs.Search.{chosen_in, state_text, kind_of, node_of_kind, node_in_state, node_of_run, node_at, maker}
+use Rattle.oz_semantics.specs.Search.{state_text, kind_of, node_of_kind, node_in_state, node_of_run, node_at, maker}
 use Rattle.oz_semantics.specs.declared.configuration.Status.{Status}
 use Rattle.oz_semantics.specs.declared.configuration.Status.TheVariants as status
 use Rattle.oz_semantics.specs.declared.configuration.Layer.{Layer}
@@ -38,6 +36,7 @@ use Rattle.machine_search.specs.Rests.{IsSettled, SettledLaw, RootLaw, ChosenLaw
 use Rattle.machine_search.proofs.QueueLaws.{all_queued, nothing_goes_on}
 use Rattle.machine_search.proofs.TopLaws.{still_consistent, begun_consistent, created_top}
 use Rattle.machine_search.proofs.TurnLaws.{IsStep, queue_step, run_step}
+use Rattle.machine_search.proofs.MetLaws.{met_rests}
 use Rattle.machine_search.proofs.RunLaws.{same_config, no_raise}
 
 pub settled_law : SettledLaw
@@ -52,7 +51,7 @@ pub chosen_law : ChosenLaw
 chosen_law statements space i c h = settled_law statements None 1 (record c { layers = committed statements space i c.layers }) (committed_top statements space i c.layers h.0)
 
 module _ (k : Kernel) (space : List ℕ) where
-  abbrev Rests : Configuration → Type 0
+  abbrev pub Rests : Configuration → Type 0
   Rests d = (goes_on k.statements d.layers space ≡ false) × IsSettled k.statements d
 
   ended : (c d : Configuration) (f left : ℕ) → Rests c → ◌≡◌ {A = Ran} (Ended c f) (Ended d left) → Rests d
@@ -140,15 +139,6 @@ state_law k space c fuel d left queued e ordered running =
     no_state k.statements d.layers space ordered (rest_law k space c fuel d left queued e).0 [] d.layers refl running
 
 -- ---- nor in any node
-node_in : Met Configuration Outcome → Reached Configuration Outcome → Reached Configuration Outcome
-node_in (Node r) other = r
-node_in (OutOfFuel at) other = other
-node_in (NotANode at) other = other
-
-same_node : (x r : Reached Configuration Outcome) → ◌≡◌ {A = Met Configuration Outcome} (Node x) (Node r) → x ≡ r
-unfolding node_in
-same_node x r e = ap (λ m. node_in m x) e
-
 module _ (k : Kernel) (space : List ℕ) where
   kind_rests : (d : Configuration) → Rests k space d → (steps : ℕ) (o : Option (Kind Outcome)) (r : Reached Configuration Outcome) → node_of_kind d steps o ≡ Some r → Rests k space r.config
   kind_rests d h steps None r e = absurd (cc (e))
@@ -170,33 +160,10 @@ module _ (k : Kernel) (space : List ℕ) where
   run_rests f c h (TopRaised d left exception) ran r e = absurd (cc (e))
   run_rests f c h (Over d) ran r e = absurd (cc (e))
 
-  node_rests : (f : ℕ) (c : Configuration) → IsSettled k.statements c → (r : Reached Configuration Outcome) → node_at k space f c ≡ Some r → Rests k space r.config
+  pub node_rests : (f : ℕ) (c : Configuration) → IsSettled k.statements c → (r : Reached Configuration Outcome) → node_at k space f c ≡ Some r → Rests k space r.config
   node_rests zero c h r e = absurd (cc (e))
   node_rests (suc f) c h r e = run_rests f c h (run k space c f) refl r e
 
-  last_rests : (at : ℕ) (o : Option (Reached Configuration Outcome)) (r : Reached Configuration Outcome) → met_last outcomes at o ≡ Node r → o ≡ Some r
-  last_rests at None r e = absurd (cc (e))
-  last_rests at (Some x) r e = ap Some (same_node x r e)
-
-  kind_goes : (at b : ℕ) (kind : Kind Outcome) (next : Met Configuration Outcome) (r : Reached Configuration Outcome) → met_by_kind outcomes at b kind next ≡ Node r → next ≡ Node r
-  kind_goes at b (Alternatives n) next r e = by (is_among outcomes n b) e
-    where
-      by : (t : Bool) → (if t then next else NotANode (suc at)) ≡ Node r → next ≡ Node r
-      by true e = e
-      by false e = absurd (cc (e))
-  kind_goes at b (End l) next r e = absurd (cc (e))
-
-  next_goes : (at b : ℕ) (next : Configuration → Met Configuration Outcome) (o : Option (Reached Configuration Outcome)) (r : Reached Configuration Outcome) → met_next outcomes at b next o ≡ Node r
-      → (x : Reached Configuration Outcome) × (o ≡ Some x) × (next x.config ≡ Node r)
-  next_goes at b next None r e = absurd (cc (e))
-  next_goes at b next (Some x) r e = (x, refl, kind_goes at b x.report.kind (next x.config) r e)
-
-  from_rests : (fuel at : ℕ) (c : Configuration) (p : List ℕ) → IsSettled k.statements c → (r : Reached Configuration Outcome) → met_from outcomes (maker k space) fuel at c p ≡ Node r → Rests k space r.config
-  from_rests fuel at c [] h r e = node_rests fuel c h r (last_rests at (node_at k space fuel c) r e)
-  from_rests fuel at c (b ∷ p) h r e =
-      let next = next_goes at b (λ d. met_from outcomes (maker k space) fuel (suc at) (chosen_in k.statements space b d) p) (node_at k space fuel c) r e in
-      let here = node_rests fuel c h next.0 next.1 in
-      from_rests fuel (suc at) (chosen_in k.statements space b next.0.config) p (chosen_law k.statements space b next.0.config here.1) r next.2
-
 pub nodes_law : NodesLaw
-nodes_law k space c fuel p node h e = from_rests k space fuel 0 c p h node e
+nodes_law k space c fuel p node h e =
+    met_rests outcomes (maker k space) (IsSettled k.statements) (Rests k space) (λ f d g r i. node_rests k space f d g r i) (λ b d g. chosen_law k.statements space b d g.1) fuel 0 c p h node e

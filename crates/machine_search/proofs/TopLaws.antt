@@ -7,7 +7,7 @@ use Rattle.oz_base.specs.declared.names.Ident.{Ident}
 use Rattle.oz_language.specs.declared.kernel.Statement.{Statement}
 use Rattle.oz_semantics.specs.Names.{is_below, is_properly_below, is_top, space_lt, child_name}
 use Rattle.oz_semantics.specs.Store.{is_consistent}
-use Rattle.oz_semantics.specs.Configurations.{is_of, layer_of, view, in_layer, new_layer, next_child, counting_child, failed}
+use Rattle.oz_semantics.specs.Configurations.{is_of, layer_of, view, in_layer, new_layer, next_child, counting_child, telling, failed}
 use Rattle.oz_semantics.specs.Edits.{starting, created}
 use Rattle.oz_semantics.specs.Triggers.{triggered}
 use Rattle.need_laws.specs.Needs.{AllFire}
@@ -140,7 +140,7 @@ pub still_consistent : (layers : List Layer) → top_is_inconsistent layers ≡ 
 still_consistent layers e = same_top (without_inconsistent layers) layers (all_failing (inconsistent_spaces layers) (non_top layers layers e) layers) ∙ e
 
 -- ---- edits by the search
-child_not_top : (s : List ℕ) (n : ℕ) → is_top (child_name s n) ≡ false
+pub child_not_top : (s : List ℕ) (n : ℕ) → is_top (child_name s n) ≡ false
 child_not_top [] n = refl
 child_not_top (m ∷ s) n = refl
 
@@ -151,6 +151,10 @@ created_top parent procedure layers =
     let counted = in_layer parent counting_child layers in
     same_top (created parent procedure layers) layers
     (placed_tops child (child_not_top l.space l.next.child) (λ other. space_lt child.space other.space) counted ∙ edit_tops parent counting_child (λ l os e. refl) layers)
+
+-- what another space is told
+pub told_top : (s : List ℕ) (ts : List Tell) → is_top s ≡ false → (layers : List Layer) → top_is_inconsistent (in_layer s (telling ts) layers) ≡ top_is_inconsistent layers
+told_top s ts e layers = same_top (in_layer s (telling ts) layers) layers (edit_tops s (telling ts) (changed_aside s (telling ts) e (λ l. refl)) layers)
 
 -- ---- by-need computations that begin
 fired_tops : (ls ms : List Layer) → AllFire ls ms → tops ms ≡ tops ls

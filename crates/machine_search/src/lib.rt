@@ -5,7 +5,7 @@
 #![tactic(auto)]
 
 ghost use Rattle.machine_search.specs.Laws.{BoundLaw, MakerLaw, NodeLaw, NoNodeLaw, BelowLaw, BeginsLaw, VisitsLaw, StopsLaw, EndsLaw, TreeLaw, SpaceLaw, ScriptLaw};
-ghost use Rattle.machine_search.specs.BestNodes.{BestMakerLaw, BestTreeLaw, UnboundedLaw};
+ghost use Rattle.machine_search.specs.BestNodes.{BestMakerLaw, BestTreeLaw, UnboundedLaw, ChosenBelowLaw, BestNodesLaw, SearchSpaceLaw};
 ghost use Rattle.machine_search.specs.Rests.{SettledLaw, OpeningLaw, RootLaw, ChosenLaw, RestLaw, StateLaw, NodesLaw};
 
 /// The bound on the turns of a run does not matter where it is above the fuel, in steps.
@@ -70,9 +70,14 @@ pub fn rest_law()
 
 /// The nodes of best search. A node has at least one step of its own, and is the same with any fuel that suffices for these
 /// (`maker`); what there is with each fuel belongs to one tree (`tree`); under no bound a space is committed as in plain search
-/// (`unbounded`).
+/// (`unbounded`). A space but the top that is committed under a bound leaves all threads that can step queued, and a consistent
+/// top (`chosen`), so nothing of the space can step in any node (`nodes`); the space in which the search begins is
+/// not the top (`space`).
 pub fn best_law()
     ensures maker { BestMakerLaw }
     ensures tree { BestTreeLaw }
     ensures unbounded { UnboundedLaw }
+    ensures chosen { ChosenBelowLaw }
+    ensures nodes { BestNodesLaw }
+    ensures space { SearchSpaceLaw }
 {}

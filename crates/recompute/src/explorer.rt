@@ -5,7 +5,7 @@ ghost use Rattle.recompute.specs.Ways.{IsWay, rest_behind, rest_of, met_on, answ
 
 use crate::frozen::Frozen;
 use crate::waypoint::{Waypoint, solved};
-use oz_base::Path;
+use node_pool::{Path, Plain};
 use oz_search::{Kind, Outcome, Report};
 use std::alloc::{AllocError, Global};
 use std::marker::Model;
@@ -233,7 +233,12 @@ impl Explorer {
 
     /// What there is at the path, where each node on the way may take so many steps. A path that goes on from the last one, or
     /// leaves its way late, costs only what is new on it.
-    pub fn solve(&mut self, alloc: Global, path: &Path, fuel: u64) -> Result<Solved, AllocError>
+    pub fn solve(
+        &mut self,
+        alloc: Global,
+        path: &Path<Plain>,
+        fuel: u64,
+    ) -> Result<Solved, AllocError>
         ensures solved { IfOk result (λ solved. solved ≡ answer_of (met_at self.old fuel path.now)) }
         ensures same { self.new ≡ self.old }
     {

@@ -2,7 +2,7 @@
 ghost use Rattle.std.specs.Prelude.{◌≡◌, ◌≤◌, ◌^◌, IfOk};
 ghost use Rattle.recompute.specs.Origins.{origin};
 
-use node_pool::Tree;
+use node_pool::{Plain, Tree};
 use oz_base::{Copies, SpaceName};
 use oz_machine::Machine;
 use std::alloc::{AllocError, Global};
@@ -33,6 +33,8 @@ impl Model for Frozen {
 }
 
 impl Tree for Frozen {
+    type Kind = Plain;
+
     ghost use Rattle.recompute.specs.Origins.{tree_of};
 
     ghost within = { tree_of };

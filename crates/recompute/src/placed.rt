@@ -7,7 +7,8 @@ ghost use Rattle.recompute.specs.Ways.{answer_of};
 use crate::explorer::Solved;
 use crate::frozen::Frozen;
 use crate::waypoint::{Waypoint, solved};
-use oz_base::{Path, Shared};
+use node_pool::{Path, Plain};
+use oz_base::Shared;
 use oz_search::{Kind, Report};
 use std::alloc::{AllocError, Global};
 use std::marker::{Brand, Model, PhantomData};
@@ -24,7 +25,7 @@ impl Start for Brand {
 /// A node of the search that starts there, at its path. Contracts see the path: it says what the node is.
 #[derive(Drop)]
 pub struct Placed<S: Start> {
-    path: Path,
+    path: Path<Plain>,
     node: Waypoint,
     of: PhantomData<S>,
 }
@@ -59,7 +60,7 @@ fn without_choice<S: Start>(solved: Solved) -> Found<S>
 }
 
 /// The node at its path, of which a leaf is no more than what is known of it.
-fn found_node<S: Start>(alloc: Global, path: Path, node: Waypoint) -> Found<S>
+fn found_node<S: Start>(alloc: Global, path: Path<Plain>, node: Waypoint) -> Found<S>
     requires { StandsAt S.start path node }
     ensures { result.solved ≡ Solved.Node node.report }
 {

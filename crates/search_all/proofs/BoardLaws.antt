@@ -4,7 +4,7 @@ use denote.Builtin.{u8, u32, u64}
 use denote.Param.SendFields.{declared_send, declared_sync, variants_send, variants_sync}
 use denote.Param.Send.{IsSend, IsSync, sendable, view_send, view_sync}
 use Rattle.std.proofs.Crossing.{Vec-send, Arc-send, crosses}
-use Rattle.oz_base.specs.contracts.path.Path as path
+use Rattle.pool_state.specs.contracts.path.Path as path
 use Rattle.oz_base.specs.contracts.sequence.Sequence as sequence
 use Rattle.oz_base.specs.contracts.shared.Shared as shared
 use Rattle.oz_search.specs.contracts.leaf.Outcome as outcome

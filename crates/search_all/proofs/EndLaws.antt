@@ -59,20 +59,20 @@ over_stays budget h u replays prefix (inr (e, i)) = inr (e, ap stop_of (sym pref
 
 -- ---- the same worker, later
 
-pub later_of : (p : PoolView Origin) (w u : WorkerView Origin) → IsOf w p → IsOnlyLater w u → IsOf u p
-later_of p w u is same = (ap (λ (x : WorkerView Origin). x.lock) same ∙ is.0, ap (λ (x : WorkerView Origin). x.mark) same ∙ is.1)
+pub later_of : (p : PoolView Origin) (w u : WorkerView Origin ℕ Outcome) → IsOf w p → IsOnlyLater w u → IsOf u p
+later_of p w u is same = (ap (λ (x : WorkerView Origin ℕ Outcome). x.lock) same ∙ is.0, ap (λ (x : WorkerView Origin ℕ Outcome). x.mark) same ∙ is.1)
 
-pub later_same : (w u : WorkerView Origin) → IsOnlyLater w u → IsSame w u
-later_same w u same = (ap (λ (x : WorkerView Origin). x.numbers) same, ap (λ (x : WorkerView Origin). x.drawn) same)
+pub later_same : (w u : WorkerView Origin ℕ Outcome) → IsOnlyLater w u → IsSame w u
+later_same w u same = (ap (λ (x : WorkerView Origin ℕ Outcome). x.numbers) same, ap (λ (x : WorkerView Origin ℕ Outcome). x.drawn) same)
 
 -- it stops
-pub stops : (p : PoolView Origin) (cause : StopCause) (w u : WorkerView Origin) → IsOf w p → IsOnlyLater w u → StopTurn cause w u → HasExplored p w u
+pub stops : (p : PoolView Origin) (cause : StopCause) (w u : WorkerView Origin ℕ Outcome) → IsOf w p → IsOnlyLater w u → StopTurn cause w u → HasExplored p w u
 stops p cause w u is same turn =
     let x = stopped_after turn.0 (halt (number w) cause) in
     (later_of p w u is same, later_same w u same, inr (x.0, ap stop_of turn.2 ∙ x.1))
 
 -- it was told of a node
-pub told : {E : Type 0} (budget steps : ℕ) (e : Entry (List ℕ) Outcome) (w u : WorkerView Origin) (r : Result Settled E) → claim u ≡ claim_left (claim w) r
+pub told : {E : Type 0} (budget steps : ℕ) (e : Entry (List ℕ) Outcome) (w u : WorkerView Origin ℕ Outcome) (r : Result Settled E) → claim u ≡ claim_left (claim w) r
     → SettleTurn budget steps e w r u → IsTold u r
 told budget steps e w u (Ok settled.Done) c turn = c
 told budget steps e w u (Ok (settled.Spent t)) c turn =
@@ -97,10 +97,10 @@ node_costs o fuel p r e = (tree_law o.kernel o.space o.config).costs fuel p r (n
 -- ---- claims
 
 -- the worker was told that nothing is open and nothing out
-pub finishes : {E : Type 0} (p : PoolView Origin) (first w u : WorkerView Origin) (r : Result Claimed E) → IsReady p w → IsSame first w → IsOnlyLater w u → ClaimTurn w r u → r ≡ Ok claimed.Finished → HasExplored p first u
+pub finishes : {E : Type 0} (p : PoolView Origin) (first w u : WorkerView Origin ℕ Outcome) (r : Result (Claimed (List ℕ)) E) → IsReady p w → IsSame first w → IsOnlyLater w u → ClaimTurn outcomes w r u → r ≡ Ok claimed.Finished → HasExplored p first u
 finishes {E} p first w u r ready same later turn e =
     let now = later_same w u later in
-    let found : AnswersClaim turn.0 (number w) claimed.Finished u.seen = subst (λ (x : Result Claimed E). MatchResult x (λ a. AnswersClaim turn.0 (number w) a u.seen) (λ y. u.seen ≡ turn.0)) e turn.2 in (
+    let found : AnswersClaim outcomes turn.0 (number w) claimed.Finished u.seen = subst (λ (x : Result (Claimed (List ℕ)) E). MatchResult x (λ a. AnswersClaim outcomes turn.0 (number w) a u.seen) (λ y. u.seen ≡ turn.0)) e turn.2 in (
       later_of p w u ready.0 later,
       (now.0 ∙ same.0, now.1 ∙ same.1),
       inl (subst (λ (x : History ℕ Outcome). IsNothingOpen outcomes x × IsNothingOut outcomes x) (sym found.3) (found.1, found.2)),

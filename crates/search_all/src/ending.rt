@@ -9,13 +9,13 @@ ghost use Rattle.oz_search.specs.declared.leaf.Outcome.{Outcome as Leaf};
 ghost use Rattle.recompute.specs.Origins.{Origin};
 ghost use Rattle.search_all.specs.Answers.{leaves_in, answer_of, Closes};
 
-use node_pool::Ended;
-use oz_base::{Copies, Path, Sequence};
+use node_pool::{Ended, Path, Plain};
+use oz_base::{Copies, Sequence};
 use oz_search::{Entry, Halt, Outcome, StopCause};
 use std::alloc::{AllocError, Global};
 use std::collections::BTreeMap;
 
-fn stop_in(entry: &Entry<Path, Outcome>) -> Option<Halt>
+fn stop_in(entry: &Entry<Path<Plain>, Outcome>) -> Option<Halt>
     ensures { (after : List (Entry (List ℕ) Leaf)) → option_or result (stop_of after) ≡ stop_of (entry.now ∷ after) }
 {
     match entry {
@@ -27,7 +27,7 @@ fn stop_in(entry: &Entry<Path, Outcome>) -> Option<Halt>
 }
 
 /// The first stop of a history.
-fn first_stop(entries: &[Entry<Path, Outcome>]) -> Option<Halt>
+fn first_stop(entries: &[Entry<Path<Plain>, Outcome>]) -> Option<Halt>
     ensures { result ≡ stop_of entries.now }
 {
     let mut rest = entries;
@@ -53,7 +53,7 @@ fn copy_of(alloc: Global, outcome: &Outcome) -> Result<Outcome, AllocError>
 }
 
 /// The leaf that an entry is.
-fn leaf_in(alloc: Global, entry: &Entry<Path, Outcome>) -> Result<Outcome, AllocError>
+fn leaf_in(alloc: Global, entry: &Entry<Path<Plain>, Outcome>) -> Result<Outcome, AllocError>
     requires { (x : List ℕ × Leaf) × (leaf_of outcomes entry.now ≡ Some x) }
     ensures { (x : List ℕ × Leaf) → leaf_of outcomes entry.now ≡ Some x → IfOk result (λ leaf. leaf ≡ x.1) }
 {
@@ -68,7 +68,7 @@ fn leaf_in(alloc: Global, entry: &Entry<Path, Outcome>) -> Result<Outcome, Alloc
 /// The leaf that stands at a place of a history.
 fn leaf_at(
     alloc: Global,
-    entries: &[Entry<Path, Outcome>],
+    entries: &[Entry<Path<Plain>, Outcome>],
     place: usize,
 ) -> Result<Outcome, AllocError>
     requires { (x : List ℕ × Leaf) × (leaf_at_place outcomes entries.now place ≡ Some x) }
@@ -83,8 +83,8 @@ fn leaf_at(
 /// The leaves that stand at these places of a history, in the order of their paths.
 fn leaves_at(
     alloc: Global,
-    entries: &[Entry<Path, Outcome>],
-    places: &mut BTreeMap<Path, usize>,
+    entries: &[Entry<Path<Plain>, Outcome>],
+    places: &mut BTreeMap<Path<Plain>, usize>,
 ) -> Result<Sequence<Outcome>, AllocError>
     requires { (ls : List (List ℕ × Leaf)) × Names outcomes entries.now places.old.entries ls }
     ensures { (ls : List (List ℕ × Leaf)) → Names outcomes entries.now places.old.entries ls → IfOk result (λ leaves. leaves ≡ map (λ (x : List ℕ × Leaf). x.1) ls) }
@@ -97,7 +97,7 @@ fn leaves_at(
 }
 
 /// The leaves that a search found, or `None` where there were too few steps for it.
-pub fn found(alloc: Global, ended: Ended) -> Result<Option<Sequence<Outcome>>, AllocError>
+pub fn found(alloc: Global, ended: Ended<Plain>) -> Result<Option<Sequence<Outcome>>, AllocError>
     requires { Names outcomes ended.entries.items ended.leaves.entries (leaves_in ended.entries.items) }
     ensures { (o : Origin) → Closes o ended.entries.items → IfOk result (λ found. found ≡ answer_of o) }
 {

@@ -7,8 +7,7 @@ ghost use Rattle.node_pool.specs.Workers.{IsOf, claim};
 ghost use Rattle.search_all.specs.Crews.{IsFor, IsReady, IsSame, HasExplored, IsTold, GoesOn};
 
 use crate::patience::Patience;
-use node_pool::{Claimed, Settled, SharedPool, Worker};
-use oz_base::Path;
+use node_pool::{Claimed, Path, Plain, Settled, SharedPool, Worker};
 use oz_outside::Gate;
 use oz_search::{Kind, Outcome, Report, StopCause};
 use recompute::{Board, Explorer, Found, Frozen, Solved, Start, solve_root};
@@ -37,7 +36,7 @@ fn run_out<R: Wait>(
     rt: &R,
     pool: &SharedPool<Frozen>,
     worker: Worker<Frozen>,
-    path: &Path,
+    path: &Path<Plain>,
 ) -> Worker<Frozen>
     requires pool { IsOf worker pool.now }
     requires out { claim worker ≡ Some path.now }
@@ -53,7 +52,7 @@ fn tell<R: Wait>(
     rt: &R,
     pool: &SharedPool<Frozen>,
     worker: Worker<Frozen>,
-    path: Path,
+    path: Path<Plain>,
     report: Report<Outcome>,
 ) -> (Worker<Frozen>, Result<Settled, AllocError>)
     requires pool { IsOf worker pool.now }
@@ -81,7 +80,7 @@ fn settle<R: Wait>(
     rt: &R,
     pool: &SharedPool<Frozen>,
     worker: Worker<Frozen>,
-    path: Path,
+    path: Path<Plain>,
     report: Report<Outcome>,
 ) -> After
     requires pool { IsOf worker pool.now }
@@ -104,7 +103,7 @@ fn close_claim<R: Wait>(
     rt: &R,
     pool: &SharedPool<Frozen>,
     worker: Worker<Frozen>,
-    path: Path,
+    path: Path<Plain>,
     solved: Result<Solved, AllocError>,
 ) -> After
     requires small { pool.now.budget ≤ 2 ^ 48 }
@@ -125,7 +124,7 @@ fn close_claim<R: Wait>(
 fn solve_from_root<S: Start>(
     alloc: Global,
     frozen: &Frozen,
-    path: &Path,
+    path: &Path<Plain>,
 ) -> Result<Found<S>, AllocError>
     ensures { IfOk result (λ found. found.solved ≡ answer_of (met_at frozen.now frozen.now.budget path.now)) }
 {
@@ -143,7 +142,7 @@ fn solve_near<R: Wait, S: Start>(
     alloc: Global,
     board: &Mutex<Board<S>>,
     frozen: &Frozen,
-    path: &Path,
+    path: &Path<Plain>,
 ) -> Result<Found<S>, AllocError>
     requires start { frozen.now ≡ S.start }
     ensures { IfOk result (λ found. found.solved ≡ answer_of (met_at frozen.now frozen.now.budget path.now)) }
@@ -165,7 +164,7 @@ fn solve<R: Wait, S: Start>(
     alloc: Global,
     board: &Mutex<Board<S>>,
     frozen: &Frozen,
-    path: &Path,
+    path: &Path<Plain>,
 ) -> Result<Solved, AllocError>
     requires start { frozen.now ≡ S.start }
     ensures { IfOk result (λ solved. solved ≡ answer_of (met_at frozen.now frozen.now.budget path.now)) }

@@ -182,7 +182,7 @@ module _ {B L : Type 0} (its : Setting B L) where
   by_right p q t = inr (inr (left_greater its q p t, place_greater q p t))
 
   -- the ends of a path
-  ends : (p : List B) → (p ≡ []) ⊎ ((q : List B) × (b : B) × (p ≡ q ++ b ∷ []))
+  pub ends : (p : List B) → (p ≡ []) ⊎ ((q : List B) × (b : B) × (p ≡ q ++ b ∷ []))
   ends [] = inl refl
   ends (x ∷ p) =
       inr (⊎_elim

@@ -6,6 +6,7 @@
 
 ghost use Rattle.search_law.specs.Law.{FinishedLaw, SpentLaw, TakenLaw, PlainLaw, BoundLaw, LastLaw, StaysLaw, ClaimLaw, OnceLaw, OpenLaw, LeavesLaw, PlacesLaw, PlainSearch, BestSearch};
 ghost use Rattle.search_law.specs.BestLaw.{BestLaw};
+ghost use Rattle.search_law.specs.OneWorker.{OneWorkerLaw};
 ghost use Rattle.search_law.specs.Example.{FoundLaw, BoundsLaw, OpenAlternatives};
 ghost use Rattle.search_law.specs.NodeLaw.{FuelLaw, TreeLaw, UniqueLaw, ClaimedLaw, ThereLaw, StopLaw, ParentLaw, PrefixLaw, RefusedLaw, ConfigLaw};
 
@@ -112,6 +113,11 @@ pub fn config_law<B, L, C>()
 /// A finished history of best search has found the least cost of all solutions `A`.
 pub fn best_law<A>()
     ensures { BestLaw A }
+{}
+
+/// Of two legal histories of one worker alone, one goes on where the other ends.
+pub fn one_worker_law()
+    ensures { OneWorkerLaw }
 {}
 
 /// The traversal of a small tree, with enough fuel and with too little.

@@ -3,6 +3,8 @@ pub mod EditLaws
 pub mod FitLaws
 pub mod SettleLaws
 pub mod TellLaws
+pub mod OrderLaws
+pub mod ClashLaws
 pub mod SoundLaws
 pub mod OpeningLaws
 pub mod StepLaws

@@ -69,10 +69,14 @@ module _ (space t : List ℕ) (lower : is_properly_below space t ≡ true) where
     | inr k ↦ k
   ]
 
+  -- whatever is done to the space, if it keeps its name
+  pub failing_kept : (change : Layer → Layer) → ((l : Layer) → (change l).space ≡ l.space) → (layers : List Layer) → failing (in_layer space change layers) t ≡ in_layer space change (failing layers t)
+  failing_kept change keeps layers =
+      ap (in_layer t failed) (filter_edit left (is_of space) change (λ l. ap (λ p. not (is_properly_below t p)) (keeps l)) own_left layers)
+      ∙ edits_apart (is_of t) (is_of space) failed change (λ l. ap (λ p. list_eq p t) (keeps l)) (λ l. refl) two_layers (filter left layers)
+
   pub failing_quiet : (change : Layer → Layer) → IsQuiet change → (layers : List Layer) → failing (in_layer space change layers) t ≡ in_layer space change (failing layers t)
-  failing_quiet change quiet layers =
-      ap (in_layer t failed) (filter_edit left (is_of space) change (λ l. ap (λ p. not (is_properly_below t p)) (quiet.space l)) own_left layers)
-      ∙ edits_apart (is_of t) (is_of space) failed change (λ l. ap (λ p. list_eq p t) (quiet.space l)) (λ l. refl) two_layers (filter left layers)
+  failing_quiet change quiet layers = failing_kept change quiet.space layers
 
   pub failing_own : (layers : List Layer) → layer_at (failing layers t) space ≡ layer_at layers space
   failing_own layers = find_edit (is_of space) (is_of t) failed (λ l. refl) two_layers (filter left layers) ∙ find_filter (is_of space) left own_left layers

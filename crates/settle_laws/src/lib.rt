@@ -6,6 +6,7 @@
 ghost use Rattle.settle_laws.specs.Settles.{NothingFails, QuietFails, QuietSettles, ChangesSettle, KeepsOwn, KeepsView, EndsSame, Settled, TellSettles, TellBelow, TopKept};
 ghost use Rattle.settle_laws.specs.Edits.{EditsJoin, EditsAgree, TermSettles, CommittingParts, AreQuiet, QuietThere, QuietView, PopView};
 ghost use Rattle.settle_laws.specs.Turns.{SettledExact, StepExact, TurnExact, FollowedExact, OpeningExact, RootExact, ChosenExact, CostLaw, TurnCost};
+ghost use Rattle.settle_laws.specs.Clashes.{ClashFails, TellsAfter};
 ghost use Rattle.settle_laws.specs.Content.{SettledContent, StepContent, TurnContent, FollowedContent, OpeningContent};
 ghost use Rattle.settle_laws.specs.Sound.{SoundNothing, SoundTop, SoundSettles, QuietStaysSound, LeftTree, LeftSound, SettledSound, StepTree, StepSound, TurnTree, TurnSound, CreatedSound, CommittedSound, CommittedSettles, FollowedLeft, FollowedSettles, OpeningSound, OpeningTree, OpeningLeft};
 
@@ -34,6 +35,13 @@ pub fn settle_law()
     ensures tell { TellSettles }
     ensures below { TellBelow }
     ensures top { TopKept }
+{}
+
+/// Where a space is told what clashes with what it sees (`fails`), and where it is told more after spaces below it have failed
+/// (`after`). Nothing: it holds laws.
+pub fn clash_law()
+    ensures fails { ClashFails }
+    ensures after { TellsAfter }
 {}
 
 /// What each turn leaves, and costs. Nothing: it holds laws.

@@ -41,3 +41,4 @@ pub mod GraftLoose
 pub mod CopyTold
 pub mod MergeLists
 pub mod MergeTold
+pub mod AloneLaws

@@ -355,6 +355,9 @@ pub fn is_held(levels: &[Level], level: &Level, space: &SpaceName, variable: &Id
     if is_outer(levels, space, variable) {
         return true;
     }
+    if store.is_alone(variable) {
+        return false;
+    }
     if !same_space(&level.space, space) {
         return named_holds(levels, space, store, variable);
     }

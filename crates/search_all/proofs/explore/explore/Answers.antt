@@ -1,4 +1,4 @@
-use Rattle.std.proofs.Common.{◌≡◌, ◌≤◌, ◌^◌, ℕ, IfOk, Ok, sym, ap, subst, ◌∙◌}
+use Rattle.std.proofs.Common.{◌≡◌, ◌≤◌, ◌^◌, ℕ, IfOk, List, Ok, sym, ap, subst, ◌∙◌}
 use Rattle.pool_state.specs.declared.pool.Claimed.{Claimed}
 use Rattle.recompute.specs.Origins.{Origin, met_at}
 use Rattle.recompute.specs.Ways.{answer_of}
@@ -16,4 +16,4 @@ close_claim-requires-clause-solved g c =
 
 pub returns-in-Ok-Finished : goal.returns-in-Ok-Finished
 returns-in-Ok-Finished g c =
-    finishes c.args.pool.now c.args.first c.nodes.worker c.claim-taken.result.0 c.claim-taken.result.1 c.nodes.invariant.ready c.nodes.invariant.same c.claim-taken.ensures.same c.claim-taken.ensures.turn (c.in-Ok-Finished.is ∙ ap (λ (x : Claimed). Ok x) c.in-Ok-Finished.field-0-is)
+    finishes c.args.pool.now c.args.first c.nodes.worker c.claim-taken.result.0 c.claim-taken.result.1 c.nodes.invariant.ready c.nodes.invariant.same c.claim-taken.ensures.same c.claim-taken.ensures.turn (c.in-Ok-Finished.is ∙ ap (λ (x : Claimed (List ℕ)). Ok x) c.in-Ok-Finished.field-0-is)
