@@ -20,7 +20,7 @@ use Rattle.oz_semantics.specs.declared.configuration.Thread.{Thread}
 use Rattle.oz_semantics.specs.declared.configuration.Layer.{Layer}
 use Rattle.oz_laws.proofs.SameLaws.{In, In-from_contains, contains-from_In, and-left, and-right, tests_same}
 use Rattle.view_laws.specs.Readies.{SameClasses}
-use Rattle.view_laws.proofs.Members.{decide, not_both, some_of, by_some, In-left, In-right, In-cases}
+use Rattle.view_laws.proofs.Members.{decide, not_both, each, some_of, by_some, In-left, In-right, In-cases}
 use Rattle.view_laws.proofs.ListLaws.{among_in, in_among, filter_in, in_filter, in_map, map_in}
 use Rattle.view_laws.proofs.NameLaws.{names_equal, equal_names}
 use Rattle.view_laws.proofs.ViewLaws.{determined_same}
@@ -175,3 +175,31 @@ other_rests statements layers s id e known own =
 pub attends_own : (s : Sleeping) (id : Ident) → (s.known && list_eq s.space id.space) ≡ true → (s.known ≡ true) × (s.space ≡ id.space)
 attends_own s id e = (and-left s.known (list_eq s.space id.space) e, equal_names s.space id.space (and-right s.known (list_eq s.space id.space) e))
 
+-- Variables that are not determined
+
+not_true : (b : Bool) → not b ≡ true → b ≡ false
+not_true true e = absurd (false≢true e)
+not_true false e = refl
+
+pub all_free : (view : View) (xs : List Ident) → list_all (λ (x : Ident). not (is_determined view x)) xs ≡ true → (x : Ident) → Contains xs x → is_determined view x ≡ false
+all_free view xs e x c = not_true (is_determined view x) (each (λ (y : Ident). not (is_determined view y)) xs e x c)
+
+-- What a thread can do that has this on top of its stack
+
+pub ready_is : (statements : List Statement) (layers : List Layer) (id : Ident) (seen : View) (frame : Frame) → seen ≡ view layers id.space → Some frame ≡ first (stack_of layers id)
+    → answer_ready (code_answer (record { statements = statements; space = id.space; view = seen }) frame.environment frame.code) ≡ answer_ready (stack_answer (sight statements layers id.space) (stack_of layers id))
+ready_is statements layers id seen frame e top =
+    ap (λ (v : View). answer_ready (code_answer (record { statements = statements; space = id.space; view = v }) frame.environment frame.code)) e
+    ∙ sym (ap answer_ready (top_answers (sight statements layers id.space) (stack_of layers id) frame top))
+
+module _ (statements : List Statement) (layers : List Layer) (id : Ident) (old new : Sleeping) (seen : View) (ready : Readiness) (e : seen ≡ view layers id.space)
+    (attends : (old.known && list_eq old.space id.space) ≡ true) (lay : old.known ≡ true → new.known ≡ true → PutsDown seen id.number ready old new) where
+  pub lay_more : LaysMore layers old new
+  lay_more known =
+      let own = attends_own old id attends in
+      put_more layers statements id old new own.1 own.0 ready (subst (λ (v : View). PutsDown v id.number ready old new) e (lay own.0 known)) known
+
+  pub lay_rests : ready ≡ answer_ready (stack_answer (sight statements layers id.space) (stack_of layers id)) → RestsIn statements layers new id
+  lay_rests is known place =
+      let own = attends_own old id attends in
+      put_rests layers statements id old new own.1 own.0 ready (subst (λ (v : View). PutsDown v id.number ready old new) e (lay own.0 known)) is known place

@@ -8,7 +8,7 @@ ghost use Rattle.oz_semantics.specs.Names.{named};
 ghost use Rattle.oz_semantics.specs.Store.{View, is_determined};
 ghost use Rattle.oz_semantics.specs.Configurations.{is_of, is_open, layer_of};
 ghost use Rattle.oz_semantics.specs.Settling.{is_among, runnable};
-ghost use Rattle.oz_semantics.specs.Sights.{Readiness};
+ghost use Rattle.oz_semantics.specs.Sights as sights;
 ghost use Rattle.oz_semantics.specs.declared.configuration.Thread as running;
 ghost use Rattle.view_laws.specs.Readies.{SameClasses};
 ghost use Rattle.view_laws.specs.Queues.{IsExact};
@@ -44,7 +44,7 @@ pub struct Sleeping {
 
 /// What a thread waits for, where it waits for variables alone.
 fn waits_of(ready: &Readiness) -> Option<&Sequence<Ident>>
-    ensures { (view : View) (r : Readiness) → IsReady view r ready.now → IfSome (option_copied result) (λ xs. (ys : List Ident) × (waits_only r ≡ Some ys) × SameClasses view xs ys) }
+    ensures { (view : View) (r : sights.Readiness) → IsReady view r ready.now → IfSome (option_copied result) (λ xs. (ys : List Ident) × (waits_only r ≡ Some ys) × SameClasses view xs ys) }
 {
     match ready {
         Readiness::Waits(waits) => Some(waits),
@@ -151,7 +151,7 @@ impl Sleeping {
 
     /// Whether it was put down.
     fn put(&mut self, alloc: Global, store: &Store, number: u64, ready: &Readiness) -> bool
-        ensures { (r : Readiness) → IsReady store.now r ready.now → self.old.known ≡ true → result ≡ true → PutsDown store.now number r self.old self.new }
+        ensures { (r : sights.Readiness) → IsReady store.now r ready.now → self.old.known ≡ true → result ≡ true → PutsDown store.now number r self.old self.new }
     {
         let Some(waits) = waits_of(ready) else {
             return false;
@@ -170,7 +170,7 @@ impl Sleeping {
 
     /// A thread that can't step falls asleep, or nothing is known any more.
     fn lay(&mut self, alloc: Global, store: &Store, number: u64, ready: &Readiness)
-        ensures { (r : Readiness) → IsReady store.now r ready.now → self.old.known ≡ true → self.new.known ≡ true → PutsDown store.now number r self.old self.new }
+        ensures { (r : sights.Readiness) → IsReady store.now r ready.now → self.old.known ≡ true → self.new.known ≡ true → PutsDown store.now number r self.old self.new }
     {
         if !self.put(alloc, store, number, ready) {
             self.forget(alloc);
