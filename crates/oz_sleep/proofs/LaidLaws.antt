@@ -1,7 +1,8 @@
 -- Who sleeps, and is found.
-use Rattle.std.proofs.Common.{◌≡◌, ◌⊎◌, inl, inr, ℕ, Bool, true, false, not, ◌&&◌, if◌then◌else◌, List, [], ◌∷◌, ◌++◌, map, filter, refl, sym, ap, ap₂, subst, ◌∙◌, Contains, Option, Some, None, unwrap_or}
+use Rattle.std.proofs.Common.{◌≡◌, ◌⊎◌, inl, inr, ℕ, Bool, true, false, not, ◌&&◌, if◌then◌else◌, List, [], ◌∷◌, ◌++◌, ◌+◌, ◌≤◌, length, take, map, filter, refl, sym, ap, ap₂, subst, ◌∙◌, Contains, Option, Some, None, unwrap_or}
 use Rattle.std.specs.List.{list_any, list_all}
 use Rattle.std.proofs.lemmas.Bool.{false≢true}
+use Rattle.std.proofs.lemmas.List.{take_all}
 use Rattle.oz_base.specs.Lists.{first, list_eq}
 use Rattle.oz_base.specs.declared.names.Ident.{Ident}
 use Rattle.oz_language.specs.declared.kernel.Statement.{Statement}
@@ -203,3 +204,14 @@ module _ (statements : List Statement) (layers : List Layer) (id : Ident) (old n
   lay_rests is known place =
       let own = attends_own old id attends in
       put_rests layers statements id old new own.1 own.0 ready (subst (λ (v : View). PutsDown v id.number ready old new) e (lay own.0 known)) is known place
+
+-- One more was asked
+
+pub taken_more : {A : Type 0} (xs : List A) (i : ℕ) (x y : A) → take (i + 1) xs ≡ take i xs ++ x ∷ [] → Contains (take (i + 1) xs) y → Contains (take i xs) y ⊎ (y ≡ x)
+taken_more xs i x y e c = elim (In-cases y (take i xs) (x ∷ []) (In-from_contains (take i xs ++ x ∷ []) y (subst (λ zs. Contains zs y) e c))) [
+  | inl k ↦ inl (contains-from_In (take i xs) y k)
+  | inr k ↦ elim k [ inl q ↦ inr (sym q) | inr q ↦ elim q [ ] ]
+]
+
+pub taken_all : {A : Type 0} (xs : List A) (i : ℕ) (y : A) → length xs ≤ i → Contains xs y → Contains (take i xs) y
+taken_all xs i y e c = subst (λ zs. Contains zs y) (sym (take_all i xs e)) c
