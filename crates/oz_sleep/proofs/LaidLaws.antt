@@ -1,6 +1,7 @@
 -- Who sleeps, and is found.
-use Rattle.std.proofs.Common.{◌≡◌, ◌⊎◌, inl, inr, ℕ, Bool, true, false, not, ◌&&◌, if◌then◌else◌, List, [], ◌∷◌, ◌++◌, ◌+◌, ◌≤◌, length, take, map, filter, refl, sym, ap, ap₂, subst, ◌∙◌, Contains, Option, Some, None, unwrap_or}
+use Rattle.std.proofs.Common.{◌≡◌, ◌⊎◌, inl, inr, ℕ, Bool, true, false, not, ◌&&◌, if◌then◌else◌, List, [], ◌∷◌, ◌++◌, ◌+◌, ◌≤◌, length, take, map, filter, refl, sym, ap, ap₂, subst, ◌∙◌, Contains, Option, Some, None, unwrap_or, slice_get, Result, Ok, Err}
 use Rattle.std.specs.List.{list_any, list_all}
+use Rattle.std.specs.Result.{OnOk}
 use Rattle.std.proofs.lemmas.Bool.{false≢true}
 use Rattle.std.proofs.lemmas.List.{take_all}
 use Rattle.oz_base.specs.Lists.{first, list_eq}
@@ -8,13 +9,13 @@ use Rattle.oz_base.specs.declared.names.Ident.{Ident}
 use Rattle.oz_language.specs.declared.kernel.Statement.{Statement}
 use Rattle.oz_semantics.specs.Names.{named}
 use Rattle.oz_semantics.specs.Store.{View, Same, itself, reversed, joined, same, is_determined}
-use Rattle.oz_semantics.specs.Configurations.{layer_at, layer_of, thread_at, frames_in, new_layer, stack_of, view}
+use Rattle.oz_semantics.specs.Configurations.{is_open, layer_at, layer_of, thread_at, frames_in, new_layer, stack_of, view}
 use Rattle.oz_semantics.specs.Sights.{Sight, Readiness, can_step}
 use Rattle.oz_semantics.specs.Answers.{Answer}
 use Rattle.oz_semantics.specs.Statements.{stack_answer, code_answer}
 use Rattle.oz_semantics.specs.Readiness.{answer_ready}
 use Rattle.oz_semantics.specs.Spaces.{sight}
-use Rattle.oz_semantics.specs.Settling.{is_among, mover_in, queue_after}
+use Rattle.oz_semantics.specs.Settling.{is_among, runnable}
 use Rattle.oz_semantics.specs.declared.value.Tell.{Tell}
 use Rattle.oz_semantics.specs.declared.configuration.Frame.{Frame}
 use Rattle.oz_semantics.specs.declared.configuration.Thread.{Thread}
@@ -25,7 +26,10 @@ use Rattle.view_laws.proofs.Members.{decide, not_both, each, some_of, by_some, I
 use Rattle.view_laws.proofs.ListLaws.{among_in, in_among, filter_in, in_filter, in_map, map_in}
 use Rattle.view_laws.proofs.NameLaws.{names_equal, equal_names}
 use Rattle.view_laws.proofs.ViewLaws.{determined_same}
-use Rattle.view_laws.proofs.QueueLaws.{queue_exact}
+use Rattle.view_laws.specs.Queues.{IsExact}
+use Rattle.quiet_laws.proofs.AwakeLaws.{able_runs}
+use Rattle.space_core.specs.Levels.{OfLayer}
+use Rattle.sleep_laws.proofs.RestLaws.{rests_all}
 use Rattle.suspension.specs.Sleeping.{AreKeys, IsFoundBy, IsFound, FallsAsleep}
 use Rattle.suspension.specs.declared.sleepers.Sleepers.{Sleepers}
 use Rattle.sleep_laws.specs.Asleep.{waits_only, rests_for, IsAsleep, thread_of, AreAtRest}
@@ -215,3 +219,34 @@ taken_more xs i x y e c = elim (In-cases y (take i xs) (x ∷ []) (In-from_conta
 
 pub taken_all : {A : Type 0} (xs : List A) (i : ℕ) (y : A) → length xs ≤ i → Contains xs y → Contains (take i xs) y
 taken_all xs i y e c = subst (λ zs. Contains zs y) (sym (take_all i xs e)) c
+
+-- All threads of a space were asked
+
+pub on_ok : {A E P Q : Type 0} (r : Result A E) → (P → Q) → OnOk r P → OnOk r Q
+on_ok (Ok a) f h = f h
+on_ok (Err e) f h = h
+
+pub learn_lays : (statements : List Statement) (layers : List Layer) (mid new : Sleeping) (place : ℕ) (ids : List Ident) → slice_get layers place ≡ Some (layer_of layers mid.space)
+    → LaysMore layers mid new → ((v : View) → AreKeys v mid.sleepers) → OfLayer layers place (λ l. (t : Thread) → Contains l.threads t → RestsOr statements layers new (named mid.space t.number))
+    → ((id : Ident) → id.space ≡ mid.space → top_able statements layers id ≡ true → Contains ids id) → Lays statements layers new ids
+learn_lays statements layers mid new place ids at more keys rests able =
+    lays_then statements layers mid new (ids ++ map (λ (t : Thread). named mid.space t.number) (layer_of layers mid.space).threads) ids more each (λ known. record {
+      keys = keys (view layers mid.space);
+      rest = rests_all statements layers mid.space (IsFound (view layers mid.space) mid.sleepers) ids;
+    })
+  where
+    each : (id : Ident) → Contains (ids ++ map (λ (t : Thread). named mid.space t.number) (layer_of layers mid.space).threads) id → Contains ids id ⊎ RestsIn statements layers new id
+    each id c = elim (In-cases id ids (map (λ (t : Thread). named mid.space t.number) (layer_of layers mid.space).threads) (In-from_contains (ids ++ map (λ (t : Thread). named mid.space t.number) (layer_of layers mid.space).threads) id c)) [
+      | inl k ↦ inl (contains-from_In ids id k)
+      | inr k ↦ (let t = in_map (λ (u : Thread). named mid.space u.number) (layer_of layers mid.space).threads id k in
+          elim (subst (RestsOr statements layers new) t.2 (rests (layer_of layers mid.space) at t.0 (contains-from_In (layer_of layers mid.space).threads t.0 t.1))) [
+            | inl e ↦ inl (able id (sym (ap (λ (o : Ident). o.space) t.2)) e)
+            | inr r ↦ inr r
+          ])
+    ]
+
+-- what can step is among those of which it is told exactly who can
+pub able_exact : (statements : List Statement) (layers : List Layer) (ids : List Ident) (id : Ident) (l : Layer) → IsExact statements layers ids → layer_at layers id.space ≡ Some l → is_open l.status ≡ true
+    → top_able statements layers id ≡ true → Contains ids id
+able_exact statements layers ids id l exact at opened able =
+    contains-from_In ids id (among_in ids id (exact id ∙ in_among (runnable statements layers) id (able_runs statements layers id l at opened able)))
