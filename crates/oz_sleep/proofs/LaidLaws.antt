@@ -3,7 +3,8 @@ use Rattle.std.proofs.Common.{◌≡◌, ◌⊎◌, inl, inr, ℕ, Bool, true, f
 use Rattle.std.specs.List.{list_any, list_all}
 use Rattle.std.specs.Result.{OnOk}
 use Rattle.std.proofs.lemmas.Bool.{false≢true}
-use Rattle.std.proofs.lemmas.List.{take_all}
+use Rattle.std.proofs.lemmas.List.{take_all, map-append, append_assoc}
+use Rattle.std.proofs.lemmas.List.Elements.{filter-append}
 use Rattle.oz_base.specs.Lists.{first, list_eq}
 use Rattle.oz_base.specs.declared.names.Ident.{Ident}
 use Rattle.oz_language.specs.declared.kernel.Statement.{Statement}
@@ -250,3 +251,11 @@ pub able_exact : (statements : List Statement) (layers : List Layer) (ids : List
     → top_able statements layers id ≡ true → Contains ids id
 able_exact statements layers ids id l exact at opened able =
     contains-from_In ids id (among_in ids id (exact id ∙ in_among (runnable statements layers) id (able_runs statements layers id l at opened able)))
+
+-- of the numbers so far those that pass, and the next
+pub filter_more : (p : Ident → Bool) (space : List ℕ) (ns : List ℕ) (i n : ℕ) (front all : List Ident) → take (i + 1) ns ≡ take i ns ++ n ∷ [] → all ≡ front ++ filter p (map (named space) (take i ns))
+    → all ++ (if p (named space n) then named space n ∷ [] else []) ≡ front ++ filter p (map (named space) (take (i + 1) ns))
+filter_more p space ns i n front all e k =
+    ap (λ (xs : List Ident). xs ++ (if p (named space n) then named space n ∷ [] else [])) k
+    ∙ append_assoc front (filter p (map (named space) (take i ns))) (if p (named space n) then named space n ∷ [] else [])
+    ∙ ap (λ (xs : List Ident). front ++ xs) (sym (ap (λ (ms : List ℕ). filter p (map (named space) ms)) e ∙ ap (filter p) (map-append (named space) (take i ns) (n ∷ [])) ∙ filter-append p (map (named space) (take i ns)) (named space n ∷ [])))
