@@ -1,5 +1,5 @@
 -- The queue after a step that told something, made from the threads that can step.
-use Rattle.std.proofs.Common.{◌≡◌, ◌⊎◌, inl, inr, ℕ, Bool, true, false, not, ◌||◌, cond, if◌then◌else◌, List, [], ◌∷◌, ◌++◌, map, filter, refl, sym, ap, ap₂, subst, ◌∙◌, Option, Some, None}
+use Rattle.std.proofs.Common.{◌≡◌, inl, inr, ℕ, Bool, true, false, not, ◌||◌, if◌then◌else◌, List, [], ◌∷◌, ◌++◌, map, filter, refl, sym, ap, ap₂, subst, ◌∙◌, Some}
 use Rattle.std.proofs.lemmas.List.Elements.{filter-append}
 use Rattle.oz_base.specs.Lists.{list_eq}
 use Rattle.oz_base.specs.declared.names.Ident.{Ident}
@@ -11,7 +11,6 @@ use Rattle.oz_laws.proofs.SameLaws.{In}
 use Rattle.view_laws.proofs.Members.{bool_eq, In-left, In-right, In-cases}
 use Rattle.view_laws.proofs.ListLaws.{among_in, in_among, filter_in, in_filter, filter_none}
 use Rattle.view_laws.proofs.NameLaws.{names_equal}
-use Rattle.turn_laws.specs.Telling.{others_of}
 use Rattle.sleep_laws.specs.Woken.{top_able, is_asked_still, rest_asked, told_queue}
 use Rattle.sleep_laws.proofs.WakesLaws.{filter_same, named_in}
 
@@ -57,13 +56,13 @@ module _ (statements : List Statement) (layers : List Layer) (mover : Ident) (nu
 
   queue_still : (o : Ident) → In o queue → is_among all_able o ≡ still o
   queue_still o h = bool_eq _ _
-    (λ e. all_still o (among_in all_able o e))
-    (λ e. in_among all_able o (In-left o stay (filter able names) (In-left o (filter still queue) moves (in_filter still queue o h e))))
+      (λ e. all_still o (among_in all_able o e))
+      (λ e. in_among all_able o (In-left o stay (filter able names) (In-left o (filter still queue) moves (in_filter still queue o h e))))
 
   mover_able : is_among all_able mover ≡ able mover
   mover_able = bool_eq _ _
-    (λ e. sym (own_still mover refl) ∙ all_still mover (among_in all_able mover e))
-    (λ e. in_among all_able mover (In-left mover stay (filter able names) (In-right mover (filter still queue) moves (subst (λ (b : Bool). In mover (if b then mover ∷ [] else [])) (sym e) (inl refl)))))
+      (λ e. sym (own_still mover refl) ∙ all_still mover (among_in all_able mover e))
+      (λ e. in_among all_able mover (In-left mover stay (filter able names) (In-right mover (filter still queue) moves (subst (λ (b : Bool). In mover (if b then mover ∷ [] else [])) (sym e) (inl refl)))))
 
   stays : filter (is_among all_able) queue ++ mover_in (Some mover) all_able ≡ stay
   stays = ap₂ (λ (xs ys : List Ident). xs ++ ys) (filter_same (is_among all_able) still queue queue_still) (ap (λ (b : Bool). if b then mover ∷ [] else []) mover_able)

@@ -1,24 +1,23 @@
 -- Who sleeps after a step.
-use Rattle.std.proofs.Common.{◌≡◌, ◌⊎◌, inl, inr, ℕ, Bool, true, false, List, [], ◌∷◌, ◌++◌, map, refl, sym, ap, ap₂, subst, ◌∙◌, Contains, Option, Some, None}
+use Rattle.std.proofs.Common.{◌≡◌, ◌⊎◌, inl, inr, ℕ, List, [], ◌∷◌, ◌++◌, map, refl, sym, ap, subst, ◌∙◌, Contains}
 use Rattle.std.proofs.lemmas.Bool.{false≢true}
 use Rattle.oz_base.specs.declared.names.Ident.{Ident}
 use Rattle.oz_language.specs.declared.kernel.Statement.{Statement}
 use Rattle.oz_semantics.specs.Names.{named}
-use Rattle.oz_semantics.specs.Configurations.{layer_of, thread_at, frames_in, stack_of, view}
-use Rattle.oz_semantics.specs.Sights.{can_step}
-use Rattle.oz_semantics.specs.Spaces.{states_of, thread_ready}
+use Rattle.oz_semantics.specs.Configurations.{layer_of, frames_in, stack_of, view}
+use Rattle.oz_semantics.specs.Spaces.{states_of}
 use Rattle.oz_semantics.specs.declared.value.Tell.{Tell}
 use Rattle.oz_semantics.specs.declared.configuration.Frame.{Frame}
 use Rattle.oz_semantics.specs.declared.configuration.Thread.{Thread}
 use Rattle.oz_semantics.specs.declared.configuration.Layer.{Layer}
-use Rattle.oz_laws.specs.Touched.{Meets, Touches}
-use Rattle.oz_laws.proofs.SameLaws.{In, In-from_contains, contains-from_In}
+use Rattle.oz_laws.specs.Touched.{Touches}
+use Rattle.oz_laws.proofs.SameLaws.{In-from_contains, contains-from_In}
 use Rattle.view_laws.specs.Readies.{SameClasses}
 use Rattle.view_laws.specs.Steps.{IsNumbered}
 use Rattle.view_laws.proofs.Members.{In-left, In-right}
 use Rattle.view_laws.proofs.ListLaws.{map_in}
 use Rattle.view_laws.proofs.NumberLaws.{first_numbered}
-use Rattle.sleep_laws.specs.Asleep.{IsAsleep, SleepsOn, IsOf, LeavesTold, LeavesThreads, thread_of, AreAtRest, AreForewarned}
+use Rattle.sleep_laws.specs.Asleep.{IsAsleep, SleepsOn, LeavesTold, LeavesThreads, thread_of, AreAtRest, AreForewarned}
 use Rattle.sleep_laws.specs.Woken.{WakesThese}
 use Rattle.sleep_laws.proofs.AsleepLaws.{asleep_rests, stays_asleep}
 

@@ -1,5 +1,5 @@
 -- What a step that tells something makes of the queue, where it is known which threads of the space may wake.
-use Rattle.std.specs.Prelude.{ℕ, ◌≡◌, ◌⊎◌, Bool, true, false, not, ◌||◌, if◌then◌else◌, List, [], ◌∷◌, ◌++◌, Contains, filter, map}
+use Rattle.std.specs.Prelude.{ℕ, ◌≡◌, ◌⊎◌, Bool, true, false, not, ◌||◌, if◌then◌else◌, List, [], ◌∷◌, ◌++◌, Contains, Some, filter, map}
 use Rattle.oz_base.specs.Lists.{list_eq}
 use Rattle.oz_base.specs.declared.names.Ident.{Ident}
 use Rattle.oz_language.specs.declared.kernel.Statement.{Statement}
@@ -11,7 +11,7 @@ use Rattle.oz_semantics.specs.Statements.{stack_answer}
 use Rattle.oz_semantics.specs.Readiness.{answer_ready}
 use Rattle.oz_semantics.specs.Spaces.{sight, thread_ready}
 use Rattle.oz_semantics.specs.Changes.{Change, done}
-use Rattle.oz_semantics.specs.Settling.{Turned, is_among, runnable_in}
+use Rattle.oz_semantics.specs.Settling.{Turned, is_among, queue_after, runnable_in}
 use Rattle.oz_semantics.specs.Steps.{without_top, went_on}
 use Rattle.oz_semantics.specs.declared.value.Tell.{Tell}
 use Rattle.oz_semantics.specs.declared.configuration.Thread.{Thread}
@@ -60,6 +60,13 @@ rest_asked statements layers id queue = filter (is_asked_still statements layers
 abbrev pub told_queue : List Statement → List Layer → Ident → List ℕ → List Ident → List Ident
 told_queue statements layers id numbers queue =
     rest_asked statements layers id queue ++ others_of (rest_asked statements layers id queue) (filter (top_able statements layers) (map (named id.space) numbers))
+
+-- It is what the queue becomes where all of these that can step join it
+abbrev pub ToldRequeues : Type 0
+ToldRequeues =
+    (statements : List Statement) (layers : List Layer) (id : Ident) (numbers : List ℕ) (queue : List Ident)
+    → queue_after (rest_asked statements layers id queue ++ filter (top_able statements layers) (map (named id.space) numbers)) (Some id) queue
+    ≡ told_queue statements layers id numbers queue
 
 -- each thread of the space is the one that stepped, or of the rest of the queue, or has one of the numbers, or can't step
 abbrev pub WakesThese : List Statement → List Layer → Ident → List Ident → List ℕ → Type 0

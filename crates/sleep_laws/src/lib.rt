@@ -5,7 +5,7 @@
 
 ghost use Rattle.sleep_laws.specs.Asleep.{AsleepRests, StaysAsleep, ToldLeft, QuietLeft, StackLeft};
 ghost use Rattle.sleep_laws.specs.Touching.{ValueTouches, EquationTouches};
-ghost use Rattle.sleep_laws.specs.Woken.{WokenOthers, TellWakes, TellWakesAwake};
+ghost use Rattle.sleep_laws.specs.Woken.{WokenOthers, ToldRequeues, TellWakes, TellWakesAwake};
 
 /// Threads that sleep can't step, and which steps leave them asleep. Nothing: it holds laws.
 pub fn asleep_law()
@@ -19,6 +19,7 @@ pub fn asleep_law()
 /// What a step that tells something makes of the queue, where it is known whom it may wake. Nothing: it holds laws.
 pub fn woken_law()
     ensures others { WokenOthers }
+    ensures requeues { ToldRequeues }
     ensures tell { TellWakes }
     ensures awake { TellWakesAwake }
 {}

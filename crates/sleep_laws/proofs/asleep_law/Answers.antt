@@ -1,5 +1,4 @@
 use Rattle.sleep_laws.proofs.AsleepLaws.{asleep_rests, stays_asleep}
-use Rattle.sleep_laws.proofs.RestLaws.{own_stack}
 use Rattle.sleep_laws.proofs.LeftLaws.{told_left, changes_left, stack_left}
 use Rattle.sleep_laws.proofs.asleep_law.Goals as goal
 
