@@ -1,9 +1,8 @@
-use Rattle.std.proofs.Common.{◌≡◌, ◌∙◌, ◌+◌, ◌++◌, inl, inr, if◌then◌else◌, List, ℕ, [], ◌∷◌, Contains, take, length, ◌≤◌, map, filter, refl, sym, ap, ap₂, subst}
-use Rattle.std.proofs.lemmas.List.{append-nil}
+use Rattle.std.proofs.Common.{◌≡◌, ◌∙◌, ◌+◌, ◌++◌, inl, inr, if◌then◌else◌, List, ℕ, [], ◌∷◌, Contains, take, get_or, length, ◌≤◌, map, filter, refl, sym, ap, ap₂, subst}
+use Rattle.std.proofs.lemmas.List.{append-nil, take_all, take_more}
 use Rattle.oz_base.specs.declared.names.Ident.{Ident}
 use Rattle.oz_semantics.specs.Names.{named}
 use Rattle.oz_laws.proofs.SameLaws.{In-from_contains}
-use Rattle.suspension.proofs.KeyLaws.{taken_item}
 use Rattle.sleep_laws.specs.Woken.{top_able}
 use Rattle.oz_sleep.specs.Laid.{RestsOr}
 use Rattle.oz_sleep.proofs.LaidLaws.{more_itself, more_then, or_then, taken_more, taken_all, filter_more}
@@ -17,10 +16,34 @@ loop-number-init c = record {
 }
 
 pub loop-number-preserved : goal.loop-number-preserved
-loop-number-preserved c = ?
+loop-number-preserved c =
+    let statements = c.args.statements.now in
+    let levels = c.args.levels.now in
+    let space = c.args.space.now in
+    let woken = c.args.woken.now in
+    let i = c.loop-number.number-index in
+    let n : ℕ = get_or woken i 0 in
+    let own : c.in_ok-copied.field-0 ≡ space = c.in_ok-copied.ensures in
+    let more : take (i + 1) woken ≡ take i woken ++ n ∷ [] = take_more woken i 0 c.loop-number-test.true in
+    let step = c.in_ok-add_able.ensures in
+    record {
+      able =
+          step.able
+          ∙ ap (λ (s : List ℕ). c.loop-number.able.items ++ (if top_able statements levels (named s n) then named s n ∷ [] else [])) own
+          ∙ filter_more (top_able statements levels) space woken i n c.args.able.now.items c.loop-number.able.items more c.loop-number.invariant.able;
+      more = more_then levels c.args.sleeping.now c.loop-number.sleeping c.add_able.new.sleeping c.loop-number.invariant.more c.add_able.ensures.more;
+      rests = λ m h. elim (taken_more woken i n m more h) [
+        | inl k ↦ or_then statements levels c.loop-number.sleeping c.add_able.new.sleeping (named space m) c.add_able.ensures.more (c.loop-number.invariant.rests m k)
+        | inr q ↦ subst (λ (k : ℕ). RestsOr statements levels c.add_able.new.sleeping (named space k)) (sym q)
+          (subst (λ (s : List ℕ). RestsOr statements levels c.add_able.new.sleeping (named s n)) own step.rests)
+      ];
+    }
 
 pub returns-clause-able : goal.returns-clause-able
-returns-clause-able c = ?
+returns-clause-able c =
+    let woken = c.args.woken.now in
+    c.loop-number.invariant.able
+    ∙ ap (λ (ns : List ℕ). c.args.able.now.items ++ filter (top_able c.args.statements.now c.args.levels.now) (map (named c.args.space.now) ns)) (take_all c.loop-number.number-index woken c.loop-number-test.false)
 
 pub returns-clause-more : goal.returns-clause-more
 returns-clause-more c = c.loop-number.invariant.more
