@@ -1,7 +1,6 @@
 -- The way to a node: the nodes on it, from the root on.
-use Rattle.std.specs.Prelude.{◌≡◌, ℕ, zero, suc, ◌==◌, ◌&&◌, Bool, true, false, if◌then◌else◌, List, [], ◌∷◌, Option, Some, None, length}
+use Rattle.std.specs.Prelude.{◌≡◌, ℕ, suc, ◌==◌, ◌&&◌, Bool, true, false, if◌then◌else◌, List, [], ◌∷◌, Option, Some, None, length}
 use lib.Dec.{leb}
-use Rattle.oz_language.specs.declared.kernel.Kernel.{Kernel}
 use Rattle.oz_search.specs.Paths.{is_among}
 use Rattle.oz_search.specs.Nodes.{Reached, Met, Node, OutOfFuel, NotANode, met_by_kind, met_from}
 use Rattle.oz_search.specs.Plain.{outcomes}

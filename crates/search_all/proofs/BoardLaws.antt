@@ -1,10 +1,12 @@
 -- That threads may share a board, since machines may cross.
 use denote.RattleType.{RattleType}
-use denote.Builtin.{u8, u32, u64}
+use denote.Builtin.{unit, u8, u32}
 use denote.Param.SendFields.{declared_send, declared_sync, variants_send, variants_sync}
 use denote.Param.Send.{IsSend, IsSync, sendable, view_send, view_sync}
-use Rattle.std.proofs.Crossing.{Vec-send, Arc-send, crosses}
+use Rattle.std.proofs.Crossing.{Vec-send, Vec-sync, Arc-send, crosses}
 use Rattle.pool_state.specs.contracts.path.Path as path
+use Rattle.pool_state.specs.contracts.plain.Plain as plain
+use Rattle.pool_state.specs.contracts.plain.PlainSearchKind as its_kind
 use Rattle.oz_base.specs.contracts.sequence.Sequence as sequence
 use Rattle.oz_base.specs.contracts.shared.Shared as shared
 use Rattle.oz_search.specs.contracts.leaf.Outcome as outcome
@@ -51,11 +53,16 @@ waypoint_send m = declared_send waypoint.the_type (search sendable, (m, (report_
 waypoint_sync : IsSync machine.the_row → IsSync waypoint.the_row
 waypoint_sync m = declared_sync waypoint.the_type (search sendable, (m, (report_sync, tt)))
 
-path_send : IsSend path.the_row
-path_send = search (crosses, sendable) depth 40
+-- ---- a path of plain search
 
-path_sync : IsSync path.the_row
-path_sync = search (crosses, sendable) depth 40
+abbrev path_row : RattleType
+path_row = path.the_row plain.the_row u32 outcome.the_row unit its_kind.TheImpl.ghosts
+
+path_send : IsSend path_row
+path_send = view_send _ _ _ _ _ (declared_send (path.TheInside.the_type plain.the_row u32 outcome.the_row unit its_kind.TheImpl.ghosts) (Vec-send u32 (search sendable), tt))
+
+path_sync : IsSync path_row
+path_sync = view_sync _ _ _ _ _ (declared_sync (path.TheInside.the_type plain.the_row u32 outcome.the_row unit its_kind.TheImpl.ghosts) (Vec-sync u32 (search sendable), tt))
 
 module _ (S : RattleType) (its : start.Ghosts S.Denot) where
   placed_send : IsSend machine.the_row → IsSend (placed.the_row S its)

@@ -1,5 +1,5 @@
 -- What a search finds, and what a worker has found out at its end.
-use Rattle.std.specs.Prelude.{◌≡◌, ◌⊎◌, ℕ, List, Option, Some, None}
+use Rattle.std.specs.Prelude.{◌≡◌, ◌⊎◌, ℕ, List, Option, Some}
 use Rattle.oz_search.specs.Histories.{History, IsNothingOpen, IsNothingOut, stop_of}
 use Rattle.oz_search.specs.Leaves as noted
 use Rattle.oz_search.specs.Plain.{outcomes, itself}

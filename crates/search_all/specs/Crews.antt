@@ -1,5 +1,5 @@
 -- Workers that explore one tree.
-use Rattle.std.specs.Prelude.{◌≡◌, ℕ, ◌<◌, ◌≤◌, ◌⊎◌, true, Option, Some, None, Result, Ok, Err}
+use Rattle.std.specs.Prelude.{◌≡◌, ℕ, ◌<◌, ◌≤◌, ◌⊎◌, true, Some, None, Result, Ok, Err}
 use Rattle.turn_lock.specs.Views.{has}
 use Rattle.pool_state.specs.declared.pool.Settled.{Settled}
 use Rattle.pool_state.specs.declared.pool.Settled.TheVariants as settled
