@@ -259,3 +259,25 @@ filter_more p space ns i n front all e k =
     ap (λ (xs : List Ident). xs ++ (if p (named space n) then named space n ∷ [] else [])) k
     ∙ append_assoc front (filter p (map (named space) (take i ns))) (if p (named space n) then named space n ∷ [] else [])
     ∙ ap (λ (xs : List Ident). front ++ xs) (sym (ap (λ (ms : List ℕ). filter p (map (named space) ms)) e ∙ ap (filter p) (map-append (named space) (take i ns) (n ∷ [])) ∙ filter-append p (map (named space) (take i ns)) (named space n ∷ [])))
+
+-- The next of the queue is asked
+
+pub filter_stays : (p : Ident → Bool) (all able queue rest : List Ident) (id : Ident) → queue ≡ id ∷ rest → true ≡ p id → all ≡ able ++ filter p queue → all ≡ (able ++ id ∷ []) ++ filter p rest
+filter_stays p all able queue rest id e k h =
+    h ∙ ap (λ (os : List Ident). able ++ filter p os) e ∙ ap (λ (b : Bool). able ++ (if b then id ∷ filter p rest else filter p rest)) (sym k) ∙ sym (append_assoc able (id ∷ []) (filter p rest))
+
+pub filter_leaves : (p : Ident → Bool) (all able queue rest : List Ident) (id : Ident) → queue ≡ id ∷ rest → false ≡ p id → all ≡ able ++ filter p queue → all ≡ able ++ filter p rest
+filter_leaves p all able queue rest id e k h =
+    h ∙ ap (λ (os : List Ident). able ++ filter p os) e ∙ ap (λ (b : Bool). able ++ (if b then id ∷ filter p rest else filter p rest)) (sym k)
+
+pub passed : (P : Ident → Type 0) (queue rest : List Ident) (id : Ident) → queue ≡ id ∷ rest → P id → (o : Ident) → Contains queue o → Contains rest o ⊎ P o
+passed P queue rest id e p o c = elim (In-from_contains (id ∷ rest) o (subst (λ (os : List Ident). Contains os o) e c)) [
+  | inl q ↦ inr (subst P q p)
+  | inr i ↦ inl (contains-from_In rest o i)
+]
+
+pub asked_then : (statements : List Statement) (layers : List Layer) (s t : Sleeping) (p : Ident → Bool) (queue rest : List Ident) (id o : Ident) → LaysMore layers s t → queue ≡ id ∷ rest
+    → (p id ≡ true) ⊎ RestsIn statements layers t id → Contains queue o ⊎ (p o ≡ true) ⊎ RestsIn statements layers s o → Contains rest o ⊎ (p o ≡ true) ⊎ RestsIn statements layers t o
+asked_then statements layers s t p queue rest id o more e now (inl c) = passed (λ (x : Ident). (p x ≡ true) ⊎ RestsIn statements layers t x) queue rest id e now o c
+asked_then statements layers s t p queue rest id o more e now (inr (inl k)) = inr (inl k)
+asked_then statements layers s t p queue rest id o more e now (inr (inr r)) = inr (inr (rests_then statements layers s t o more r))
