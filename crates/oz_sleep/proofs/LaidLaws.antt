@@ -1,7 +1,7 @@
 -- Who sleeps, and is found.
 use Rattle.std.proofs.Common.{◌≡◌, ◌⊎◌, inl, inr, ℕ, Bool, true, false, not, ◌&&◌, if◌then◌else◌, List, [], ◌∷◌, ◌++◌, ◌+◌, ◌≤◌, length, take, map, filter, refl, sym, ap, ap₂, subst, ◌∙◌, Contains, Option, Some, None, unwrap_or, slice_get, Result, Ok, Err}
 use Rattle.std.specs.List.{list_any, list_all}
-use Rattle.std.specs.Result.{OnOk}
+use Rattle.std.specs.Result.{OnOk, OnErr}
 use Rattle.std.proofs.lemmas.Bool.{false≢true}
 use Rattle.std.proofs.lemmas.List.{take_all, map-append, append_assoc}
 use Rattle.std.proofs.lemmas.List.Elements.{filter-append}
@@ -16,7 +16,7 @@ use Rattle.oz_semantics.specs.Answers.{Answer}
 use Rattle.oz_semantics.specs.Statements.{stack_answer, code_answer}
 use Rattle.oz_semantics.specs.Readiness.{answer_ready}
 use Rattle.oz_semantics.specs.Spaces.{sight}
-use Rattle.oz_semantics.specs.Settling.{is_among, runnable}
+use Rattle.oz_semantics.specs.Settling.{is_among, queue_after, runnable}
 use Rattle.oz_semantics.specs.declared.value.Tell.{Tell}
 use Rattle.oz_semantics.specs.declared.configuration.Frame.{Frame}
 use Rattle.oz_semantics.specs.declared.configuration.Thread.{Thread}
@@ -28,6 +28,7 @@ use Rattle.view_laws.proofs.ListLaws.{among_in, in_among, filter_in, in_filter, 
 use Rattle.view_laws.proofs.NameLaws.{names_equal, equal_names}
 use Rattle.view_laws.proofs.ViewLaws.{determined_same}
 use Rattle.view_laws.specs.Queues.{IsExact}
+use Rattle.view_laws.proofs.QueueLaws.{queue_exact}
 use Rattle.quiet_laws.proofs.AwakeLaws.{able_runs}
 use Rattle.space_core.specs.Levels.{OfLayer}
 use Rattle.sleep_laws.proofs.RestLaws.{rests_all}
@@ -85,8 +86,7 @@ more_then layers s t u one other known =
 pub rests_then : (statements : List Statement) (layers : List Layer) (s t : Sleeping) (id : Ident) → LaysMore layers s t → RestsIn statements layers s id → RestsIn statements layers t id
 rests_then statements layers s t id more rests known own =
     let m = more known in
-    let r = rests m.known (own ∙ m.space) in
-    (
+    let r = rests m.known (own ∙ m.space) in (
       r.0,
       subst (λ (sp : List ℕ). IsAsleep statements sp (view layers sp) (thread_of layers id) r.0) (sym m.space) r.1,
       subst (λ (sp : List ℕ). IsFound (view layers sp) t.sleepers id.number r.0) (sym m.space) (m.found id.number r.0 r.2),
@@ -108,17 +108,17 @@ lays_then statements layers s t ids others more each lays known =
     record {
       keys = subst (λ (sp : List ℕ). AreKeys (view layers sp) t.sleepers) (sym m.space) (m.keys l.keys);
       rest = subst (λ (sp : List ℕ). AreAtRest statements layers sp (IsFound (view layers sp) t.sleepers) others) (sym m.space)
-      (λ u c. elim (l.rest u c) [
-        | inl k ↦ elim (each (named s.space u.number) k) [
-          | inl h ↦ inl h
-          | inr h ↦ (let r = h known (sym m.space) in inr (
-              r.0,
-              subst (λ (sp : List ℕ). IsAsleep statements sp (view layers sp) (thread_of layers (named s.space u.number)) r.0) m.space r.1,
-              subst (λ (sp : List ℕ). IsFound (view layers sp) t.sleepers u.number r.0) m.space r.2,
-            ))
-        ]
-        | inr k ↦ inr (k.0, k.1, m.found u.number k.0 k.2)
-      ]);
+          (λ u c. elim (l.rest u c) [
+            | inl k ↦ elim (each (named s.space u.number) k) [
+              | inl h ↦ inl h
+              | inr h ↦ (let r = h known (sym m.space) in inr (
+                r.0,
+                subst (λ (sp : List ℕ). IsAsleep statements sp (view layers sp) (thread_of layers (named s.space u.number)) r.0) m.space r.1,
+                subst (λ (sp : List ℕ). IsFound (view layers sp) t.sleepers u.number r.0) m.space r.2,
+              ))
+            ]
+            | inr k ↦ inr (k.0, k.1, m.found u.number k.0 k.2)
+          ]);
     }
 
 -- One that is put down
@@ -138,8 +138,7 @@ module _ (layers : List Layer) (statements : List Statement) (id : Ident) (old n
 
   pub put_rests : ready ≡ answer_ready (stack_answer (sight statements layers id.space) (stack_of layers id)) → RestsIn statements layers new id
   put_rests e known place =
-      let seen : view layers id.space ≡ view layers new.space = ap (view layers) place in
-      (
+      let seen : view layers id.space ≡ view layers new.space = ap (view layers) place in (
         puts.variables,
         subst (λ (sp : List ℕ). IsAsleep statements sp (view layers sp) (thread_of layers id) puts.variables) place (record {
           waits = rests_by (stack_answer (sight statements layers id.space) (stack_of layers id)) ∙ ap waits_only (sym e) ∙ puts.waits;
@@ -281,3 +280,52 @@ pub asked_then : (statements : List Statement) (layers : List Layer) (s t : Slee
 asked_then statements layers s t p queue rest id o more e now (inl c) = passed (λ (x : Ident). (p x ≡ true) ⊎ RestsIn statements layers t x) queue rest id e now o c
 asked_then statements layers s t p queue rest id o more e now (inr (inl k)) = inr (inl k)
 asked_then statements layers s t p queue rest id o more e now (inr (inr r)) = inr (inr (rests_then statements layers s t o more r))
+
+-- All who were asked after a tell
+
+pub on_err : {A E P : Type 0} (r : Result A E) → P → OnErr r P
+on_err (Ok a) h = tt
+on_err (Err e) h = h
+
+pub lays_on : (statements : List Statement) (layers : List Layer) (s t : Sleeping) (ids : List Ident) → LaysMore layers s t → Lays statements layers s ids → Lays statements layers t ids
+lays_on statements layers s t ids more lays = lays_then statements layers s t ids ids more (λ id c. inl c) lays
+
+module _ (statements : List Statement) (layers : List Layer) (old new : Sleeping) (mover : Ident) (numbers : List ℕ) (queue after : List Ident)
+    (asked : (o : Ident) → Contains queue o → (is_asked_still statements layers mover.space o ≡ true) ⊎ RestsIn statements layers new o) (moves : RestsOr statements layers new mover)
+    (wakes : (n : ℕ) → Contains numbers n → RestsOr statements layers new (named mover.space n))
+    (is : after ≡ queue_after (rest_asked statements layers mover queue ++ filter (top_able statements layers) (map (named mover.space) numbers)) (Some mover) queue) where
+  abbrev names : List Ident
+  names = map (named mover.space) numbers
+
+  abbrev all : List Ident
+  all = rest_asked statements layers mover queue ++ filter (top_able statements layers) names
+
+  in_after : (o : Ident) → In o all → Contains after o
+  in_after o i =
+      contains-from_In after o (among_in after o (ap (λ (q : List Ident). is_among q o) is ∙ queue_exact all (Some mover) queue o ∙ in_among all o i))
+
+  in_rest : (o : Ident) → In o (rest_asked statements layers mover queue) → Contains after o
+  in_rest o i = in_after o (In-left o (rest_asked statements layers mover queue) (filter (top_able statements layers) names) i)
+
+  each_asked : (o : Ident) → Contains (queue ++ mover ∷ names) o → Contains after o ⊎ RestsIn statements layers new o
+  each_asked o c = elim (In-cases o queue (mover ∷ names) (In-from_contains (queue ++ mover ∷ names) o c)) [
+    | inl k ↦ elim (asked o (contains-from_In queue o k)) [
+      | inl e ↦ inl (in_rest o (In-left o (filter (is_asked_still statements layers mover.space) queue) (if top_able statements layers mover then mover ∷ [] else []) (in_filter (is_asked_still statements layers mover.space) queue o k e)))
+      | inr r ↦ inr r
+    ]
+    | inr k ↦ elim k [
+      | inl q ↦ elim moves [
+        | inl e ↦ inl (in_rest o (In-right o (filter (is_asked_still statements layers mover.space) queue) (if top_able statements layers mover then mover ∷ [] else [])
+            (subst (λ (b : Bool). In o (if b then mover ∷ [] else [])) (sym e) (inl q))))
+        | inr r ↦ inr (subst (RestsIn statements layers new) q r)
+      ]
+      | inr i ↦ (let n = in_map (named mover.space) numbers o i in
+          elim (subst (RestsOr statements layers new) n.2 (wakes n.0 (contains-from_In numbers n.0 n.1))) [
+            | inl e ↦ inl (in_after o (In-right o (rest_asked statements layers mover queue) (filter (top_able statements layers) names) (in_filter (top_able statements layers) names o i e)))
+            | inr r ↦ inr r
+          ])
+    ]
+  ]
+
+  pub told_lays : LaysMore layers old new → Lays statements layers old (queue ++ mover ∷ map (named mover.space) numbers) → Lays statements layers new after
+  told_lays more lays = lays_then statements layers old new (queue ++ mover ∷ names) after more each_asked lays

@@ -35,7 +35,7 @@ loop-number-preserved c =
       rests = λ m h. elim (taken_more woken i n m more h) [
         | inl k ↦ or_then statements levels c.loop-number.sleeping c.add_able.new.sleeping (named space m) c.add_able.ensures.more (c.loop-number.invariant.rests m k)
         | inr q ↦ subst (λ (k : ℕ). RestsOr statements levels c.add_able.new.sleeping (named space k)) (sym q)
-          (subst (λ (s : List ℕ). RestsOr statements levels c.add_able.new.sleeping (named s n)) own step.rests)
+            (subst (λ (s : List ℕ). RestsOr statements levels c.add_able.new.sleeping (named s n)) own step.rests)
       ];
     }
 

@@ -67,6 +67,6 @@ returns-clause-rests c =
     let ready : Readiness = answer_ready (code_answer (record { statements = statements; space = id.space; view = store }) frame.environment frame.code) in
     elim c.if-attends.branch [
       | then-attends w ↦ rw w.self-is (λ none. lay_rests statements levels id c.args.self.now w.lay.new.self store ready seen (sym c.attends.ensures ∙ w.if-attends.true) (w.lay.ensures ready c.in_ok-ready.ensures)
-        (ready_is statements levels id store frame seen c.in-Some-top_frame.ensures))
+          (ready_is statements levels id store frame seen c.in-Some-top_frame.ensures))
       | else-attends w ↦ rw w.self-is (λ none. other_rests statements levels c.args.self.now id (sym c.attends.ensures ∙ w.if-attends.false))
     ]

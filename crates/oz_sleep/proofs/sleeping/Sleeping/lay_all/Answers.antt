@@ -34,7 +34,7 @@ loop-thread-preserved c =
           elim (taken_more items i item t (taken_item items i item c.loop-thread-test.true c.thread-item.is) (subst (λ (zs : List Thread). Contains (take (i + 1) zs) t) (sym are) h)) [
             | inl k ↦ or_then statements levels old new (named first.space t.number) step (c.loop-thread.invariant.rests l at t (subst (λ (zs : List Thread). Contains (take i zs) t) are k))
             | inr q ↦ subst (λ (u : Thread). RestsOr statements levels new (named first.space u.number)) (sym q)
-              (subst (λ (s : List ℕ). RestsOr statements levels new (named s item.number)) place (or_from statements levels new (named c.in_ok-copied.field-0 item.number) c.lay_down.ensures.rests))
+                (subst (λ (s : List ℕ). RestsOr statements levels new (named s item.number)) place (or_from statements levels new (named c.in_ok-copied.field-0 item.number) c.lay_down.ensures.rests))
           ];
     }
 
