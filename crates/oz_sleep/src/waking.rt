@@ -17,7 +17,9 @@ use space_core::Levels;
 use std::alloc::{AllocError, Global};
 use term_store::Store;
 
-fn two(alloc: Global, left: Ident, right: Ident) -> Result<Vec<Ident>, AllocError> {
+fn two(alloc: Global, left: Ident, right: Ident) -> Result<Vec<Ident>, AllocError>
+    ensures { IfOk result (λ both. both.items ≡ left ∷ right ∷ []) }
+{
     let mut both = Vec::new(alloc);
     both.push(left)?;
     both.push(right)?;
