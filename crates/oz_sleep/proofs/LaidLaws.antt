@@ -9,22 +9,20 @@ use Rattle.oz_base.specs.Lists.{first, list_eq}
 use Rattle.oz_base.specs.declared.names.Ident.{Ident}
 use Rattle.oz_language.specs.declared.kernel.Statement.{Statement}
 use Rattle.oz_semantics.specs.Names.{named}
-use Rattle.oz_semantics.specs.Store.{View, Same, itself, reversed, joined, same, is_determined}
+use Rattle.oz_semantics.specs.Store.{View, Same, itself, joined, same, is_determined}
 use Rattle.oz_semantics.specs.Configurations.{is_open, layer_at, layer_of, thread_at, frames_in, new_layer, stack_of, view}
 use Rattle.oz_semantics.specs.Sights.{Sight, Readiness, can_step}
-use Rattle.oz_semantics.specs.Answers.{Answer}
 use Rattle.oz_semantics.specs.Statements.{stack_answer, code_answer}
 use Rattle.oz_semantics.specs.Readiness.{answer_ready}
 use Rattle.oz_semantics.specs.Spaces.{sight}
 use Rattle.oz_semantics.specs.Settling.{is_among, queue_after, runnable}
-use Rattle.oz_semantics.specs.declared.value.Tell.{Tell}
 use Rattle.oz_semantics.specs.declared.configuration.Frame.{Frame}
 use Rattle.oz_semantics.specs.declared.configuration.Thread.{Thread}
 use Rattle.oz_semantics.specs.declared.configuration.Layer.{Layer}
 use Rattle.oz_laws.proofs.SameLaws.{In, In-from_contains, contains-from_In, and-left, and-right, tests_same}
 use Rattle.view_laws.specs.Readies.{SameClasses}
 use Rattle.view_laws.proofs.Members.{decide, not_both, each, some_of, by_some, In-left, In-right, In-cases}
-use Rattle.view_laws.proofs.ListLaws.{among_in, in_among, filter_in, in_filter, in_map, map_in}
+use Rattle.view_laws.proofs.ListLaws.{among_in, in_among, in_filter, in_map}
 use Rattle.view_laws.proofs.NameLaws.{names_equal, equal_names}
 use Rattle.view_laws.proofs.ViewLaws.{determined_same}
 use Rattle.view_laws.specs.Queues.{IsExact}
@@ -32,13 +30,12 @@ use Rattle.view_laws.proofs.QueueLaws.{queue_exact}
 use Rattle.quiet_laws.proofs.AwakeLaws.{able_runs}
 use Rattle.space_core.specs.Levels.{OfLayer}
 use Rattle.sleep_laws.proofs.RestLaws.{rests_all}
-use Rattle.suspension.specs.Sleeping.{AreKeys, IsFoundBy, IsFound, FallsAsleep}
+use Rattle.suspension.specs.Sleeping.{AreKeys, IsFound}
 use Rattle.suspension.specs.declared.sleepers.Sleepers.{Sleepers}
 use Rattle.sleep_laws.specs.Asleep.{waits_only, rests_for, IsAsleep, thread_of, AreAtRest}
-use Rattle.sleep_laws.specs.Woken.{top_able, is_asked_still, rest_asked, told_queue}
-use Rattle.turn_laws.specs.Telling.{others_of}
+use Rattle.sleep_laws.specs.Woken.{top_able, is_asked_still, rest_asked}
 use Rattle.sleep_laws.proofs.AsleepLaws.{rests_by}
-use Rattle.oz_sleep.specs.Laid.{AreLaid, Lays, RestsIn, RestsOr, LaidMore, LaysMore, PutsDown}
+use Rattle.oz_sleep.specs.Laid.{Lays, RestsIn, RestsOr, LaysMore, PutsDown}
 use Rattle.oz_sleep.specs.declared.sleeping.Sleeping.{Sleeping}
 
 -- Classes

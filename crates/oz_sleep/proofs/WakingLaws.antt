@@ -1,5 +1,5 @@
 -- Who may wake by what a thread is about to tell.
-use Rattle.std.proofs.Common.{◌≡◌, ◌⊎◌, inl, inr, ℕ, suc, ◌<◌, true, false, ◌&&◌, List, [], ◌∷◌, length, refl, sym, ap, subst, ◌∙◌, arith, Contains, AllPairs, Option, Some, None, is_some, option_copied, Bor, slice_get, position, Result, Ok, Err, IfOk, IfSome}
+use Rattle.std.proofs.Common.{◌≡◌, ◌⊎◌, inl, inr, ℕ, suc, ◌<◌, true, false, ◌&&◌, List, [], ◌∷◌, refl, sym, ap, subst, ◌∙◌, arith, AllPairs, Option, Some, None, is_some, option_copied, Bor, slice_get, position, Result, Ok, Err, IfOk, IfSome}
 use Rattle.std.proofs.lemmas.List.Elements.{All-contains}
 use Rattle.std.proofs.lemmas.List.Kept.{AllPairs-from_increasing}
 use Rattle.oz_base.specs.Lists.{list_eq}
@@ -9,7 +9,7 @@ use Rattle.oz_semantics.specs.Store.{View, told_value}
 use Rattle.oz_semantics.specs.Configurations.{is_of, layer_of, view, content_of, end_of}
 use Rattle.oz_semantics.specs.Answers.{Act}
 use Rattle.oz_semantics.specs.Changes.{Change}
-use Rattle.oz_semantics.specs.Effects.{Effect, Tells, act_effect}
+use Rattle.oz_semantics.specs.Effects.{Tells, act_effect}
 use Rattle.oz_semantics.specs.declared.value.Value.{Value}
 use Rattle.oz_semantics.specs.declared.value.Tell.{Tell}
 use Rattle.oz_semantics.specs.declared.value.Tell.TheVariants.{Equal, Is}

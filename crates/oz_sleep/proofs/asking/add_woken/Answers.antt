@@ -1,6 +1,5 @@
-use Rattle.std.proofs.Common.{◌≡◌, ◌∙◌, ◌+◌, ◌++◌, inl, inr, if◌then◌else◌, List, ℕ, [], ◌∷◌, Contains, take, get_or, length, ◌≤◌, map, filter, refl, sym, ap, ap₂, subst}
+use Rattle.std.proofs.Common.{◌≡◌, ◌∙◌, ◌+◌, ◌++◌, inl, inr, if◌then◌else◌, List, ℕ, [], ◌∷◌, take, get_or, map, filter, sym, ap, subst}
 use Rattle.std.proofs.lemmas.List.{append-nil, take_all, take_more}
-use Rattle.oz_base.specs.declared.names.Ident.{Ident}
 use Rattle.oz_semantics.specs.Names.{named}
 use Rattle.oz_laws.proofs.SameLaws.{In-from_contains}
 use Rattle.sleep_laws.specs.Woken.{top_able}

@@ -1,8 +1,8 @@
-use Rattle.std.proofs.Common.{◌≡◌, ◌∙◌, ◌++◌, inl, inr, if◌then◌else◌, List, ℕ, [], ◌∷◌, Some, Contains, filter, map, sym, ap, ap₂, subst}
+use Rattle.std.proofs.Common.{◌∙◌, ◌++◌, inl, inr, if◌then◌else◌, List, [], ◌∷◌, Some, filter, map, ap, ap₂, subst}
 use Rattle.oz_base.specs.declared.names.Ident.{Ident}
 use Rattle.oz_semantics.specs.Names.{named}
 use Rattle.oz_semantics.specs.Settling.{queue_after}
-use Rattle.sleep_laws.specs.Woken.{top_able, is_asked_still, rest_asked}
+use Rattle.sleep_laws.specs.Woken.{top_able}
 use Rattle.sleep_laws.proofs.RequeueLaws.{requeued_told}
 use Rattle.oz_sleep.specs.Laid.{RestsOr}
 use Rattle.oz_sleep.proofs.LaidLaws.{on_ok, on_err, lays_on, more_then, or_then, rests_then, told_lays}

@@ -1,4 +1,4 @@
-use Rattle.std.proofs.Common.{◌≡◌, ◌∙◌, ◌++◌, inl, inr, true, false, List, [], ◌∷◌, Contains, filter, sym, ap, subst}
+use Rattle.std.proofs.Common.{◌≡◌, ◌∙◌, ◌++◌, inl, inr, true, List, [], Contains, filter, sym, ap, subst}
 use Rattle.std.proofs.lemmas.List.{append-nil}
 use Rattle.oz_base.specs.declared.names.Ident.{Ident}
 use Rattle.oz_laws.proofs.SameLaws.{In-from_contains}

@@ -1,4 +1,4 @@
-use Rattle.std.proofs.Common.{◌≡◌, [], ◌∷◌, Some, sym, ap, option_copied}
+use Rattle.std.proofs.Common.{◌≡◌, [], ◌∷◌, Some, ap, option_copied}
 use Rattle.oz_base.specs.declared.names.Ident.{Ident}
 use Rattle.oz_semantics.specs.declared.value.Value.{Value}
 use Rattle.oz_semantics.specs.declared.value.Tell.TheVariants.{Is}

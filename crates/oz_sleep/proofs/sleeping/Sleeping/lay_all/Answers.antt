@@ -1,10 +1,10 @@
-use Rattle.std.proofs.Common.{◌≡◌, ◌∙◌, ◌+◌, inl, inr, List, ℕ, [], Contains, take, length, ◌≤◌, refl, sym, ap, subst}
+use Rattle.std.proofs.Common.{◌≡◌, ◌∙◌, ◌+◌, inl, inr, List, ℕ, [], Contains, take, length, ◌≤◌, refl, sym, subst}
 use Rattle.oz_semantics.specs.Names.{named}
 use Rattle.oz_semantics.specs.declared.configuration.Thread.{Thread}
 use Rattle.oz_laws.proofs.SameLaws.{In-from_contains}
 use Rattle.suspension.proofs.KeyLaws.{taken_item}
 use Rattle.oz_sleep.specs.Laid.{RestsOr}
-use Rattle.oz_sleep.proofs.LaidLaws.{more_itself, more_then, or_then, or_from, rests_none, taken_more, taken_all}
+use Rattle.oz_sleep.proofs.LaidLaws.{more_itself, more_then, or_then, or_from, taken_more, taken_all}
 use Rattle.oz_sleep.proofs.sleeping.Sleeping.lay_all.Goals as goal
 
 pub loop-thread-init : goal.loop-thread-init
