@@ -1,14 +1,16 @@
 -- Who sleeps once those who are due were asked.
-use Rattle.std.proofs.Common.{arith, ◌≡◌, ◌⊎◌, ◌==◌, ◌+◌, ◌<◌, nat_lt, inl, inr, ℕ, Bool, true, false, if◌then◌else◌, List, [], ◌∷◌, ◌++◌, length, map, refl, sym, ap, subst, ◌∙◌, Contains, Option}
+use Rattle.std.proofs.Common.{arith, ◌≡◌, ◌⊎◌, ◌+◌, ◌≤◌, inl, inr, ℕ, Bool, true, false, if◌then◌else◌, List, [], ◌∷◌, ◌++◌, length, map, refl, sym, ap, subst, ◌∙◌, Contains, Option, append-nil, append_assoc, length-append}
 use Rattle.std.specs.Prelude.{option_to_list}
-use Rattle.std.proofs.lemmas.List.{append-nil, append_assoc}
 use Rattle.oz_base.specs.Lists.{list_eq}
 use Rattle.oz_base.specs.declared.names.Ident.{Ident}
 use Rattle.oz_language.specs.declared.kernel.Statement.{Statement}
 use Rattle.oz_semantics.specs.Names.{named}
+use Rattle.oz_semantics.specs.Settling.{is_among, queue_after, runnable}
 use Rattle.oz_semantics.specs.declared.configuration.Layer.{Layer}
 use Rattle.oz_laws.proofs.SameLaws.{In-from_contains, contains-from_In}
-use Rattle.view_laws.proofs.Members.{has-cases, has-left, has-right}
+use Rattle.view_laws.proofs.Members.{not_both, has-cases, has-left, has-right}
+use Rattle.view_laws.specs.Queues.{IsExact}
+use Rattle.view_laws.proofs.QueueLaws.{queue_exact}
 use Rattle.sleep_laws.specs.Woken.{top_able}
 use Rattle.oz_sleep.specs.Laid.{AreLaid, Lays, LaysMore, RestsIn, RestsOr}
 use Rattle.oz_sleep.specs.declared.sleeping.Sleeping.{Sleeping}
@@ -27,7 +29,7 @@ able_there : (statements : List Statement) (layers : List Layer) (id : Ident) �
 able_there statements layers id e = subst (λ (b : Bool). Contains (if b then id ∷ [] else []) id) (sym e) (contains-from_In (id ∷ []) id (inl refl))
 
 module _ (statements : List Statement) (layers : List Layer) where
-  AreIn : Sleeping → List Ident → Ident → Type 0
+  abbrev AreIn : Sleeping → List Ident → Ident → Type 0
   AreIn s after o = Contains after o ⊎ RestsIn statements layers s o
 
   one_in : (s : Sleeping) (after front : List Ident) (id o : Ident) → ((p : Ident) → Contains (able_in statements layers id) p → Contains after p) → RestsOr statements layers s id → Contains (id ∷ []) o → AreIn s after o
@@ -69,13 +71,47 @@ module _ (statements : List Statement) (layers : List Layer) where
         ]
       ]
 
+-- Who joined, by the length of the queue
+
+longer : (queue : List Ident) (id : Ident) → length (queue ++ id ∷ []) ≡ length queue + 1
+longer queue id = length-append queue (id ∷ [])
+
+pub one_joined : (b : Bool) (queue after : List Ident) (id : Ident) → after ≡ queue ++ (if b then id ∷ [] else []) → (length after ≡ length queue → ⊥) → queue ++ id ∷ [] ≡ after
+one_joined true queue after id is e = sym is
+one_joined false queue after id is e = absurd (e (ap length (is ∙ append-nil queue)))
+
+pub both_joined : (a b : Bool) (queue after : List Ident) (id other : Ident) → after ≡ (queue ++ (if a then id ∷ [] else [])) ++ (if b then other ∷ [] else []) → length after ≡ length queue + 2
+    → queue ++ id ∷ other ∷ [] ≡ after
+both_joined true true queue after id other is e = sym (is ∙ append_assoc queue (id ∷ []) (other ∷ []))
+both_joined true false queue after id other is e =
+    absurd (let l : length after ≡ length queue + 1 = ap length (is ∙ append-nil (queue ++ id ∷ [])) ∙ longer queue id in omega (arith, l, e))
+both_joined false true queue after id other is e =
+    absurd (let l : length after ≡ length queue + 1 = ap length (is ∙ ap (λ (os : List Ident). os ++ other ∷ []) (append-nil queue)) ∙ longer queue other in omega (arith, l, e))
+both_joined false false queue after id other is e =
+    absurd (let l : length after ≡ length queue = ap length (is ∙ append-nil (queue ++ []) ∙ append-nil queue) in omega (arith, l, e))
+
+-- no fewer are there
+pub no_fewer : (queue some more after : List Ident) → after ≡ (queue ++ some) ++ more → length queue ≤ length after
+no_fewer queue some more after is =
+    let l : length after ≡ length (queue ++ some) + length more = ap length is ∙ length-append (queue ++ some) more in
+    let k = length-append queue some in
+    omega (arith, l, k)
+
+-- Everybody was asked
+
+pub requeued_exact : (statements : List Statement) (layers : List Layer) (mover : Option Ident) (queue after : List Ident) → after ≡ queue_after (runnable statements layers) mover queue → IsExact statements layers after
+requeued_exact statements layers mover queue after is id = ap (λ (os : List Ident). is_among os id) is ∙ queue_exact (runnable statements layers) mover queue id
+
+pub unknown_lays : (statements : List Statement) (layers : List Layer) (s : Sleeping) (ids : List Ident) → s.known ≡ false → Lays statements layers s ids
+unknown_lays statements layers s ids e known = absurd (not_both s.known known e)
+
 -- Who is due
 
 module _ (statements : List Statement) (layers : List Layer) (due : Due) (queue : List Ident) where
-  Kept : Sleeping → Sleeping → Ident → Type 0
+  abbrev Kept : Sleeping → Sleeping → Ident → Type 0
   Kept old mid id = mid.known ≡ true → (mid ≡ old) × (list_eq old.space id.space ≡ true)
 
-  IsBut : Sleeping → Type 0
+  abbrev IsBut : Sleeping → Type 0
   IsBut s = s.known ≡ true → AreLaidBut statements layers s due queue
 
   kept_lays : (old mid : Sleeping) (id : Ident) (ids : List Ident) → Kept old mid id → (old.known ≡ true → list_eq old.space id.space ≡ true → AreLaid statements layers old ids) → Lays statements layers mid ids
