@@ -12,7 +12,7 @@ returns-then-len-before-clause-asleep c =
     let levels = c.args.levels.now in
     let id = c.args.id.now in
     subst (λ (os : List Ident). Lays statements levels c.args.sleeping.now os)
-    (one_joined (top_steps statements levels id) c.args.queue.now c.join_mover.new.queue id c.in_ok-join_mover.ensures.ok (λ e. grind (arith, nat_tests, c.if-len-before.true, c.len.ensures, c.len-2.ensures, e)))
+    (one_joined (top_steps statements levels id) c.args.queue.now c.join_mover.new.queue id c.in_ok-join_mover.ensures.ok (λ e. grind (arith, nat_tests, c.if-len-before.true, c.len.ensures, c.len-before.ensures, e)))
     c.requires.asleep
 
 pub returns-clause-asleep : goal.returns-clause-asleep
