@@ -240,9 +240,10 @@ fn join_or_sleep(
 {
     let before = queue.len();
     join_mover(alloc, statements, levels, id, queue, answered)?;
-    if queue.len() == before {
-        sleeping.lay_down(alloc, statements, levels, id);
+    if queue.len() != before {
+        return Ok(());
     }
+    sleeping.lay_down(alloc, statements, levels, id);
     Ok(())
 }
 
@@ -264,10 +265,12 @@ fn join_both_or_sleep(
 {
     let before = queue.len();
     join_both(alloc, statements, levels, id, other, queue)?;
-    if queue.len() < before + 2 {
-        sleeping.lay_down(alloc, statements, levels, id);
-        sleeping.lay_down(alloc, statements, levels, other);
+    let joined = queue.len() - before;
+    if joined == 2 {
+        return Ok(());
     }
+    sleeping.lay_down(alloc, statements, levels, id);
+    sleeping.lay_down(alloc, statements, levels, other);
     Ok(())
 }
 
@@ -297,6 +300,7 @@ fn join_told(
 }
 
 /// All threads that can step make the queue, and the others of the space of the thread that stepped fall asleep, where that is of use.
+#[tactic(auto, using(crate::proofs::AskingLaws::requeued_exact, crate::proofs::AskingLaws::unknown_lays))]
 fn requeue_all(
     alloc: Global,
     statements: &[Statement],

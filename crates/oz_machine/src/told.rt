@@ -2,6 +2,7 @@
 ghost use Rattle.std.specs.Prelude.{◌≡◌, ◌++◌, [], List, Some, true, drop, IfSome};
 ghost use Rattle.std.specs.List.{list_all};
 ghost use Rattle.oz_base.specs.Lists.{first};
+ghost use Rattle.oz_language.specs.declared.kernel.Statement.{Statement};
 ghost use Rattle.oz_semantics.specs.Store.{is_consistent};
 ghost use Rattle.oz_semantics.specs.Configurations.{is_numbered, layer_of, view};
 ghost use Rattle.oz_semantics.specs.Changes.{Change, done};
