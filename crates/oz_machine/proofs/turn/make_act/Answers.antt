@@ -73,7 +73,7 @@ returns-then-still-clause-turn c =
     let quiet = quiet_done id l act old new (and-right c.args.kept (is_quiet act) both) none (rw c.if-not-branch.false at c.in_ok-act.ensures.ok) in
     ap (after_effect k id wt (stepping now)) (effect_popped id old act c.requires.there ∙ quiet.effect)
     ∙ ap (λ (ls : List Layer). went_on k.statements id 1 ls (stepping now)) (sym quiet.made)
-    ∙ c.go_on_quietly.ensures.turn old quiet.changes head quiet.made (quiet.started ∙ sym c.in_ok-started.ensures) quiet.adds (λ e. quiet.gives (sym c.gives_out-gives.ensures ∙ e))
+    ∙ c.go_on_quietly-stepped.ensures.turn old quiet.changes head quiet.made (quiet.started ∙ sym c.in_ok-started.ensures) quiet.adds (λ e. quiet.gives (sym c.gives_out-gives.ensures ∙ e))
 
 pub returns-then-lowest-clause-turn : goal.returns-then-lowest-clause-turn
 returns-then-lowest-clause-turn c =
@@ -97,8 +97,8 @@ returns-then-lowest-clause-turn c =
     ap (after_effect k id wt (stepping now)) (effect_popped id old act c.requires.there ∙ told.effect)
     ∙ ap (λ (b : Bool). if b then went_on k.statements id 1 (done id told.tells told.changes wt) (stepping now) else raised_kind k.statements id FailureTell wt (stepping now)) (fits_popped id told.tells old true told.fits)
     ∙ ap (λ (ls : List Layer). went_on k.statements id 1 ls (stepping now)) (sym made)
-    ∙ c.go_on_told.ensures.turn c.resume.new.self old told.tells told.changes (c.requires.kept known) (alone_there id old none) told.fits made
-    (foretold k.statements now id act c.args.sleeping.now c.foreseen-woken.new.sleeping c.resume.new.self c.in_ok-woken.woken told.tells told.changes c.requires.asleep c.requires.head (c.in_ok-woken.ensures.foretold c.if-lowest.true) c.resume.ensures told.effect)
+    ∙ c.go_on_told-stepped.ensures.turn c.resume.new.self old told.tells told.changes (c.requires.kept known) (alone_there id old none) told.fits made
+    (foretold k.statements now id act c.args.sleeping.now c.foreseen.new.sleeping c.resume.new.self c.in_ok-woken.woken told.tells told.changes c.requires.asleep c.requires.head (c.in_ok-woken.ensures.foretold c.if-lowest.true) c.resume.ensures told.effect)
 
 pub returns-clause-turn : goal.returns-clause-turn
 returns-clause-turn c =
@@ -117,15 +117,15 @@ returns-in_err-started-clause-asleep c = unknown_sleeps c.args.kernel.now.statem
 
 pub returns-in_err-woken-clause-asleep : goal.returns-in_err-woken-clause-asleep
 returns-in_err-woken-clause-asleep c =
-    unknown_sleeps c.args.kernel.now.statements c.foreseen-woken.new.sleeping c.args.course.now (c.foreseen-woken.ensures.known ∙ c.requires.asleep.known)
+    unknown_sleeps c.args.kernel.now.statements c.foreseen.new.sleeping c.args.course.now (c.foreseen.ensures.known ∙ c.requires.asleep.known)
 
 pub returns-in_err-act-clause-asleep : goal.returns-in_err-act-clause-asleep
 returns-in_err-act-clause-asleep c =
-    unknown_sleeps c.args.kernel.now.statements c.foreseen-woken.new.sleeping (record c.args.course.now { levels = c.act.new.levels }) (c.foreseen-woken.ensures.known ∙ c.requires.asleep.known)
+    unknown_sleeps c.args.kernel.now.statements c.foreseen.new.sleeping (record c.args.course.now { levels = c.act.new.levels }) (c.foreseen.ensures.known ∙ c.requires.asleep.known)
 
 pub returns-then-not-branch-clause-asleep : goal.returns-then-not-branch-clause-asleep
 returns-then-not-branch-clause-asleep c =
-    unknown_sleeps c.args.kernel.now.statements c.foreseen-woken.new.sleeping c.clash.new.course (c.foreseen-woken.ensures.known ∙ c.requires.asleep.known)
+    unknown_sleeps c.args.kernel.now.statements c.foreseen.new.sleeping c.clash.new.course (c.foreseen.ensures.known ∙ c.requires.asleep.known)
 
 pub returns-then-lowest-clause-asleep : goal.returns-then-lowest-clause-asleep
 returns-then-lowest-clause-asleep c =
@@ -147,9 +147,9 @@ returns-then-lowest-clause-asleep c =
     let told = told_done id l act old new loud (rw c.if-not-branch.false at c.in_ok-act.ensures.ok) in
     let made : new ≡ done id told.tells told.changes wt = none_fails id.space (done id told.tells told.changes wt) new told.settles (done_below id told.tells told.changes wt (pop_below id old ∙ none)) in
     let found = c.in_ok-woken.ensures.foretold c.if-lowest.true in
-    told_sleeps k.statements old c.go_on_told.new.course id act c.args.sleeping.now c.foreseen-woken.new.sleeping c.resume.new.self c.in_ok-woken.woken found c.resume.ensures
-    (c.go_on_told.ensures.asleep c.resume.new.self old told.tells told.changes (c.requires.kept known) (alone_there id old none) told.fits made
-    (foretold k.statements now id act c.args.sleeping.now c.foreseen-woken.new.sleeping c.resume.new.self c.in_ok-woken.woken told.tells told.changes c.requires.asleep c.requires.head found c.resume.ensures told.effect))
+    told_sleeps k.statements old c.go_on_told-stepped.new.course id act c.args.sleeping.now c.foreseen.new.sleeping c.resume.new.self c.in_ok-woken.woken found c.resume.ensures
+    (c.go_on_told-stepped.ensures.asleep c.resume.new.self old told.tells told.changes (c.requires.kept known) (alone_there id old none) told.fits made
+    (foretold k.statements now id act c.args.sleeping.now c.foreseen.new.sleeping c.resume.new.self c.in_ok-woken.woken told.tells told.changes c.requires.asleep c.requires.head found c.resume.ensures told.effect))
 
 pub returns-then-still-clause-asleep : goal.returns-then-still-clause-asleep
 returns-then-still-clause-asleep c =
@@ -166,11 +166,11 @@ returns-then-still-clause-asleep c =
     let none : delays act ≡ false = not_true (delays act) (and-right known (not (delays act)) silent) in
     let head = c.requires.kept (and-left c.args.kept (is_quiet act) both) in
     let quiet = quiet_done id l act old new (and-right c.args.kept (is_quiet act) both) none (rw c.if-not-branch.false at c.in_ok-act.ensures.ok) in
-    let stood : c.foreseen-woken.new.sleeping ≡ c.args.sleeping.now = c.foreseen-woken.ensures.quiet c.if-lowest.false in
+    let stood : c.foreseen.new.sleeping ≡ c.args.sleeping.now = c.foreseen.ensures.quiet c.if-lowest.false in
     let resumes = c.resume-then-still.ensures ∙ ap (λ (r : Sleeping). record r { known = r.pending }) stood in
-    resumed k.statements c.args.sleeping.now c.resume-then-still.new.self c.go_on_quietly.new.course resumes
-    (λ pending. c.go_on_quietly.ensures.asleep c.resume-then-still.new.self old quiet.changes head quiet.made (quiet.started ∙ sym c.in_ok-started.ensures)
+    resumed k.statements c.args.sleeping.now c.resume-then-still.new.self c.go_on_quietly-stepped.new.course resumes
+    (λ pending. c.go_on_quietly-stepped.ensures.asleep c.resume-then-still.new.self old quiet.changes head quiet.made (quiet.started ∙ sym c.in_ok-started.ensures)
     (pending_laid k.statements c.args.sleeping.now c.resume-then-still.new.self now id c.requires.asleep c.requires.head resumes pending))
 
 pub returns-clause-asleep : goal.returns-clause-asleep
-returns-clause-asleep c = unknown_sleeps c.args.kernel.now.statements c.foreseen-woken.new.sleeping c.go_on.new.course (c.foreseen-woken.ensures.known ∙ c.requires.asleep.known)
+returns-clause-asleep c = unknown_sleeps c.args.kernel.now.statements c.foreseen.new.sleeping c.go_on.new.course (c.foreseen.ensures.known ∙ c.requires.asleep.known)
