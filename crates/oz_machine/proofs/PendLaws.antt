@@ -86,8 +86,7 @@ pub foretold : (statements : List Statement) (c : Course) (id : Ident) (act : Ac
 foretold statements c id act before s t None ts changes pends head found e effect = tt
 foretold statements c id act before s t (Some numbers) ts changes pends head found e effect =
     let laid : AreLaid statements c.levels before (id ∷ drop 1 c.queue) = subst (AreLaid statements c.levels before) (headed c.queue id head) (pends.laid found.0) in
-    let told = found.1 statements (drop 1 c.queue) ts changes laid effect in
-    (
+    let told = found.1 statements (drop 1 c.queue) ts changes laid effect in (
       subst (λ (r : Sleeping). AreForetold statements c.levels r id (drop 1 c.queue) numbers ts) (sym e) (foretold_as statements c.levels s s.pending id (drop 1 c.queue) numbers ts told.0),
       told.1 (layer_of c.levels id.space).next.thread,
     )

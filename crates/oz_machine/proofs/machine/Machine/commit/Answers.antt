@@ -20,8 +20,8 @@ invariant_of-self c =
     let refused : OnErr c.commit.result (new ≡ old) =
     subst (λ (ss : List Statement). OnErr c.commit.result (config_of ss c.commit.new.course ≡ config_of ss c.self.inside.course)) same c.commit.ensures.err in
     let kept : Keeps st c.self.inside.kept c.commit.new.course = λ known.
-        let held = c.self.invariant.0 known in
-        kept_by c.commit.result st old new (chosen_in st c.args.space.now c.args.index old) made refused held (kept_chosen st c.args.space.now c.args.index old held) in
+    let held = c.self.invariant.0 known in
+    kept_by c.commit.result st old new (chosen_in st c.args.space.now c.args.index old) made refused held (kept_chosen st c.args.space.now c.args.index old held) in
     (kept, subst (λ (ss : List Statement). Sleeps ss c.commit.new.sleeping c.commit.new.course) same c.commit.ensures.asleep)
 
 pub commit-requires : goal.commit-requires

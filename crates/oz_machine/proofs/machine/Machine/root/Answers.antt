@@ -20,8 +20,8 @@ invariant_of-self c =
     let refused : OnErr c.root.result (new ≡ old) =
     subst (λ (ss : List Statement). OnErr c.root.result (config_of ss c.root.new.course ≡ config_of ss c.self.inside.course)) same c.root.ensures.err in
     let kept : Keeps st c.self.inside.kept c.root.new.course = λ known.
-        let held = c.self.invariant.0 known in
-        kept_by c.root.result st old new (with_root st c.args.procedure old) made refused held (kept_root st c.args.procedure old held) in
+    let held = c.self.invariant.0 known in
+    kept_by c.root.result st old new (with_root st c.args.procedure old) made refused held (kept_root st c.args.procedure old held) in
     (kept, subst (λ (ss : List Statement). Sleeps ss c.root.new.sleeping c.root.new.course) same c.root.ensures.asleep)
 
 pub root-requires : goal.root-requires
