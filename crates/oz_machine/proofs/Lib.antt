@@ -19,3 +19,4 @@ pub mod StayLaws
 pub mod SleepLaws
 pub mod AskingLaws
 pub mod ForetoldLaws
+pub mod PendLaws

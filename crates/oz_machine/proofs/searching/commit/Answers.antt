@@ -9,4 +9,7 @@ returns-clause-commit c =
     let settled = c.settle_only.new.course in
     let space = c.args.space.now in
     chosen_by st space c.args.index c.args.course.now settled (config_of st c.follow_edit.new.course) c.settle_only.ensures.same c.in_ok-settle_only.ensures.due
-    (c.follow_edit.ensures st space settled.levels (committed st space c.args.index settled.levels) c.in_ok-commit_in.ensures.ok)
+    (c.follow_edit.ensures.follows st space settled.levels (committed st space c.args.index settled.levels) c.in_ok-commit_in.ensures.ok)
+
+pub returns-clause-asleep : goal.returns-clause-asleep
+returns-clause-asleep c = c.follow_edit.ensures.asleep c.args.statements.now c.settle_only.new.sleeping

@@ -14,4 +14,7 @@ returns-clause-root c =
     let nobody = c.in_ok-settle_only.ensures.due in
     let made = c.create.new.self in
     root_by st c.args.procedure c.top-top.result c.args.course.now settled made (config_of st c.follow_edit.new.course) c.settle_only.ensures.same nobody c.top-top.ensures c.in_ok-space.ensures.ok
-    (c.follow_edit.ensures st c.top-top.result settled.levels made (nothing_fails c.top-top.result made c.consistent.ensures))
+    (c.follow_edit.ensures.follows st c.top-top.result settled.levels made (nothing_fails c.top-top.result made c.consistent.ensures))
+
+pub returns-clause-asleep : goal.returns-clause-asleep
+returns-clause-asleep c = c.follow_edit.ensures.asleep c.args.statements.now c.settle_only.new.sleeping
