@@ -7,7 +7,8 @@ use Rattle.oz_search.specs.declared.history.StopCause.TheVariants as causes
 use Rattle.oz_search.specs.Histories.{Replays, IsAllowed, total_of, steps_of, stop_of}
 use Rattle.oz_search.specs.Best.{BestEntry, best}
 use Rattle.search_law.proofs.Entries.{stop_push, total_push}
-use Rattle.best_search.specs.Found.{IsSpent, spent_at}
+use Rattle.oz_replies.specs.BestReplies.{steps_at}
+use Rattle.best_search.specs.Found.{IsSpent}
 
 append_one : (b : List BestEntry) (e : BestEntry) (rest : List BestEntry) → (b ++ e ∷ []) ++ rest ≡ b ++ e ∷ rest
 append_one [] e rest = refl
@@ -64,10 +65,10 @@ spent_by_fuel budget h e replays s fuel =
       before = r.0;
       halt = e;
       ends = r.1;
-      steps = ap (spent_at budget r.0) fuel ∙ ap (λ n. Some (n + budget + 1)) (sym (total_before r.0 h e r.1));
+      steps = ap (steps_at budget r.0) fuel ∙ ap (λ n. Some (n + budget + 1)) (sym (total_before r.0 h e r.1));
     }
 
 pub spent_by_total : (budget : ℕ) (h : List BestEntry) (e : Halt) (t : ℕ) → Replays best budget h → stop_of h ≡ Some e → e.cause ≡ causes.Total t → IsSpent budget h t
 spent_by_total budget h e t replays s total =
     let r = stop_last budget h e replays s in
-    record { before = r.0; halt = e; ends = r.1; steps = ap (spent_at budget r.0) total }
+    record { before = r.0; halt = e; ends = r.1; steps = ap (steps_at budget r.0) total }

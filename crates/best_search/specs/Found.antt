@@ -1,14 +1,13 @@
 -- What the search for a best solution finds (branch and bound: Schulte, LNCS 2302, on search).
-use Rattle.std.specs.Prelude.{◌≡◌, ℕ, ◌+◌, ℤ, List, [], ◌∷◌, ◌++◌, Contains, Option, Some, None}
+use Rattle.std.specs.Prelude.{◌≡◌, ℕ, ℤ, List, [], ◌∷◌, ◌++◌, Contains, Some, None}
 use Rattle.oz_search.specs.declared.best.Bounded.{Bounded}
 use Rattle.oz_search.specs.declared.best.Costed.{Costed}
 use Rattle.oz_search.specs.declared.leaf.Outcome.TheVariants.{Solved}
 use Rattle.oz_search.specs.declared.history.Entry.TheVariants.{Leaf, Stop}
 use Rattle.oz_search.specs.declared.history.Halt.{Halt}
-use Rattle.oz_search.specs.declared.history.StopCause.{StopCause}
-use Rattle.oz_search.specs.declared.history.StopCause.TheVariants.{Memory, Fuel, Total}
-use Rattle.oz_search.specs.Histories.{total_of, stop_of}
+use Rattle.oz_search.specs.Histories.{stop_of}
 use Rattle.oz_search.specs.Best.{BestEntry, best_of}
+use Rattle.oz_replies.specs.BestReplies.{steps_at}
 use Rattle.best_search.specs.declared.ending.Found.{Found}
 use Rattle.best_search.specs.declared.ending.Found.TheVariants as found
 
@@ -24,19 +23,12 @@ IsSolution text cost e = (w : ℕ) × (q : List Bounded) × (s : ℕ) × (e ≡ 
 abbrev pub HasSolution : List BestEntry → List ℕ → ℤ → Type 0
 HasSolution h text cost = (w : ℕ) × (q : List Bounded) × (s : ℕ) × Contains h (Leaf w q (solved text cost) s)
 
--- the steps of a search that stops for this cause after these entries, where it stops for want of steps: a node that alone needs more
--- than the budget counts as one more than the budget
-abbrev pub spent_at : ℕ → List BestEntry → StopCause → Option ℕ
-spent_at budget before Memory = None
-spent_at budget before Fuel = Some (total_of before + budget + 1)
-spent_at budget before (Total t) = Some t
-
 -- a history ends with a stop for want of steps, of so many
 pub record IsSpent (budget : ℕ) (h : List BestEntry) (total : ℕ) : Type 0 where
   pub before : List BestEntry
   pub halt : Halt
   pub ends : h ≡ before ++ Stop halt ∷ []
-  pub steps : spent_at budget before halt.cause ≡ Some total
+  pub steps : steps_at budget before halt.cause ≡ Some total
 
 -- what the history of a search with this budget has found: a leaf of the least cost, if nobody stopped and there is a solved leaf
 abbrev pub IsFoundIn : ℕ → List BestEntry → Found → Type 0

@@ -165,7 +165,7 @@ impl Machine {
 
     /// Commits a space that offers alternatives to the one of a branch, and tells it that its cost, the field of its root variable at the
     /// feature, is below the bound, if there is one: where no value is left, the space fails. It refuses for want of memory, and a space
-    /// that is the top or has ended: then nothing changes.
+    /// that is the top, has ended or is not there: then nothing changes.
     pub fn commit_below(
         &mut self,
         alloc: Global,

@@ -11,8 +11,10 @@ use std::cmp::Ordering;
 
 /// A kind of search: what a branch is, what is reported of a leaf, and what a claim bears of the leaves before it.
 pub trait SearchKind: Drop {
+    /// How a path goes on: by an alternative, and what is fixed besides.
     type Branch: Copy;
 
+    /// What is reported of a leaf.
     type Leaf: Drop;
 
     /// What a claim has to know of the leaves before it.
@@ -41,6 +43,7 @@ pub trait SearchKind: Drop {
     fn free(alternative: u32) -> Self::Branch
         ensures { result ≡ search.free alternative };
 
+    /// The order of branches, by which siblings stand from left to right.
     fn compare(branch: Self::Branch, other: Self::Branch) -> Ordering
         ensures { result ≡ search.cmp branch other };
 
@@ -48,12 +51,15 @@ pub trait SearchKind: Drop {
     fn fails(leaf: &Self::Leaf) -> bool
         ensures { result ≡ search.fails leaf.now };
 
+    /// What is so far where no leaf has come.
     fn first() -> Self::SoFar
         ensures { result ≡ first };
 
+    /// What is so far after one leaf more.
     fn more(so_far: Self::SoFar, leaf: &Self::Leaf) -> Self::SoFar
         ensures { result ≡ more so_far leaf.now };
 
+    /// The branch to the same alternative as a claim takes it.
     fn bears(so_far: Self::SoFar, branch: Self::Branch) -> Self::Branch
         ensures { result ≡ bears so_far branch };
 
