@@ -8,7 +8,8 @@ use Rattle.oz_search.specs.declared.leaf.Outcome.TheVariants as outcome
 use Rattle.oz_search.specs.declared.history.Entry.TheVariants.{Claim, Split, Leaf, Stop}
 use Rattle.oz_search.specs.Best.{BestEntry, best_after, best_of, cost_of, cost_by}
 use Rattle.search_law.proofs.Costs.{lesser_one}
-use Rattle.best_search.specs.Found.{solved, IsSolution, HasSolution}
+use Rattle.oz_replies.specs.BestReplies.{solved, HasSolution}
+use Rattle.best_search.specs.Found.{IsSolution}
 
 -- ---- one entry
 

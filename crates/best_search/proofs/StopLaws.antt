@@ -8,7 +8,7 @@ use Rattle.oz_search.specs.Histories.{Replays, IsAllowed, total_of, steps_of, st
 use Rattle.oz_search.specs.Best.{BestEntry, best}
 use Rattle.search_law.proofs.Entries.{stop_push, total_push}
 use Rattle.oz_replies.specs.BestReplies.{steps_at}
-use Rattle.best_search.specs.Found.{IsSpent}
+use Rattle.oz_replies.specs.BestReplies.{IsStopped}
 
 append_one : (b : List BestEntry) (e : BestEntry) (rest : List BestEntry) → (b ++ e ∷ []) ++ rest ≡ b ++ e ∷ rest
 append_one [] e rest = refl
@@ -58,17 +58,17 @@ total_before before h e i =
     let sum : total_of h ≡ total_of before + 0 = ap total_of i ∙ total_push before (Stop e) in
     omega (arith, sum)
 
-pub spent_by_fuel : (budget : ℕ) (h : List BestEntry) (e : Halt) → Replays best budget h → stop_of h ≡ Some e → e.cause ≡ causes.Fuel → IsSpent budget h (total_of h + budget + 1)
+pub spent_by_fuel : (budget : ℕ) (h : List BestEntry) (e : Halt) → Replays best budget h → stop_of h ≡ Some e → e.cause ≡ causes.Fuel → IsStopped budget h (total_of h + budget + 1)
 spent_by_fuel budget h e replays s fuel =
     let r = stop_last budget h e replays s in
     record {
       before = r.0;
       halt = e;
       ends = r.1;
-      steps = ap (steps_at budget r.0) fuel ∙ ap (λ n. Some (n + budget + 1)) (sym (total_before r.0 h e r.1));
+      stops = ap (steps_at budget r.0) fuel ∙ ap (λ n. Some (n + budget + 1)) (sym (total_before r.0 h e r.1));
     }
 
-pub spent_by_total : (budget : ℕ) (h : List BestEntry) (e : Halt) (t : ℕ) → Replays best budget h → stop_of h ≡ Some e → e.cause ≡ causes.Total t → IsSpent budget h t
+pub spent_by_total : (budget : ℕ) (h : List BestEntry) (e : Halt) (t : ℕ) → Replays best budget h → stop_of h ≡ Some e → e.cause ≡ causes.Total t → IsStopped budget h t
 spent_by_total budget h e t replays s total =
     let r = stop_last budget h e replays s in
-    record { before = r.0; halt = e; ends = r.1; steps = ap (steps_at budget r.0) total }
+    record { before = r.0; halt = e; ends = r.1; stops = ap (steps_at budget r.0) total }

@@ -4,7 +4,8 @@ ghost use Rattle.std.specs.Option.{option_or};
 ghost use Rattle.oz_search.specs.Histories.{Replays, steps_of, total_of, stop_of};
 ghost use Rattle.oz_search.specs.Best as bests;
 ghost use Rattle.oz_search.specs.Best.{best};
-ghost use Rattle.best_search.specs.Found.{solved, IsSolution, HasSolution, IsFoundIn};
+ghost use Rattle.oz_replies.specs.BestReplies.{solved, HasSolution};
+ghost use Rattle.best_search.specs.Found.{IsSolution, IsFoundIn};
 
 use oz_base::{Copies, Sequence};
 use oz_search::{Costed, Entry, Halt, Outcome, StopCause};

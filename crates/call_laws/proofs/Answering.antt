@@ -12,16 +12,18 @@ use Rattle.oz_semantics.specs.Runs.{Ran, Ended, TopRaised, Over, run, opening}
 use Rattle.oz_semantics.specs.Search.{has_script, script_found}
 use Rattle.oz_language.specs.Refusals.{Program, Accepts, IsRefused}
 use Rattle.oz_language.specs.Translation.{kernel_of}
-use Rattle.oz_language.specs.Commands.{Spells, IsUsage}
-use Rattle.oz_replies.specs.Replies.{Answer, IsReply, IsTextReply, Searches, line, shown_lines, spent, text_limit, usage_reply, too_large_reply, refused_answer, answer_of_tree, answer_of_raise, searched, answer_of_top, all_answer, run_answer}
-use Rattle.oz_language.specs.declared.command.Command.{Command}
-use Rattle.oz_language.specs.declared.command.Command.TheVariants as commands
+use Rattle.oz_commands.specs.Commands.{Spells, IsUsage}
+use Rattle.oz_replies.specs.Replies.{Answer, Searches, line, shown_lines, spent, text_limit, usage_reply, too_large_reply, refused_answer, answer_of_tree, answer_of_raise, searched, answer_of_top, all_answer, run_answer, kernel_answer}
+use Rattle.oz_replies.specs.BestReplies.{BestAnswer, NotFd, Best, NoSolution, Spent, IsBestAnswer, IsBestReply, IsTextAnswer, best_cause, best_reply}
+use Rattle.oz_replies.specs.Calls.{IsReply}
+use Rattle.oz_commands.specs.declared.command.Command.{Command}
+use Rattle.oz_commands.specs.declared.command.Command.TheVariants as commands
 use Rattle.oz_language.specs.declared.kernel.Kernel.{Kernel}
 use Rattle.oz_language.specs.declared.fault.Fault.{Fault}
 use Rattle.oz_semantics.specs.declared.configuration.Configuration.{Configuration}
 use Rattle.oz_replies.specs.declared.cause.Cause.{Cause}
 use Rattle.oz_replies.specs.declared.cause.Cause.TheVariants as causes
-use Rattle.call_laws.specs.Call.{answered, Reading, Writing, HasRead, ProgramGives, TextGives, ReadGives, AsText, IsCommand, Plans, IsDue, IsRead, IsBounded, Ends, IsExcused}
+use Rattle.call_laws.specs.Call.{IsAnswered, Reading, Writing, HasRead, ProgramGives, TextGives, ReadGives, AsText, IsCommand, Plans, IsDue, IsRead, IsBounded, Ends, IsExcused}
 
 -- a text gives the plan of the call
 pub plans_text : (words : List (List ℕ)) (old new : Reading) (text : List ℕ) (k : Command) (cause : Cause) (reply : List ℕ) → IsCommand words k → HasRead old new text → TextGives text k cause reply → Plans words old new cause reply
@@ -32,20 +34,24 @@ plans_text words old new text k cause reply w r g = by cause (record { asked = k
     by (causes.Raised shown) r g = r
     by (causes.Refused fault) r g = r
     by (causes.Spent total) r g = r
+    by (causes.SpentBest total entries) r g = r
     by causes.NoScript r g = r
+    by causes.NotFd r g = r
     by causes.NoMemory r g = g
     by causes.Usage r g = absurd g
     by causes.ReadFault r g = absurd g
     by causes.WriteFault r g = absurd g
     by (causes.TooLarge count) r g = absurd g
 
--- The answer to a program has one of four causes
+-- The answer to a program has one of six causes
 
 abbrev IsOwn : Answer → Type 0
 IsOwn (causes.Done, reply) = Unit {0}
 IsOwn (causes.Raised shown, reply) = Unit {0}
 IsOwn (causes.Spent total, reply) = Unit {0}
+IsOwn (causes.SpentBest total entries, reply) = Unit {0}
 IsOwn (causes.NoScript, reply) = Unit {0}
+IsOwn (causes.NotFd, reply) = Unit {0}
 IsOwn (causes.Refused fault, reply) = ⊥
 IsOwn (causes.NoMemory, reply) = ⊥
 IsOwn (causes.Usage, reply) = ⊥
@@ -74,19 +80,36 @@ own_top k rest budget h (Over c) = tt
 own_top k rest budget h (TopRaised c left exception) = own_raise (shown_lines c) budget left (term_text k.words (view c.layers []) exception)
 own_top k rest budget h (Ended c left) = h c left
 
-own_kernel_answer : (c : Command) (p : Program) → IsOwn (answered c p)
-unfolding all_answer run_answer
-own_kernel_answer (commands.All workers budget) p =
-    let k = kernel_of p in own_top k (searched k budget) budget (own_searched k budget) (run k [] (opening k) budget)
-own_kernel_answer (commands.Run budget) p =
-    let k = kernel_of p in own_top k (λ c left. (causes.Done, shown_lines c)) budget (λ c left. tt) (run k [] (opening k) budget)
-own_kernel_answer commands.Kernel p = tt
+own_all : (k : Kernel) (budget : ℕ) → IsOwn (all_answer k budget)
+unfolding all_answer
+own_all k budget = own_top k (searched k budget) budget (own_searched k budget) (run k [] (opening k) budget)
+
+own_run : (k : Kernel) (budget : ℕ) → IsOwn (run_answer k budget)
+unfolding run_answer
+own_run k budget = own_top k (λ c left. (causes.Done, shown_lines c)) budget (λ c left. tt) (run k [] (opening k) budget)
+
+own_best : (budget : ℕ) (a : BestAnswer) → IsOwn (best_cause a, best_reply budget a)
+own_best budget NotFd = tt
+own_best budget (Best text cost) = tt
+own_best budget NoSolution = tt
+own_best budget (Spent total entries) = tt
+
+own_same : (answer x : Answer) → answer ≡ x → IsOwn x → IsOwn answer
+own_same answer x e h = subst (λ (y : Answer). IsOwn y) (sym e) h
+
+own_answer : (c : Command) (p : Program) (answer : Answer) → IsAnswered c p answer → IsOwn answer
+own_answer (commands.All workers budget) p answer h = own_same answer (all_answer (kernel_of p) budget) h (own_all (kernel_of p) budget)
+own_answer (commands.Run budget) p answer h = own_same answer (run_answer (kernel_of p) budget) h (own_run (kernel_of p) budget)
+own_answer (commands.Best workers budget) p answer h = own_same answer (best_cause h.0, best_reply budget h.0) h.2 (own_best budget h.0)
+own_answer commands.Kernel p answer h = own_same answer (kernel_answer p) h tt
 
 gives_own : (text : List ℕ) (c : Command) (cause : Cause) (reply : List ℕ) → IsOwn (cause, reply) → ProgramGives text c (cause, reply) → TextGives text c cause reply
 gives_own text c causes.Done reply o g = g
 gives_own text c (causes.Raised shown) reply o g = g
 gives_own text c (causes.Spent total) reply o g = g
+gives_own text c (causes.SpentBest total entries) reply o g = g
 gives_own text c causes.NoScript reply o g = g
+gives_own text c causes.NotFd reply o g = g
 gives_own text c (causes.Refused fault) reply o g = absurd o
 gives_own text c causes.NoMemory reply o g = absurd o
 gives_own text c causes.Usage reply o g = absurd o
@@ -96,14 +119,14 @@ gives_own text c (causes.TooLarge count) reply o g = absurd o
 
 -- an accepted text
 pub accepted_gives : (text : List ℕ) (c : Command) (p : Program) (cause : Cause) (reply : List ℕ) → Accepts text p
-    → ◌≡◌ {A = Answer} (cause, reply) (answered c p) → TextGives text c cause reply
-accepted_gives text c p cause reply a h = gives_own text c cause reply (subst (λ (x : Answer). IsOwn x) (sym h) (own_kernel_answer c p)) (p, a, sym h)
+    → IsAnswered c p (cause, reply) → TextGives text c cause reply
+accepted_gives text c p cause reply a h = gives_own text c cause reply (own_answer c p (cause, reply) h) (p, a, h)
 
 pub accepted_due : (text : List ℕ) (c : Command) (p : Program) (answer : Answer) → ((q : Program) → Accepts text q → q ≡ p) → ((f : Fault) → IsRefused text f → ⊥)
-    → answer ≡ answered c p → AsText text c answer
+    → IsAnswered c p answer → AsText text c answer
 accepted_due text c p answer only unrefused h = record {
   refused = λ n f r. absurd (unrefused f r);
-  accepted = λ n q b. h ∙ ap (λ (x : Program). answered c x) (sym (only q b));
+  accepted = λ n q b. subst (λ (x : Program). IsAnswered c x answer) (sym (only q b)) h;
 }
 
 -- a refused text
@@ -137,26 +160,30 @@ usage_due words bytes cause reply u (inl h) = λ read memory. record {
   usage = λ v. ap (λ (x : Cause). (x, reply)) h.0 ∙ ap (λ (x : List ℕ). (causes.Usage, x)) h.1;
   all = λ budget asked. absurd (u (commands.All asked.workers budget) asked.spelled);
   run = λ budget asked. absurd (u (commands.Run budget) asked);
+  best = λ workers budget asked. absurd (u (commands.Best workers budget) asked);
   kernel = λ asked. absurd (u commands.Kernel asked);
 }
 
 -- what the one command that the words spell answers to the bytes
-is_reply : (words : List (List ℕ)) (bytes : List ℕ) (c : Command) (answer : Answer) → IsCommand words c → IsTextReply bytes (answered c) answer → IsReply words bytes answer
+is_reply : (words : List (List ℕ)) (bytes : List ℕ) (c : Command) (answer : Answer) → IsCommand words c → IsTextAnswer bytes (IsAnswered c) answer → IsReply words bytes answer
 is_reply words bytes c answer w h = record {
   usage = λ u. absurd (no_usage words c w.spelled u);
-  all = λ budget asked. for (commands.All asked.workers budget) asked.spelled;
-  run = λ budget asked. for (commands.Run budget) asked;
-  kernel = λ asked. for commands.Kernel asked;
+  all = λ budget asked. let t = for (commands.All asked.workers budget) asked.spelled in record { too_large = t.too_large; refused = t.refused; accepted = t.accepted };
+  run = λ budget asked. let t = for (commands.Run budget) asked in record { too_large = t.too_large; refused = t.refused; accepted = t.accepted };
+  best = λ workers budget asked. for (commands.Best workers budget) asked;
+  kernel = λ asked. let t = for commands.Kernel asked in record { too_large = t.too_large; refused = t.refused; accepted = t.accepted };
 }
   where
-    for : (d : Command) → Spells words d → IsTextReply bytes (answered d) answer
-    for d spelled = subst (λ (x : Command). IsTextReply bytes (answered x) answer) (sym (w.only d spelled)) h
+    for : (d : Command) → Spells words d → IsTextAnswer bytes (IsAnswered d) answer
+    for d spelled = subst (λ (x : Command). IsTextAnswer bytes (IsAnswered x) answer) (sym (w.only d spelled)) h
 
 -- and the other way round
-text_reply : (words : List (List ℕ)) (bytes : List ℕ) (c : Command) (answer : Answer) → Spells words c → IsReply words bytes answer → IsTextReply bytes (answered c) answer
-text_reply words bytes (commands.All workers budget) answer w r = r.all budget (record { workers = workers; spelled = w })
-text_reply words bytes (commands.Run budget) answer w r = r.run budget w
-text_reply words bytes commands.Kernel answer w r = r.kernel w
+text_reply : (words : List (List ℕ)) (bytes : List ℕ) (c : Command) (answer : Answer) → Spells words c → IsReply words bytes answer → IsTextAnswer bytes (IsAnswered c) answer
+text_reply words bytes (commands.All workers budget) answer w r =
+    let t = r.all budget (record { workers = workers; spelled = w }) in record { too_large = t.too_large; refused = t.refused; accepted = t.accepted }
+text_reply words bytes (commands.Run budget) answer w r = let t = r.run budget w in record { too_large = t.too_large; refused = t.refused; accepted = t.accepted }
+text_reply words bytes (commands.Best workers budget) answer w r = r.best workers budget w
+text_reply words bytes commands.Kernel answer w r = let t = r.kernel w in record { too_large = t.too_large; refused = t.refused; accepted = t.accepted }
 
 usage_planned : (words : List (List ℕ)) (old new : Reading) (planned : Cause) (reply : List ℕ) → IsUsage words → Plans words old new planned reply → (planned ≡ causes.Usage) ⊎ (planned ≡ causes.NoMemory)
 usage_planned words old new causes.Usage reply u p = inl refl
@@ -168,7 +195,9 @@ usage_planned words old new (causes.Refused fault) reply u p = absurd (no_usage 
 usage_planned words old new causes.Done reply u p = absurd (no_usage words p.asked p.spelled u)
 usage_planned words old new (causes.Raised shown) reply u p = absurd (no_usage words p.asked p.spelled u)
 usage_planned words old new (causes.Spent total) reply u p = absurd (no_usage words p.asked p.spelled u)
+usage_planned words old new (causes.SpentBest total entries) reply u p = absurd (no_usage words p.asked p.spelled u)
 usage_planned words old new causes.NoScript reply u p = absurd (no_usage words p.asked p.spelled u)
+usage_planned words old new causes.NotFd reply u p = absurd (no_usage words p.asked p.spelled u)
 
 -- a call with words that are no command
 pub usage_ended : (words : List (List ℕ)) (old new : Reading) (before after : Writing) (planned cause : Cause) (reply : List ℕ) → IsUsage words → Plans words old new planned reply → Ends planned reply before after cause
@@ -294,9 +323,11 @@ excused_or causes.NoMemory = inr (inr (inr refl))
 excused_or causes.Done = inl (λ k. cc, λ k. cc, λ k. cc)
 excused_or causes.Usage = inl (λ k. cc, λ k. cc, λ k. cc)
 excused_or causes.NoScript = inl (λ k. cc, λ k. cc, λ k. cc)
+excused_or causes.NotFd = inl (λ k. cc, λ k. cc, λ k. cc)
 excused_or (causes.Raised shown) = inl (λ k. cc, λ k. cc, λ k. cc)
 excused_or (causes.Refused fault) = inl (λ k. cc, λ k. cc, λ k. cc)
 excused_or (causes.Spent total) = inl (λ k. cc, λ k. cc, λ k. cc)
+excused_or (causes.SpentBest total entries) = inl (λ k. cc, λ k. cc, λ k. cc)
 excused_or (causes.TooLarge count) = inl (λ k. cc, λ k. cc, λ k. cc)
 
 abbrev pub Replied : List (List ℕ) → List ℕ → Writing → Writing → Cause → Type 0
@@ -321,6 +352,15 @@ asked words bytes before after cause answer only h = go (excused_or cause)
     go (inr e) = inr e
     go (inl n) = inl (answered_with words bytes before after cause answer only h n.0 n.1 n.2).0
 
+-- where it is one of several answers
+replied_with : (words : List (List ℕ)) (bytes : List ℕ) (before after : Writing) (cause : Cause) (IsRight : Answer → Type 0) → ((x : Answer) → IsReply words bytes x → IsRight x) → Replied words bytes before after cause
+    → cause ≢ causes.ReadFault → cause ≢ causes.WriteFault → cause ≢ causes.NoMemory → (x : Answer) × IsRight x × (cause ≡ x.0) × Appends before.written after.written x.1
+replied_with words bytes before after cause IsRight right h f w m = go (h f m)
+  where
+    go : ((c : Cause) × (r : List ℕ) × IsReply words bytes (c, r) × Ends c r before after cause) → (x : Answer) × IsRight x × (cause ≡ x.0) × Appends before.written after.written x.1
+    go (c, r, reply, inl e) = ((c, r), right (c, r) reply, e.0, e.1)
+    go (c, r, reply, inr e) = absurd (w e.0)
+
 -- what is done is no fault, and no want of memory
 done_no_excuse : {cause : Cause} → cause ≡ causes.Done → IsNoExcuse cause
 done_no_excuse is = (λ k. cc, λ k. cc, λ k. cc)
@@ -335,26 +375,56 @@ module _ (words : List (List ℕ)) (c : Command) (bytes : List ℕ) (before afte
   asked_refused f l q = asked words bytes before after cause (refused_answer f) (λ x r. (text_reply words bytes c x w r).refused l f q) h
 
   module _ (p : Program) (l : length bytes ≤ text_limit) (a : Accepts bytes p) where
-    only_answer : (x : Answer) → IsReply words bytes x → x ≡ answered c p
-    only_answer x r = (text_reply words bytes c x w r).accepted l p a
+    right_answer : (x : Answer) → IsReply words bytes x → IsAnswered c p x
+    right_answer x r = (text_reply words bytes c x w r).accepted l p a
 
-    pub asked_accepted : (cause ≡ (answered c p).0) ⊎ IsExcused cause
-    asked_accepted = asked words bytes before after cause (answered c p) only_answer h
+    -- a right answer was written whole
+    pub written_right : (front : List ℕ) → before.written ≡ Some front → cause ≢ causes.ReadFault → cause ≢ causes.WriteFault → cause ≢ causes.NoMemory
+        → (x : Answer) × IsAnswered c p x × (cause ≡ x.0) × (after.written ≡ Some (front ++ x.1))
+    written_right front o f n m =
+        let d = replied_with words bytes before after cause (IsAnswered c p) right_answer h f n m in
+        (d.0, d.1, d.2, whole_written before.written after.written front d.0.1 o d.3)
 
-    -- what is written of one answer
-    pub written : (front : List ℕ) (answer : Answer) → answered c p ≡ answer → before.written ≡ Some front
-        → cause ≢ causes.ReadFault → cause ≢ causes.WriteFault → cause ≢ causes.NoMemory → (cause ≡ answer.0) × (after.written ≡ Some (front ++ answer.1))
-    written front answer is o f n m =
-        let d = answered_with words bytes before after cause answer (λ x r. only_answer x r ∙ is) h f n m in
-        (d.0, whole_written before.written after.written front answer.1 o d.1)
-
-    -- the call ended as done: that is the answer, and it was written whole
+    -- the call ended as done: that is a right answer, and it was written whole
     pub done_written : (front : List ℕ) → cause ≡ causes.Done → before.written ≡ Some front
-        → (reply : List ℕ) × (◌≡◌ {A = Answer} (answered c p) (causes.Done, reply)) × (after.written ≡ Some (front ++ reply))
+        → (reply : List ℕ) × IsAnswered c p (causes.Done, reply) × (after.written ≡ Some (front ++ reply))
     done_written front is o =
         let n = done_no_excuse is in
-        let all = written front (answered c p) refl o n.0 n.1 n.2 in
-        ((answered c p).1, ap (λ (x : Cause). (x, (answered c p).1)) (sym all.0 ∙ is), all.1)
+        let all = written_right front o n.0 n.1 n.2 in
+        let same : ◌≡◌ {A = Answer} all.0 (causes.Done, all.0.1) = ap (λ (x : Cause). (x, all.0.1)) (sym all.2 ∙ is) in
+        (all.0.1, subst (λ (x : Answer). IsAnswered c p x) same all.1, all.3)
+
+    -- where there is one right answer
+    pub asked_accepted : (answer : Answer) → ((x : Answer) → IsAnswered c p x → x ≡ answer) → (cause ≡ answer.0) ⊎ IsExcused cause
+    asked_accepted answer only = asked words bytes before after cause answer (λ x r. only x (right_answer x r)) h
+
+    -- what is written of it
+    pub written : (front : List ℕ) (answer : Answer) → ((x : Answer) → IsAnswered c p x → x ≡ answer) → before.written ≡ Some front
+        → cause ≢ causes.ReadFault → cause ≢ causes.WriteFault → cause ≢ causes.NoMemory → (cause ≡ answer.0) × (after.written ≡ Some (front ++ answer.1))
+    written front answer only o f n m =
+        let d = answered_with words bytes before after cause answer (λ x r. only x (right_answer x r)) h f n m in
+        (d.0, whole_written before.written after.written front answer.1 o d.1)
+
+-- `best`, where they spell it
+module _ (words : List (List ℕ)) (workers budget : ℕ) (bytes : List ℕ) (before after : Writing) (cause : Cause) (w : Spells words (commands.Best workers budget)) (h : Replied words bytes before after cause)
+    (p : Program) (l : length bytes ≤ text_limit) (a : Accepts bytes p) where
+  -- one of the right answers was written whole
+  pub best_written : (front : List ℕ) → before.written ≡ Some front → cause ≢ causes.ReadFault → cause ≢ causes.WriteFault → cause ≢ causes.NoMemory
+      → (x : BestAnswer) × IsBestAnswer p workers budget x × (cause ≡ best_cause x) × (after.written ≡ Some (front ++ best_reply budget x))
+  best_written front o f n m =
+      let d = written_right words (commands.Best workers budget) bytes before after cause w h p l a front o f n m in
+      let is : ◌≡◌ {A = Answer} d.0 (best_cause d.1.0, best_reply budget d.1.0) = d.1.2 in
+      (d.1.0, d.1.1, d.2 ∙ ap (λ (x : Answer). x.0) is, d.3 ∙ ap (λ (x : Answer). Some (front ++ x.1)) is)
+
+  -- the cause is that of a right answer
+  pub asked_best : ((x : BestAnswer) × IsBestAnswer p workers budget x × (cause ≡ best_cause x)) ⊎ IsExcused cause
+  asked_best = go (excused_or cause)
+    where
+      go : IsNoExcuse cause ⊎ IsExcused cause → ((x : BestAnswer) × IsBestAnswer p workers budget x × (cause ≡ best_cause x)) ⊎ IsExcused cause
+      go (inr e) = inr e
+      go (inl n) =
+          let d = replied_with words bytes before after cause (IsBestReply best_cause workers budget p) (right_answer words (commands.Best workers budget) bytes before after cause w h p l a) h n.0 n.1 n.2 in
+          inl (d.1.0, d.1.1, d.2 ∙ ap (λ (x : Answer). x.0) d.1.2)
 
 -- the tree of the script is searched
 pub searched_all : (k : Kernel) (budget : ℕ) (found : Found (List ℕ × Outcome)) (s : Searches k budget found) → all_answer k budget ≡ answer_of_tree (shown_lines s.top) budget found

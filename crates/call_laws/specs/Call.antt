@@ -4,20 +4,23 @@ use Rattle.std.specs.Io.KnownBytes.{Appends, Consumes, IsAtEnd}
 use Rattle.oz_outside.specs.Counts.{Rose}
 use Rattle.oz_search.specs.declared.leaf.Outcome.{Outcome}
 use Rattle.oz_language.specs.Refusals.{Program, Accepts, IsRefused}
-use Rattle.oz_language.specs.Commands.{Spells, IsUsage}
+use Rattle.oz_commands.specs.Commands.{Spells, IsUsage}
 use Rattle.oz_language.specs.Translation.{kernel_of}
-use Rattle.oz_language.specs.declared.command.Command.{Command}
-use Rattle.oz_language.specs.declared.command.Command.TheVariants as commands
-use Rattle.oz_replies.specs.Replies.{Answer, IsReply, spent, leaves_reply, all_answer, run_answer, kernel_answer, text_limit, usage_reply, too_large_reply, refused_reply, refused_answer}
+use Rattle.oz_commands.specs.declared.command.Command.{Command}
+use Rattle.oz_commands.specs.declared.command.Command.TheVariants as commands
+use Rattle.oz_replies.specs.Replies.{Answer, spent, leaves_reply, all_answer, run_answer, kernel_answer, text_limit, usage_reply, too_large_reply, refused_reply, refused_answer}
+use Rattle.oz_replies.specs.BestReplies.{IsBestReply, best_cause}
+use Rattle.oz_replies.specs.Calls.{IsReply}
 use Rattle.oz_language.specs.declared.fault.Fault.{Fault}
 use Rattle.oz_replies.specs.declared.cause.Cause.{Cause}
 use Rattle.oz_replies.specs.declared.cause.Cause.TheVariants as causes
 
--- what a command answers for a program
-abbrev pub answered : Command → Program → Answer
-answered (commands.All workers budget) p = all_answer (kernel_of p) budget
-answered (commands.Run budget) p = run_answer (kernel_of p) budget
-answered commands.Kernel p = kernel_answer p
+-- what a command answers for a program: `best` has several right answers, each other command one
+abbrev pub IsAnswered : Command → Program → Answer → Type 0
+IsAnswered (commands.All workers budget) p answer = answer ≡ all_answer (kernel_of p) budget
+IsAnswered (commands.Run budget) p answer = answer ≡ run_answer (kernel_of p) budget
+IsAnswered (commands.Best workers budget) p answer = IsBestReply best_cause workers budget p answer
+IsAnswered commands.Kernel p answer = answer ≡ kernel_answer p
 
 -- what is written of the leaves that a search found, behind what was shown
 abbrev pub answer_of_leaves : List ℕ → ℕ → Option (List Outcome) → Answer
@@ -45,7 +48,7 @@ IsBounded old new = (bytes : List ℕ) × (length bytes ≤ text_limit + 1) × C
 
 -- a program of the text has this answer
 abbrev pub ProgramGives : List ℕ → Command → Answer → Type 0
-ProgramGives text c answer = (p : Program) × Accepts text p × (answered c p ≡ answer)
+ProgramGives text c answer = (p : Program) × Accepts text p × IsAnswered c p answer
 
 -- a text gives this cause and this reply, before anything is written
 abbrev pub TextGives : List ℕ → Command → Cause → List ℕ → Type 0
@@ -53,7 +56,9 @@ TextGives text c (causes.Refused fault) reply = IsRefused text fault × (reply �
 TextGives text c causes.Done reply = ProgramGives text c (causes.Done, reply)
 TextGives text c (causes.Raised shown) reply = ProgramGives text c (causes.Raised shown, reply)
 TextGives text c (causes.Spent total) reply = ProgramGives text c (causes.Spent total, reply)
+TextGives text c (causes.SpentBest total entries) reply = ProgramGives text c (causes.SpentBest total entries, reply)
 TextGives text c causes.NoScript reply = ProgramGives text c (causes.NoScript, reply)
+TextGives text c causes.NotFd reply = ProgramGives text c (causes.NotFd, reply)
 TextGives text c causes.NoMemory reply = reply ≡ []
 TextGives text c causes.Usage reply = ⊥
 TextGives text c causes.ReadFault reply = ⊥
@@ -84,7 +89,9 @@ Plans words old new (causes.Refused fault) reply = ReadGives words old new (caus
 Plans words old new causes.Done reply = ReadGives words old new causes.Done reply
 Plans words old new (causes.Raised shown) reply = ReadGives words old new (causes.Raised shown) reply
 Plans words old new (causes.Spent total) reply = ReadGives words old new (causes.Spent total) reply
+Plans words old new (causes.SpentBest total entries) reply = ReadGives words old new (causes.SpentBest total entries) reply
 Plans words old new causes.NoScript reply = ReadGives words old new causes.NoScript reply
+Plans words old new causes.NotFd reply = ReadGives words old new causes.NotFd reply
 
 -- The reply of a planned cause was written whole, and the cause is that one; or a write failed, and a part of it was written.
 abbrev pub Ends : Cause → List ℕ → Writing → Writing → Cause → Type 0
@@ -106,7 +113,7 @@ IsExcused cause = (cause ≡ causes.ReadFault) ⊎ ((cause ≡ causes.WriteFault
 -- What each text asks for, where memory is there.
 pub record AsText (text : List ℕ) (c : Command) (answer : Answer) : Type 0 where
   pub refused : answer.0 ≢ causes.NoMemory → (fault : Fault) → IsRefused text fault → answer ≡ refused_answer fault
-  pub accepted : answer.0 ≢ causes.NoMemory → (p : Program) → Accepts text p → answer ≡ answered c p
+  pub accepted : answer.0 ≢ causes.NoMemory → (p : Program) → Accepts text p → IsAnswered c p answer
 
 -- the words spell this command and no other
 pub record IsCommand (words : List (List ℕ)) (c : Command) : Type 0 where

@@ -24,9 +24,16 @@ const ENDLESS: &[u8] = b"proc {Script R} choice R=a [] {Script R} [] {Script R} 
 /// Turns of a loop for which a worker is held up where no other comes: far more than another one needs to come.
 const HOLD: u64 = 100_000_000;
 
-/// A number of workers, a budget and a text, what is written for them, and the status.
+/// A problem with a cost: of the pairs of digits with the sum 7, the first at least 3, the one with the least `2*X+Y`.
+const PRICED: &[u8] =
+    b"proc {Script R} X Y Cost in R=sol(X Y Cost) X::0#9 Y::0#9 X+Y=:7 X>=:3 Cost=:2*X+Y {FD.distribute naive R} end";
+
+const CHEAPEST: &str = "best sol(3 4 10)\ncost 10\n";
+
+/// A command, a number of workers, a budget and a text, what is written for them, and the status.
 #[derive(Clone, Copy)]
 struct Row<'a> {
+    command: &'a str,
     workers: &'a str,
     budget: &'a str,
     text: &'a [u8],
@@ -41,7 +48,13 @@ fn check<R: Abort + Threads + Wait + Sync, G: Gate>(
     gate: &G,
 ) -> Result<(), Fail> {
     let mut words = Vec::new(alloc);
-    for word in ["all", "--workers", row.workers, "--budget", row.budget] {
+    for word in [
+        row.command,
+        "--workers",
+        row.workers,
+        "--budget",
+        row.budget,
+    ] {
         words.push(word.to_string(alloc)?)?;
     }
     let mut source = MemSource::new(alloc, row.text, 1000, &[])?;
@@ -57,6 +70,7 @@ fn many_workers_answer_as_one(rt: HostRuntime) -> Result<(), Fail> {
     for workers in ["1", "2", "64"] {
         let rows = [
             Row {
+                command: "all",
                 workers,
                 budget: "9",
                 text: TWO,
@@ -64,6 +78,7 @@ fn many_workers_answer_as_one(rt: HostRuntime) -> Result<(), Fail> {
                 status: 0,
             },
             Row {
+                command: "all",
                 workers,
                 budget: "8",
                 text: TWO,
@@ -71,6 +86,7 @@ fn many_workers_answer_as_one(rt: HostRuntime) -> Result<(), Fail> {
                 status: 6,
             },
             Row {
+                command: "all",
                 workers,
                 budget: "2000",
                 text: ENDLESS,
@@ -85,15 +101,69 @@ fn many_workers_answer_as_one(rt: HostRuntime) -> Result<(), Fail> {
     Ok(())
 }
 
+#[test]
+fn many_workers_find_what_is_best(rt: HostRuntime) -> Result<(), Fail> {
+    for workers in ["1", "2", "64"] {
+        let rows = [
+            Row {
+                command: "best",
+                workers,
+                budget: "1000",
+                text: PRICED,
+                reply: CHEAPEST,
+                status: 0,
+            },
+            Row {
+                command: "best",
+                workers,
+                budget: "1",
+                text: PRICED,
+                reply: "spent 1\n",
+                status: 6,
+            },
+            Row {
+                command: "best",
+                workers,
+                budget: "1000",
+                text: TWO,
+                reply: "not fd\n",
+                status: 10,
+            },
+        ];
+        for row in &rows {
+            check(&rt, rt.alloc(), row, &OpenGate)?;
+        }
+    }
+    Ok(())
+}
+
 /// One worker is held up with a node that it has claimed, until another has claimed one too.
 #[test]
 fn two_workers_meet(rt: HostRuntime) -> Result<(), Fail> {
     let gate = HoldGate::new(HOLD);
     let row = Row {
+        command: "all",
         workers: "2",
         budget: "1000",
         text: WIDE,
         reply: WIDE_LEAVES,
+        status: 0,
+    };
+    check(&rt, rt.alloc(), &row, &gate)?;
+    assert!(rt; gate.met());
+    Ok(())
+}
+
+/// The same in a search for what is best.
+#[test]
+fn two_workers_meet_in_best(rt: HostRuntime) -> Result<(), Fail> {
+    let gate = HoldGate::new(HOLD);
+    let row = Row {
+        command: "best",
+        workers: "2",
+        budget: "1000",
+        text: PRICED,
+        reply: CHEAPEST,
         status: 0,
     };
     check(&rt, rt.alloc(), &row, &gate)?;

@@ -1,38 +1,25 @@
-//! What a command answers for a program.
+//! What `all`, `run` and `kernel` answer for a program.
 ghost use Rattle.std.specs.Prelude.{◌≡◌, ◌≤◌, ◌^◌, ◌++◌, [], IfOk, OnOk, codes};
-ghost use Rattle.oz_language.specs.Commands.{InRange};
 ghost use Rattle.oz_language.specs.Refusals.{Program};
 ghost use Rattle.oz_language.specs.Translation.{kernel_of};
 ghost use Rattle.oz_semantics.specs.Configurations.{view};
-ghost use Rattle.oz_semantics.specs.Runs.{run, opening};
-ghost use Rattle.oz_semantics.specs.Search.{with_root, search_space};
 ghost use Rattle.oz_semantics.specs.Texts.{term_text};
-ghost use Rattle.machine_search.specs.Visits.{found_below, leaves_of};
 ghost use Rattle.oz_replies.specs.Replies.{shown_lines, spent, answer_of_raise, searched, all_answer, run_answer, kernel_answer};
-ghost use Rattle.oz_machine.specs.Answers.{IsRun};
-ghost use Rattle.call_laws.specs.Call.{answered, answer_of_leaves};
+ghost use Rattle.call_laws.specs.Call.{answer_of_leaves};
 
+use answer_plans::{Plan, add_spent, run_top};
 use kernel_form::kernel_text;
-use leaf_search::depth_first;
-use oz_base::{Ident, Sequence, SpaceName};
-use oz_language::{Command, Kernel};
+use oz_base::{Ident, Sequence};
+use oz_language::Kernel;
 use oz_machine::{Machine, Ran};
 use oz_outside::Gate;
 use oz_replies::Cause;
 use oz_search::Outcome;
-use recompute::Frozen;
-use reply_text::{add_decimal, add_leaves_reply, lines};
-use search_all::search_all;
+use reply_text::{add_leaves_reply, lines};
+use script_leaves::leaves;
 use std::alloc::{AllocError, Global};
 use std::sync::Wait;
 use std::thread::Threads;
-
-/// A cause, and what is to be written for it.
-#[derive(Drop)]
-pub struct Plan {
-    pub cause: Cause,
-    pub reply: Vec<u8>,
-}
 
 /// The lines of what was shown, with which each answer begins.
 fn shown_lines(alloc: Global, machine: &Machine) -> Result<Vec<u8>, AllocError>
@@ -45,9 +32,7 @@ fn shown_lines(alloc: Global, machine: &Machine) -> Result<Vec<u8>, AllocError>
 fn spent(alloc: Global, mut reply: Vec<u8>, budget: u64) -> Result<Plan, AllocError>
     ensures { IfOk result (λ plan. (plan.cause, plan.reply.items) ≡ spent reply.items budget) }
 {
-    reply.extend_from_slice(b"spent ")?;
-    add_decimal(alloc, budget, &mut reply)?;
-    reply.extend_from_slice(b"\n")?;
+    add_spent(alloc, budget, &mut reply)?;
     Ok(Plan {
         cause: Cause::Spent { total: budget },
         reply,
@@ -93,47 +78,6 @@ fn raised(
     }
 }
 
-/// The leaves of the tree below a space that was just made, from left to right, by so many workers. `None` exactly where it takes more
-/// steps than are left.
-fn leaves_below<R: Threads + Wait + Sync, G: Gate>(
-    rt: &R,
-    alloc: Global,
-    machine: Machine,
-    space: SpaceName,
-    workers: u32,
-    left: u64,
-    gate: &G,
-) -> Result<Option<Sequence<Outcome>>, AllocError>
-    requires workers { (1 ≤ workers) × (workers ≤ 64) }
-    requires small { left ≤ 2 ^ 48 }
-    ensures { IfOk result (λ found. found ≡ leaves_of (found_below machine.kernel space machine.config left)) }
-{
-    if workers == 1 {
-        return depth_first(alloc, machine, &space, left, gate);
-    }
-    let frozen = Frozen::new(machine, space, left);
-    search_all(rt, alloc, &frozen, workers, gate)
-}
-
-/// The same of the tree of a script.
-fn leaves<R: Threads + Wait + Sync, G: Gate>(
-    rt: &R,
-    alloc: Global,
-    mut machine: Machine,
-    script: Ident,
-    workers: u32,
-    left: u64,
-    gate: &G,
-) -> Result<Option<Sequence<Outcome>>, AllocError>
-    requires workers { (1 ≤ workers) × (workers ≤ 64) }
-    requires small { left ≤ 2 ^ 48 }
-    ensures { IfOk result (λ found. found
-        ≡ leaves_of (found_below machine.kernel (search_space machine.config) (with_root machine.kernel.statements script machine.config) left)) }
-{
-    let space = machine.root(alloc, script)?;
-    leaves_below(rt, alloc, machine, space, workers, left, gate)
-}
-
 /// What is written of the leaves that a search found, behind what was shown.
 fn plan_leaves(
     alloc: Global,
@@ -166,6 +110,9 @@ fn no_script(alloc: Global, machine: &Machine) -> Result<Plan, AllocError>
     })
 }
 
+/// Lets go of a machine that has come to rest.
+fn drop_machine(_machine: Machine) {}
+
 /// What `all` answers where the top has come to rest.
 fn searched<R: Threads + Wait + Sync, G: Gate>(
     rt: &R,
@@ -181,7 +128,11 @@ fn searched<R: Threads + Wait + Sync, G: Gate>(
     ensures { IfOk result (λ plan. (plan.cause, plan.reply.items) ≡ searched machine.kernel budget machine.config left) }
 {
     match machine.script() {
-        None => no_script(alloc, &machine),
+        None => {
+            let plan = no_script(alloc, &machine);
+            drop_machine(machine);
+            plan
+        }
         Some(script) => {
             let reply = shown_lines(alloc, &machine)?;
             let found = leaves(rt, alloc, machine, script, workers, left, gate)?;
@@ -200,18 +151,9 @@ fn done(alloc: Global, machine: &Machine) -> Result<Plan, AllocError>
     })
 }
 
-/// Runs the top of a kernel.
-fn run_top(alloc: Global, kernel: Kernel, budget: u64) -> Result<(Machine, Ran), AllocError>
-    ensures kernel { IfOk result (λ ended. ended.0.kernel ≡ kernel) }
-    ensures run { IfOk result (λ ended. IsRun ended.0 [] budget (run kernel [] (opening kernel) budget) ended.1) }
-{
-    let mut machine = Machine::load(alloc, kernel)?;
-    let ran = machine.run(alloc, &SpaceName::top(), budget)?;
-    Ok((machine, ran))
-}
-
-/// What `all` answers for a kernel.
-fn all_answer<R: Threads + Wait + Sync, G: Gate>(
+/// What `all` answers for a kernel: the leaves of its script, found by so many workers, from 1 to 64, in no more than so many steps. It
+/// refuses where there is no memory. The gate is called round the solving of each node.
+pub fn all_answer<R: Threads + Wait + Sync, G: Gate>(
     rt: &R,
     alloc: Global,
     kernel: Kernel,
@@ -245,8 +187,8 @@ fn all_answer<R: Threads + Wait + Sync, G: Gate>(
     }
 }
 
-/// What `run` answers for a kernel.
-fn run_answer(alloc: Global, kernel: Kernel, budget: u64) -> Result<Plan, AllocError>
+/// What `run` answers for a kernel: what its top shows in no more than so many steps. It refuses where there is no memory.
+pub fn run_answer(alloc: Global, kernel: Kernel, budget: u64) -> Result<Plan, AllocError>
     ensures { IfOk result (λ plan. (plan.cause, plan.reply.items) ≡ run_answer kernel budget) }
 {
     let (machine, ran) = run_top(alloc, kernel, budget)?;
@@ -263,8 +205,8 @@ fn run_answer(alloc: Global, kernel: Kernel, budget: u64) -> Result<Plan, AllocE
     }
 }
 
-/// What `kernel` answers: the kernel as a text.
-fn kernel_answer(alloc: Global, kernel: &Kernel) -> Result<Plan, AllocError>
+/// What `kernel` answers: the kernel as a text. It refuses where there is no memory.
+pub fn kernel_answer(alloc: Global, kernel: &Kernel) -> Result<Plan, AllocError>
     ensures { (p : Program) → kernel.now ≡ kernel_of p → IfOk result (λ plan. (plan.cause, plan.reply.items) ≡ kernel_answer p) }
 {
     let text = kernel_text(alloc, kernel)?;
@@ -272,22 +214,4 @@ fn kernel_answer(alloc: Global, kernel: &Kernel) -> Result<Plan, AllocError>
         cause: Cause::Done,
         reply: text.into_vec(),
     })
-}
-
-/// What a command answers for the kernel of a program. The gate is called round the solving of each node of a search.
-pub fn answered<R: Threads + Wait + Sync, G: Gate>(
-    rt: &R,
-    alloc: Global,
-    command: Command,
-    kernel: Kernel,
-    gate: &G,
-) -> Result<Plan, AllocError>
-    requires { InRange command }
-    ensures { (p : Program) → kernel ≡ kernel_of p → IfOk result (λ plan. (plan.cause, plan.reply.items) ≡ answered command p) }
-{
-    match command {
-        Command::All { workers, budget } => all_answer(rt, alloc, kernel, workers, budget, gate),
-        Command::Run { budget } => run_answer(alloc, kernel, budget),
-        Command::Kernel => kernel_answer(alloc, &kernel),
-    }
 }

@@ -1,6 +1,7 @@
-//! What each command answers for a program: it runs the top, searches the tree of its script, or writes its kernel.
+//! What `all`, `run` and `kernel` answer for a program: they run its top and then search the tree of its script, or stop there, or write its
+//! kernel.
 #![tactic(auto)]
 
 mod answers;
 
-pub use answers::{Plan, answered};
+pub use answers::{all_answer, kernel_answer, run_answer};

@@ -9,8 +9,8 @@ use Rattle.clap.specs.Simple.{built_leaf, filled, inherited}
 use Rattle.clap.specs.Faults.{repeat_fault, use_fault, values_fault}
 use Rattle.clap.specs.Kinds.{or_else}
 use Rattle.clap.specs.declared.error.ErrorKind.TheVariants.{InvalidValue}
-use Rattle.oz_language.specs.Commands.{OptionName, Verb, all, run, kernel, workers, budget, takes}
-use Rattle.command_line.specs.Table.{all_app, id_of, kernel_app, option_rule, oz_start, run_app}
+use Rattle.oz_commands.specs.Commands.{OptionName, Verb, all, run, best, kernel, workers, budget, takes}
+use Rattle.command_line.specs.Table.{all_app, best_app, id_of, kernel_app, option_rule, oz_start, run_app}
 
 abbrev pub rule_for : OptionName → Rule
 rule_for name = filled (option_rule name)
@@ -18,6 +18,7 @@ rule_for name = filled (option_rule name)
 abbrev pub given_shape : Verb → Shape
 given_shape all = all_app.top
 given_shape run = run_app.top
+given_shape best = best_app.top
 given_shape kernel = kernel_app.top
 
 abbrev pub leaf : Verb → Shape
@@ -31,6 +32,8 @@ find_id all workers e = refl
 find_id all budget e = refl
 find_id run budget e = refl
 find_id run workers e = absurd (true≢false (sym e))
+find_id best workers e = refl
+find_id best budget e = refl
 find_id kernel n e = absurd (true≢false (sym e))
 
 -- the option of this long name
@@ -45,12 +48,14 @@ taken v (Some n) = if takes v n then Some (rule_for n) else None
 look : Verb → Bool → Bool → Option Rule
 look all a b = cond (a || false) (Some (rule_for workers)) (cond (b || false) (Some (rule_for budget)) None)
 look run a b = cond (b || false) (Some (rule_for budget)) None
+look best a b = cond (a || false) (Some (rule_for workers)) (cond (b || false) (Some (rule_for budget)) None)
 look kernel a b = None
 
 look_is : (v : Verb) (name : Text) → arg_by_long (rules_for v) name ≡ look v (bytes_eq (codes "workers") name) (bytes_eq (codes "budget") name)
 unfolding look
 look_is all name = refl
 look_is run name = refl
+look_is best name = refl
 look_is kernel name = refl
 
 -- a name is not that of both options
@@ -66,6 +71,9 @@ look_taken run true true h = absurd (true≢false (h refl))
 look_taken run true false h = refl
 look_taken run false true h = refl
 look_taken run false false h = refl
+look_taken best true b h = refl
+look_taken best false true h = refl
+look_taken best false false h = refl
 look_taken kernel true b h = refl
 look_taken kernel false true h = refl
 look_taken kernel false false h = refl
@@ -76,11 +84,13 @@ find_long v name = look_is v name ∙ look_taken v _ _ (not_both name)
 pub find_first : (v : Verb) → arg_by_index (rules_for v) 1 ≡ None
 find_first all = refl
 find_first run = refl
+find_first best = refl
 find_first kernel = refl
 
 pub find_short : (v : Verb) (x : ℕ) → arg_by_short (rules_for v) x ≡ None
 find_short all x = refl
 find_short run x = refl
+find_short best x = refl
 find_short kernel x = refl
 
 pub takes_one : (n : OptionName) → takes_values (rule_for n) ≡ true

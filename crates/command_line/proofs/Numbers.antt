@@ -13,8 +13,8 @@ use Rattle.clap.specs.Walk.{row_text}
 use Rattle.clap.specs.declared.parser.matches.ArgMatches.{ArgMatches}
 use Rattle.clap.specs.declared.parser.matches.ArgMatches.TheViews.{out-ArgMatches, out-SubCommand}
 use Rattle.clap.specs.declared.parser.matches.SubCommand.{SubCommand}
-use Rattle.oz_language.specs.declared.command.Command.{Command}
-use Rattle.oz_language.specs.Commands.{Given, InRange, IsSpelled, OptionName, Verb, all, run, kernel, workers, budget, command_by, default, fit, is_number, most, same_name, takes, value_in, verb_word}
+use Rattle.oz_commands.specs.declared.command.Command.{Command}
+use Rattle.oz_commands.specs.Commands.{Given, InRange, IsSpelled, OptionName, Verb, all, run, best, kernel, workers, budget, command_by, default, fit, is_number, most, same_name, takes, value_in, verb_word}
 use Rattle.command_line.specs.Reading.{number_in, verb_of}
 use Rattle.command_line.specs.Table.{id_of, row_for, rows_for}
 use Rattle.command_line.proofs.Uses.{has_plus, ids_same, most_fits, no_plus}
@@ -113,6 +113,7 @@ verbs_apart v w e =
     verb_named : (v : Verb) → verb_of (verb_word v) ≡ Some v
     verb_named all = refl
     verb_named run = refl
+    verb_named best = refl
     verb_named kernel = refl
 
 named : (o : Option (Box SubCommand Global)) → option_map (λ b. (out-SubCommand (box_value b)).name.now) o ≡ option_map (λ (p : Text × List Row). p.0) (subcommand_rows o)
@@ -158,6 +159,7 @@ value_least v n given ok = subst (λ o. 1 ≤ unwrap_or o (default n)) (number_t
 pub fitting_ranges : (v : Verb) (given : List Given) → fit v given ≡ true → InRange (command_by v given)
 fitting_ranges all given ok = (value_least all workers given ok, value_most all workers given ok, value_most all budget given ok)
 fitting_ranges run given ok = value_most run budget given ok
+fitting_ranges best given ok = (value_least best workers given ok, value_most best workers given ok, value_least best budget given ok, value_most best budget given ok)
 fitting_ranges kernel given ok = tt
 
 pub spelled_ranges : (words : List Text) (r : Option Command) → IsSpelled words r → IfSome r InRange

@@ -4,8 +4,8 @@ use Rattle.std.specs.List.{list_any}
 use Rattle.clap.specs.Words.{HasKind, Text, fault_of, kind_of, subcommand_of}
 use Rattle.clap.specs.declared.Error.{Error}
 use Rattle.clap.specs.declared.error.ErrorKind.TheVariants.{OutOfMemory}
-use Rattle.oz_language.specs.declared.command.Command.{Command}
-use Rattle.oz_language.specs.Commands.{Given, Verb, Word, command_by}
+use Rattle.oz_commands.specs.declared.command.Command.{Command}
+use Rattle.oz_commands.specs.Commands.{Given, Verb, Word, command_by}
 use Rattle.command_line.specs.Reading.{command_of, is_odd}
 use Rattle.command_line.specs.Table.{IsFound, oz_app}
 use Rattle.command_line.proofs.WholeLine.{Tells, tells}

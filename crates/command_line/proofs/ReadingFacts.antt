@@ -4,7 +4,7 @@ use Rattle.std.specs.Prelude.{option_and_then}
 use Rattle.std.specs.List.{list_any, after_first}
 use Rattle.clap.specs.Words.{Text}
 use Rattle.clap.specs.Walk.{arg_by_long}
-use Rattle.oz_language.specs.Commands.{Given, OptionName, Verb, Word, is_number, same_name, takes}
+use Rattle.oz_commands.specs.Commands.{Given, OptionName, Verb, Word, is_number, same_name, takes}
 use Rattle.command_line.specs.Reading.{apart, is_given, options_of, value_part, with_option}
 use Rattle.command_line.proofs.Leaf.{rules_for, rule_for, taken, long_name, find_long}
 use Rattle.command_line.proofs.Uses.{has_plus}

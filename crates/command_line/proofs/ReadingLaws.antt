@@ -8,7 +8,7 @@ use Rattle.std.specs.Char.{is_digit}
 use Rattle.std.specs.List.{list_any, list_all, before_first, after_first}
 use Rattle.std.specs.Str.{bytes_eq}
 use Rattle.clap.specs.Words.{Text}
-use Rattle.oz_language.specs.Commands.{Given, OptionName, Verb, Word, all, run, kernel, workers, budget, command_by, fit, is_number, takes, verb_word}
+use Rattle.oz_commands.specs.Commands.{Given, OptionName, Verb, Word, all, run, best, kernel, workers, budget, command_by, fit, is_number, takes, verb_word}
 use Rattle.command_line.specs.Reading.{apart, command_of, is_given, is_odd, joined, option_name, option_read, options_of, value_part, verb_of, with_option}
 use Rattle.command_line.proofs.WordKinds.{NoNumber, before_cons, after_cons, dead, hyphen_no_number}
 use Rattle.command_line.proofs.Uses.{has_plus}
@@ -119,23 +119,26 @@ options_lost v (x ∷ ws) odd given due = go (is_odd x) refl odd (options_lost v
     go false h odd more given (Some n) = bind_none (ending v ws) (with_option v (apart n x) given) (λ next. more odd next None)
 
 pub verb_is : (x : Text) (v : Verb) → verb_of x ≡ Some v → x ≡ verb_word v
-verb_is x v e = go (bytes_eq (codes "all") x) refl (bytes_eq (codes "run") x) refl (bytes_eq (codes "kernel") x) refl e
+verb_is x v e = go (bytes_eq (codes "all") x) refl (bytes_eq (codes "run") x) refl (bytes_eq (codes "best") x) refl (bytes_eq (codes "kernel") x) refl e
   where
     at : (t : Text) (w : Verb) → bytes_eq t x ≡ true → t ≡ verb_word w → Some w ≡ Some v → x ≡ verb_word v
     at t w h name e =
         let same : w ≡ v = cc in
         sym ((bytes_eq-Decides t x).0 h) ∙ name ∙ ap verb_word same
 
-    go : (a : Bool) → bytes_eq (codes "all") x ≡ a → (b : Bool) → bytes_eq (codes "run") x ≡ b → (d : Bool) → bytes_eq (codes "kernel") x ≡ d
-        → cond a (Some all) (cond b (Some run) (cond d (Some kernel) None)) ≡ Some v → x ≡ verb_word v
-    go true h b k d l e = at (codes "all") all h refl e
-    go false h true k d l e = at (codes "run") run k refl e
-    go false h false k true l e = at (codes "kernel") kernel l refl e
-    go false h false k false l e = cc
+    go : (a : Bool) → bytes_eq (codes "all") x ≡ a → (b : Bool) → bytes_eq (codes "run") x ≡ b → (s : Bool) → bytes_eq (codes "best") x ≡ s
+        → (d : Bool) → bytes_eq (codes "kernel") x ≡ d
+        → cond a (Some all) (cond b (Some run) (cond s (Some best) (cond d (Some kernel) None))) ≡ Some v → x ≡ verb_word v
+    go true h b k s m d l e = at (codes "all") all h refl e
+    go false h true k s m d l e = at (codes "run") run k refl e
+    go false h false k true m d l e = at (codes "best") best m refl e
+    go false h false k false m true l e = at (codes "kernel") kernel l refl e
+    go false h false k false m false l e = cc
 
 plain_verb : (v : Verb) → is_odd (verb_word v) ≡ false
 plain_verb all = refl
 plain_verb run = refl
+plain_verb best = refl
 plain_verb kernel = refl
 
 pub odd_lost : (words : List Word) → list_any is_odd words ≡ true → command_of words ≡ None

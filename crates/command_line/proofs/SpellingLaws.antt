@@ -5,8 +5,8 @@ use Rattle.std.specs.List.{list_any, list_all, flat_map, before_first, after_fir
 use Rattle.std.specs.Str.{bytes_eq}
 use Rattle.std.proofs.lemmas.Bool.{eqb-true}
 use Rattle.std.proofs.lemmas.Slice.Eq.{bytes_eq-Decides}
-use Rattle.oz_language.specs.declared.command.Command.{Command}
-use Rattle.oz_language.specs.Commands.{Given, IsSpelled, OptionName, Spells, Verb, Word, all, run, kernel, workers, budget, are_distinct, command_by, fit, is_number, option_word, same_name, takes, verb_word, words_by, words_of}
+use Rattle.oz_commands.specs.declared.command.Command.{Command}
+use Rattle.oz_commands.specs.Commands.{Given, IsSpelled, OptionName, Spells, Verb, Word, all, run, best, kernel, workers, budget, are_distinct, command_by, fit, is_number, option_word, same_name, takes, verb_word, words_by, words_of}
 use Rattle.command_line.specs.Reading.{apart, command_of, is_given, joined, option_name, option_read, options_of, value_part, verb_of, with_option}
 use Rattle.command_line.proofs.WordKinds.{after_cons, before_cons}
 use Rattle.command_line.proofs.ReadingFacts.{given_more}
@@ -194,6 +194,7 @@ unreads v (x ∷ ws) given (Some n) last e = unread_due v ws (unreads v ws) give
 verb_named : (v : Verb) → verb_of (verb_word v) ≡ Some v
 verb_named all = refl
 verb_named run = refl
+verb_named best = refl
 verb_named kernel = refl
 
 joined_facts : (v : Verb) (gs last : List Given) → adds v [] gs ≡ Some last → (fit v gs ≡ true) × (are_distinct gs ≡ true) × (gs ≡ last)

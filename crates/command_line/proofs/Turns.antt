@@ -8,7 +8,7 @@ use Rattle.clap.specs.Walk.{Held, Waiting, idle, option, positional, Walk, arg_b
 use Rattle.clap.specs.Faults.{settle_fault, use_fault, turn_fault, flags_fault, word_fault, step_fault, stray_fault}
 use Rattle.clap.specs.Kinds.{or_else}
 use Rattle.clap.specs.declared.error.ErrorKind.TheVariants.{InvalidValue, UnknownArgument}
-use Rattle.oz_language.specs.Commands.{OptionName, workers, budget}
+use Rattle.oz_commands.specs.Commands.{OptionName, workers, budget}
 use Rattle.command_line.specs.Table.{id_of}
 use Rattle.command_line.proofs.WordKinds.{IsPlain}
 use Rattle.command_line.proofs.Leaf.{rule_for, none_used}

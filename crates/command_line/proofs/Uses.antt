@@ -15,7 +15,7 @@ use Rattle.clap.specs.declared.error.ErrorKind.TheVariants.{ArgumentConflict}
 use Rattle.clap.specs.declared.builder.ValueParser.TheVariants as parser
 use Rattle.clap.specs.declared.parser.matches.ValueSource.TheVariants.{CommandLine}
 use Rattle.clap.specs.declared.builder.value_parser.Reading.TheVariants as reading
-use Rattle.oz_language.specs.Commands.{Given, OptionName, Verb, workers, budget, is_number, most, same_name, takes}
+use Rattle.oz_commands.specs.Commands.{Given, OptionName, Verb, workers, budget, is_number, most, same_name, takes}
 use Rattle.command_line.specs.Reading.{is_given, with_option}
 use Rattle.command_line.specs.Table.{id_of, row_for, rows_for}
 use Rattle.command_line.proofs.Leaf.{rule_for, one_used}

@@ -5,7 +5,7 @@ use Rattle.clap.specs.Words.{Row, Text}
 use Rattle.clap.specs.Walk.{Held, Walk, finished, settled, walked, with_default}
 use Rattle.clap.specs.Faults.{check_fault, defaults_fault, settle_fault, turn_fault, walk_fault}
 use Rattle.clap.specs.Kinds.{Kinds, or_else}
-use Rattle.oz_language.specs.Commands.{Given, Verb, all, run, kernel}
+use Rattle.oz_commands.specs.Commands.{Given, Verb, all, run, best, kernel}
 use Rattle.command_line.specs.Table.{rows_for}
 use Rattle.command_line.proofs.Leaf.{leaf, rules_for}
 
@@ -30,11 +30,13 @@ cond_same false x = refl
 pub leaf_once : (v : Verb) → (leaf v).args_override_self ≡ false
 leaf_once all = refl
 leaf_once run = refl
+leaf_once best = refl
 leaf_once kernel = refl
 
 pub leaf_is : (v : Verb) → (leaf v).is_leaf ≡ true
 leaf_is all = refl
 leaf_is run = refl
+leaf_is best = refl
 leaf_is kernel = refl
 
 -- ---- after the walk
@@ -43,16 +45,19 @@ no_defaults : (v : Verb) (rows : List Row) → defaults_fault rows (rules_for v)
 unfolding defaults_fault
 no_defaults all rows = simp (or_true, cond_same)
 no_defaults run rows = simp or_true
+no_defaults best rows = simp (or_true, cond_same)
 no_defaults kernel rows = refl
 
 same_rows : (v : Verb) (rows : List Row) → fold with_default rows (rules_for v) ≡ rows
 same_rows all rows = simp cond_same
 same_rows run rows = simp cond_same
+same_rows best rows = simp cond_same
 same_rows kernel rows = refl
 
 checked : (v : Verb) (given : List Given) → check_fault (leaf v) (rows_for given) false ≡ []
 checked all given = refl
 checked run given = refl
+checked best given = refl
 checked kernel given = refl
 
 abbrev pub end_fault : Verb → Held → Kinds

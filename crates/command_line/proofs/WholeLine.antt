@@ -11,8 +11,8 @@ use Rattle.clap.specs.Faults.{check_fault, defaults_fault, entered_fault, settle
 use Rattle.clap.specs.Kinds.{Kinds, or_else}
 use Rattle.clap.specs.declared.error.ErrorKind.TheVariants.{InvalidSubcommand, MissingSubcommand, UnknownArgument}
 use Rattle.clap.proofs.FaultLemmas.{stopped_fault}
-use Rattle.oz_language.specs.declared.command.Command.{Command}
-use Rattle.oz_language.specs.Commands.{Given, Verb, Word, all, run, kernel, command_by, verb_word}
+use Rattle.oz_commands.specs.declared.command.Command.{Command}
+use Rattle.oz_commands.specs.Commands.{Given, Verb, Word, all, run, best, kernel, command_by, verb_word}
 use Rattle.command_line.specs.Reading.{command_of, is_odd, options_of, verb_of}
 use Rattle.command_line.specs.Table.{IsFound, oz_app}
 use Rattle.command_line.proofs.WordKinds.{Kind, long, short, plain, classify}
@@ -37,15 +37,17 @@ simple_and_free = refl
 -- ---- the first word
 
 met_is : (x : Text) → subcommand_met names idle x ≡ option_map verb_word (verb_of x)
-met_is x = go (bytes_eq (codes "all") x) (bytes_eq (codes "run") x) (bytes_eq (codes "kernel") x)
+met_is x = go (bytes_eq (codes "all") x) (bytes_eq (codes "run") x) (bytes_eq (codes "best") x) (bytes_eq (codes "kernel") x)
   where
-    go : (a b c : Bool) → option_map (λ (s : Text × List Text). s.0)
-        (cond (a || false) (Some (codes "all", [])) (cond (b || false) (Some (codes "run", [])) (cond (c || false) (Some (codes "kernel", [])) None)))
-        ≡ option_map verb_word (cond a (Some all) (cond b (Some run) (cond c (Some kernel) None)))
-    go true b c = refl
-    go false true c = refl
-    go false false true = refl
-    go false false false = refl
+    go : (a b c d : Bool) → option_map (λ (s : Text × List Text). s.0)
+        (cond (a || false) (Some (codes "all", [])) (cond (b || false) (Some (codes "run", [])) (cond (c || false) (Some (codes "best", []))
+        (cond (d || false) (Some (codes "kernel", [])) None))))
+        ≡ option_map verb_word (cond a (Some all) (cond b (Some run) (cond c (Some best) (cond d (Some kernel) None))))
+    go true b c d = refl
+    go false true c d = refl
+    go false false true d = refl
+    go false false false true = refl
+    go false false false false = refl
 
 abbrev start : Walk
 start = at_word (holding [] None) idle
@@ -83,11 +85,13 @@ module _ (v : Verb) (x : Text) (ws : List Text) (is : verb_of x ≡ Some v) wher
   entered_is : (v : Verb) → entered (built oz_app) (Some (verb_word v, ws)) ≡ Some (verb_word v, final v start ws)
   entered_is all = refl
   entered_is run = refl
+  entered_is best = refl
   entered_is kernel = refl
 
   below_is : (v : Verb) → entered_fault (built oz_app) (Some (verb_word v, ws)) ≡ total v start ws
   below_is all = refl
   below_is run = refl
+  below_is best = refl
   below_is kernel = refl
 
   abbrev level_by : Walk → Kinds → Kinds

@@ -8,7 +8,7 @@ use Rattle.clap.specs.Walk.{Held, idle, option, settled, used, walked}
 use Rattle.clap.specs.Faults.{settle_fault, turn_fault, use_fault}
 use Rattle.clap.specs.Kinds.{Kinds, or_else}
 use Rattle.clap.specs.declared.error.ErrorKind.TheVariants.{InvalidValue, UnknownArgument}
-use Rattle.oz_language.specs.Commands.{Given, OptionName, Verb, Word, workers, budget, takes}
+use Rattle.oz_commands.specs.Commands.{Given, OptionName, Verb, Word, workers, budget, takes}
 use Rattle.command_line.specs.Reading.{apart, is_odd, joined, option_name, option_read, options_of, value_part, with_option}
 use Rattle.command_line.specs.Table.{id_of, rows_for}
 use Rattle.command_line.proofs.Leaf.{leaf, rules_for, rule_for, long_name, find_first, find_id, find_short, takes_one}

@@ -7,7 +7,7 @@ use Rattle.std.specs.List.{list_any, before_first, after_first, position_or_len}
 use Rattle.std.specs.Str.{bytes_eq, chars}
 use Rattle.clap.specs.Lexer.{long_of, short_of, name_and_value}
 use Rattle.clap.specs.Words.{Text}
-use Rattle.oz_language.specs.Commands.{OptionName, workers, budget, is_number}
+use Rattle.oz_commands.specs.Commands.{OptionName, workers, budget, is_number}
 use Rattle.command_line.specs.Reading.{option_name, value_part}
 use Rattle.command_line.proofs.Leaf.{long_name}
 

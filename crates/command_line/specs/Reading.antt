@@ -4,14 +4,15 @@ use Rattle.std.specs.Prelude.{true, false}
 use Rattle.std.specs.List.{list_any, before_first, after_first}
 use Rattle.std.specs.Str.{bytes_eq}
 use Rattle.std.specs.Str.Parse.{digits_value}
-use Rattle.oz_language.specs.declared.command.Command.{Command}
-use Rattle.oz_language.specs.Commands.{Given, OptionName, Verb, Word, all, run, kernel, workers, budget, command_by, is_number, option_word, same_name, takes, verb_word}
+use Rattle.oz_commands.specs.declared.command.Command.{Command}
+use Rattle.oz_commands.specs.Commands.{Given, OptionName, Verb, Word, all, run, best, kernel, workers, budget, command_by, is_number, option_word, same_name, takes, verb_word}
 
 abbrev pub verb_of : Word → Option Verb
 verb_of word =
     if bytes_eq (verb_word all) word then Some all
     else (if bytes_eq (verb_word run) word then Some run
-    else (if bytes_eq (verb_word kernel) word then Some kernel else None))
+    else (if bytes_eq (verb_word best) word then Some best
+    else (if bytes_eq (verb_word kernel) word then Some kernel else None)))
 
 -- the option that a word names, up to its first `=` (61)
 abbrev pub option_name : Word → Option OptionName

@@ -4,7 +4,7 @@ use Rattle.clap.specs.Words.{App, Row, Rule, Text, new_app, new_rule, with_rule,
 use Rattle.clap.specs.declared.builder.value_parser.ValueParser.TheVariants as parser
 use Rattle.clap.specs.declared.builder.value_parser.Reading.TheVariants as reading
 use Rattle.clap.specs.declared.parser.matches.ValueSource.TheVariants.{CommandLine}
-use Rattle.oz_language.specs.Commands.{Given, OptionName, Verb, all, run, kernel, workers, budget, fit, most, verb_word}
+use Rattle.oz_commands.specs.Commands.{Given, OptionName, Verb, all, run, best, kernel, workers, budget, fit, most, verb_word}
 
 -- an option by the name that clap has for it, without the hyphens
 abbrev pub id_of : OptionName → Text
@@ -21,6 +21,9 @@ all_app = with_rule (with_rule (new_app (verb_word all)) (option_rule workers)) 
 abbrev pub run_app : App
 run_app = with_rule (new_app (verb_word run)) (option_rule budget)
 
+abbrev pub best_app : App
+best_app = with_rule (with_rule (new_app (verb_word best)) (option_rule workers)) (option_rule budget)
+
 abbrev pub kernel_app : App
 kernel_app = new_app (verb_word kernel)
 
@@ -36,7 +39,7 @@ oz_start = let a = new_app (codes "oz") in record a {
 }
 
 abbrev pub oz_app : App
-oz_app = with_subcommand (with_subcommand (with_subcommand oz_start all_app.top) run_app.top) kernel_app.top
+oz_app = with_subcommand (with_subcommand (with_subcommand (with_subcommand oz_start all_app.top) run_app.top) best_app.top) kernel_app.top
 
 -- what clap holds of an option that was given
 abbrev pub row_for : Given → Row

@@ -3,8 +3,8 @@
 ghost use Rattle.std.specs.Prelude.{◌≡◌, IfOk, false};
 ghost use Rattle.clap.specs.Words.{app_of, rule_of};
 ghost use Rattle.clap.specs.declared.builder.Command.TheViews.{out-Command as fields_of};
-ghost use Rattle.oz_language.specs.Commands.{workers, budget};
-ghost use Rattle.command_line.specs.Table.{all_app, kernel_app, option_rule, oz_app, oz_start, run_app};
+ghost use Rattle.oz_commands.specs.Commands.{workers, budget};
+ghost use Rattle.command_line.specs.Table.{all_app, best_app, kernel_app, option_rule, oz_app, oz_start, run_app};
 
 use clap::{Arg, Command, value_parser};
 use std::alloc::{AllocError, Global};
@@ -45,6 +45,16 @@ fn run<'a>(alloc: Global) -> Result<Command<'a>, AllocError>
     Command::new(alloc, "run").arg(budget(alloc))
 }
 
+/// The command `best`.
+fn best<'a>(alloc: Global) -> Result<Command<'a>, AllocError>
+    ensures app { IfOk result (λ c. app_of c ≡ best_app) }
+    ensures local { IfOk result (λ c. (fields_of c).has_globals ≡ false) }
+{
+    Command::new(alloc, "best")
+        .arg(workers(alloc))?
+        .arg(budget(alloc))
+}
+
 /// The command `kernel`, which takes no options.
 fn kernel<'a>(alloc: Global) -> Command<'a>
     ensures app { app_of result ≡ kernel_app }
@@ -71,5 +81,6 @@ pub(crate) fn program<'a>(alloc: Global) -> Result<Command<'a>, AllocError>
     start(alloc)
         .subcommand(all(alloc)?)?
         .subcommand(run(alloc)?)?
+        .subcommand(best(alloc)?)?
         .subcommand(kernel(alloc))
 }

@@ -4,14 +4,14 @@ ghost use Rattle.std.specs.Prelude.{◌≡◌, IfOk, IfSome, List, Some, true, m
 ghost use Rattle.std.specs.String.{string_bytes};
 ghost use Rattle.std.specs.List.{list_any};
 ghost use Rattle.clap.specs.Words.{found_of, rows_of, subcommand_rows_of};
-ghost use Rattle.oz_language.specs.Commands.{Given, InRange, IsSpelled, OptionName, Spells, Verb, command_by, fit};
+ghost use Rattle.oz_commands.specs.Commands.{Given, InRange, IsSpelled, OptionName, Spells, Verb, command_by, fit, value_in, workers};
 ghost use Rattle.command_line.specs.Table.{IsFound, id_of, rows_for};
 ghost use Rattle.command_line.specs.Reading.{command_of, is_odd, number_in};
 
 use crate::commands::program;
 use clap::ArgMatches;
 use clap::error::ErrorKind;
-use oz_language::Command;
+use oz_commands::Command;
 use std::alloc::{AllocError, Global};
 
 /// Whether clap may take the word and no command has it: a bare `--`, or a word with a plus sign.
@@ -36,6 +36,15 @@ fn number(found: &ArgMatches, id: &str) -> Option<u64>
     found.get_one::<u64>(id)
 }
 
+/// How many workers the command has.
+fn workers_in(found: &ArgMatches) -> u32
+    requires { (verb : Verb) × (given : List Given) × (rows_of (found_of found.now) ≡ rows_for given) × (fit verb given ≡ true) }
+    ensures { (verb : Verb) (given : List Given) → rows_of (found_of found.now) ≡ rows_for given → fit verb given ≡ true
+        → result ≡ value_in given workers }
+{
+    number(found, "workers").unwrap_or(1) as u32
+}
+
 /// The command that clap found, with its numbers.
 fn found_command(matches: &ArgMatches) -> Option<Command>
     requires { (verb : Verb) × (given : List Given) × IsFound (subcommand_rows_of matches.now) verb given }
@@ -45,11 +54,15 @@ fn found_command(matches: &ArgMatches) -> Option<Command>
     let (name, found) = matches.subcommand()?;
     let budget = number(found, "budget").unwrap_or(1_000_000);
     match name {
-        "all" => {
-            let workers = number(found, "workers").unwrap_or(1) as u32;
-            Some(Command::All { workers, budget })
-        }
+        "all" => Some(Command::All {
+            workers: workers_in(found),
+            budget,
+        }),
         "run" => Some(Command::Run { budget }),
+        "best" => Some(Command::Best {
+            workers: workers_in(found),
+            budget,
+        }),
         "kernel" => Some(Command::Kernel),
         _ => None,
     }

@@ -46,6 +46,9 @@ fn open_next(
 /// Lets go of a node without alternatives.
 fn let_go(_node: Open) {}
 
+/// Lets go of the machine of a leaf.
+fn drop_machine(_machine: Machine) {}
+
 /// Opens the leftmost alternative that waits, if there is one.
 fn take_next(
     alloc: Global,
@@ -76,16 +79,31 @@ fn keep(
     ensures kernel { (k : Kernel) → AreOf k opened.old → machine.kernel ≡ k → OnOk result (AreOf k opened.new) }
 {
     match state {
-        State::Failed | State::Running | State::Merged => Ok(()),
+        State::Failed | State::Running | State::Merged => {
+            drop_machine(machine);
+            Ok(())
+        }
         State::Alternatives(count) => opened.push(Open {
             machine,
             taken: 0,
             left: count,
         }),
-        State::Solved => leaves.push(Outcome::Solved(text.bytes)),
-        State::Stuck => leaves.push(Outcome::Stuck(text.bytes)),
-        State::Raised(_) => leaves.push(Outcome::Raised(text.bytes)),
-        State::Suspended => leaves.push(Outcome::Suspended),
+        State::Solved => {
+            drop_machine(machine);
+            leaves.push(Outcome::Solved(text.bytes))
+        }
+        State::Stuck => {
+            drop_machine(machine);
+            leaves.push(Outcome::Stuck(text.bytes))
+        }
+        State::Raised(_) => {
+            drop_machine(machine);
+            leaves.push(Outcome::Raised(text.bytes))
+        }
+        State::Suspended => {
+            drop_machine(machine);
+            leaves.push(Outcome::Suspended)
+        }
     }
 }
 

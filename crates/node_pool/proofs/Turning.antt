@@ -1,8 +1,10 @@
 -- What a worker knows after its turn.
 use Rattle.oz_search.specs.Histories.{History}
-use Rattle.std.proofs.Common.{eq-eqb, ◌≡◌, ℕ, ◌==◌, ◌<◌, cond, Bool, true, false, List, [], ◌∷◌, length, Option, Some, None, Result, Ok, Err, IfOk, OnErr, MatchResult, refl, ap, sym, ◌∙◌, subst, arith}
-use Rattle.std.specs.List.{fold}
+use Rattle.std.proofs.Common.{eq-eqb, ◌≡◌, ℕ, ◌==◌, ◌<◌, ◌≤◌, cond, Bool, true, false, List, [], ◌∷◌, length, Option, Some, None, Result, Ok, Err, IfOk, OnErr, MatchResult, refl, ap, sym, ◌∙◌, subst, arith, ⊎_elim}
+use Rattle.std.specs.List.{fold, All, Contains}
 use Rattle.std.specs.Option.{is_some}
+use Rattle.std.proofs.lemmas.List.Elements.{All-nil, All-cons, All-contains}
+use Rattle.std.proofs.lemmas.Bool.{both_ways, cases_lt}
 use Rattle.std.proofs.lemmas.Bool.Decides.{nat_tests}
 use mathlib.Core.List.{IsPrefix}
 use Rattle.atomic_table.specs.Seated.{TableId}
@@ -52,6 +54,24 @@ claim_from w c (e ∷ h) =
 pub same_claim : {B L : Type 0} (n : ℕ) (h k : History B L) → own n h ≡ own n k → claim_of h n ≡ claim_of k n
 same_claim n h k same = claim_from n None h ∙ (ap (fold (claim_after n) None) same ∙ sym (claim_from n None k))
 
+-- ---- whose the entries are
+abbrev IsNotOf : {B L : Type 0} → ℕ → Entry (List B) L → Type 0
+IsNotOf n e = worker_of e ≡ n → ⊥
+
+none_of : {B L : Type 0} (n : ℕ) (h : History B L) → own n h ≡ [] → All (IsNotOf n) h
+none_of n [] none = All-nil (IsNotOf n)
+none_of n (e ∷ h) none =
+    let step : (b : Bool) → (worker_of e == n) ≡ b → cond b (e ∷ own n h) (own n h) ≡ [] → All (IsNotOf n) (e ∷ h) = elim [
+      | true ↦ λ i some. absurd (cc (some))
+      | false ↦ λ i rest. All-cons (IsNotOf n) e h (λ same. both_ways (worker_of e == n) i (eq-eqb (worker_of e) n same)) (none_of n h rest)
+    ] in
+    step (worker_of e == n) refl none
+
+among : {B L : Type 0} (k : ℕ) (h : History B L) → ((n : ℕ) → k ≤ n → own n h ≡ []) → (e : Entry (List B) L) → Contains h e → worker_of e < k
+among k h none e there =
+    let n = worker_of e in
+    ⊎_elim (λ below. below) (λ above. absurd (All-contains (IsNotOf n) h e (none_of n h (none n above)) there refl)) (cases_lt n k)
+
 pub number_itself : (n : ℕ) → (n == n) ≡ true
 number_itself n = eq-eqb n n refl
 
@@ -74,6 +94,12 @@ module _ {T B L : Type 0} where
   ready l v w n d c h e was later same many =
       let P : WorkerView T B L → Type 0 = λ z. Ready z h n in
       subst P e (record { found = record { later = later; own_same = same }; many = many; is = was.named })
+
+  -- of numbers that were not drawn there is no entry
+  pub among_drawn : (l : TableId) (v : View (Mark T) (Entry (List B) L)) (w : WorkerView T B L) (h : History B L) → worker_view l v ≡ w → w.seen ≡ h → ((k n : ℕ) → v.drawn ≡ Some k → k ≤ n → own n h ≡ [])
+      → (k : ℕ) (e : Entry (List B) L) → w.drawn ≡ Some k → Contains w.seen e → worker_of e < k
+  among_drawn l v w h is seen none k e drew there =
+      let P : History B L → Type 0 = λ z. Contains z e in among k h (λ n. none k n (ap (λ (z : WorkerView T B L). z.drawn) is ∙ drew)) e (subst P seen there)
 
   pub found_claim : (w : WorkerView T B L) (h : History B L) (n : ℕ) → Ready w h n → claim_of h (number w) ≡ claim w
   found_claim w h n r = same_claim (number w) h w.seen (r.found.own_same (number w) (first_has w.numbers r.many))

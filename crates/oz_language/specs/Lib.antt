@@ -8,4 +8,3 @@ pub mod Refusals
 pub mod Translation
 pub mod SimpleTexts
 pub mod KernelTexts
-pub mod Commands

@@ -2,8 +2,7 @@
 use Rattle.std.specs.Prelude.{ℕ, zero, suc, ◌≡◌, ◌<◌, ◌≤◌, ◌+◌, ◌&&◌, ◌||◌, ◌==◌, nat_le, Bool, true, false, not, if◌then◌else◌, Option, Some, None, option_map, unwrap_or, List, [], ◌∷◌, length, take, drop, codes}
 use Rattle.std.specs.List.{list_all, list_any, prefix_len}
 use Rattle.std.specs.Ffi.{without_last}
-use Rattle.oz_base.specs.Lists.{list_eq, is_empty}
-use Rattle.oz_base.specs.Paths.{last_of}
+use Rattle.oz_base.specs.Lists.{list_eq, is_empty, last_of}
 use Rattle.oz_language.specs.declared.token.Sort.{Sort}
 use Rattle.oz_language.specs.declared.token.Sort.TheVariants as sort
 use Rattle.oz_language.specs.declared.token.Lexeme.{Lexeme}

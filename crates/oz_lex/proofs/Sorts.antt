@@ -5,9 +5,8 @@ use Rattle.std.specs.List.{list_all, list_any}
 use Rattle.std.specs.Ffi.{without_last}
 use Rattle.std.proofs.lemmas.Bool.Decides.{nat_tests}
 use Rattle.std.proofs.lemmas.List.{take_more}
-use Rattle.oz_base.specs.Lists.{list_eq}
+use Rattle.oz_base.specs.Lists.{list_eq, last_of}
 use Rattle.oz_base.specs.ListLaws.{list_eq-decides}
-use Rattle.oz_base.specs.Paths.{last_of}
 use Rattle.oz_language.specs.Tokens.{is_upper, is_lower, is_digit, goes_on_word, is_var, is_small_word, is_closed, is_quoted, is_char, is_literal, is_label, is_reserved, is_digits, is_int, symbols, is_symbol, sort_of}
 use Rattle.oz_language.specs.declared.token.Sort.TheVariants as sort
 use Rattle.oz_lex.specs.Scanning.{begins, is_tilde, is_opening, is_mark}

@@ -5,7 +5,7 @@ use Rattle.std.specs.List.{list_any}
 use Rattle.std.specs.Ffi.{without_last}
 use Rattle.oz_base.specs.Words.{number_in}
 use Rattle.oz_base.proofs.WordsLaws.{number_kept}
-use Rattle.oz_base.specs.Paths.{last_of}
+use Rattle.oz_base.specs.Lists.{last_of}
 use Rattle.oz_language.specs.declared.token.Sort.TheVariants as sort
 use Rattle.oz_language.specs.declared.token.Sort.{Sort}
 use Rattle.oz_language.specs.declared.token.Lexeme.{Lexeme}

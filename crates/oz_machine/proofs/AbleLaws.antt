@@ -1,5 +1,5 @@
 -- A step after which its thread can step still: no thread of another space wakes, also where spaces are values.
-use Rattle.std.proofs.Common.{Contains, arith, ◌≡◌, ◌⊎◌, inl, inr, ℕ, Bool, true, false, not, ◌&&◌, ◌||◌, if◌then◌else◌, List, [], ◌∷◌, ◌++◌, refl, sym, ap, subst, ◌∙◌, Option, Some, None, filter}
+use Rattle.std.proofs.Common.{Contains, arith, ◌≡◌, ◌⊎◌, inl, inr, ℕ, Bool, true, false, not, ◌&&◌, ◌||◌, if◌then◌else◌, List, [], ◌∷◌, ◌++◌, refl, sym, ap, subst, ◌∙◌, Option, Some, None}
 use Rattle.std.specs.Prelude.{option_to_list, unwrap_or}
 use Rattle.std.specs.List.{list_any, list_all}
 use Rattle.std.proofs.lemmas.List.{append-nil}
@@ -20,7 +20,6 @@ use Rattle.oz_semantics.specs.Steps.{went_on, without_top}
 use Rattle.oz_semantics.specs.declared.value.Tell.{Tell}
 use Rattle.oz_semantics.specs.declared.configuration.Frame.{Frame}
 use Rattle.oz_semantics.specs.declared.configuration.Thread.{Thread}
-use Rattle.oz_semantics.specs.declared.configuration.Trigger.{Trigger}
 use Rattle.oz_semantics.specs.declared.configuration.Layer.{Layer}
 use Rattle.oz_semantics.specs.declared.configuration.Configuration.{Configuration}
 use Rattle.oz_semantics.specs.declared.outcome.Stepped.TheVariants.{Moved}
@@ -37,7 +36,7 @@ use Rattle.turn_laws.specs.Telling.{IsAlone, others_of}
 use Rattle.turn_laws.specs.Kept.{IsThere}
 use Rattle.turn_laws.proofs.HeadLaws.{kept_head, head_numbered}
 use Rattle.need_laws.proofs.RoundLaws.{none_there}
-use Rattle.unneeded_laws.specs.Unneeded.{adds_trigger, is_waiting}
+use Rattle.unneeded_laws.specs.Unneeded.{adds_trigger}
 use Rattle.unneeded_laws.proofs.UnneededLaws.{tell_needs_none}
 use Rattle.quiet_laws.specs.Unknown.{given_by, given_in, AreUnknown}
 use Rattle.quiet_laws.specs.Awake.{rest_and}
@@ -50,7 +49,7 @@ use Rattle.oz_acts.proofs.PlaceLaws.{layer_of_name}
 use Rattle.oz_machine.specs.Quiet.{top_steps, able_in, able_of, AreAwake, IsAwakeAlone, IsHead, IsPlain, LeavesOthers, LetsNoneStep, names_in, news_of}
 use Rattle.oz_machine.proofs.QuietLaws.{alone_among, alone_in, among_append, edited_at, none_named, none_open, one_named, or_false, quiet_turn, unwound_turn}
 use Rattle.oz_machine.proofs.StayLaws.{queue_stays}
-use Rattle.oz_machine.proofs.AwakeLaws.{able_awake, all_awake, quiet_content, spaceless_content, unwound_content}
+use Rattle.oz_machine.proofs.AwakeLaws.{all_awake, quiet_content, spaceless_content, unwound_content}
 use Rattle.oz_machine.proofs.ToldLaws.{IsOpenAt, alone_there, changes_below, itself, open_done, pop_below, same_below, told_turn}
 
 -- What is given out

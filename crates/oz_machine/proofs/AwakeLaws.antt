@@ -1,5 +1,5 @@
 -- Threads that wait for no variable: where they alone changed, and told nothing, no by-need computation is needed.
-use Rattle.std.proofs.Common.{◌≡◌, ◌∙◌, inl, inr, ℕ, Bool, true, false, not, ◌&&◌, ◌||◌, List, [], ◌∷◌, Option, Some, None, refl, sym, ap}
+use Rattle.std.proofs.Common.{◌≡◌, ◌∙◌, inl, inr, ℕ, Bool, true, false, not, ◌||◌, List, [], ◌∷◌, Option, Some, None, refl, ap}
 use Rattle.std.specs.Prelude.{option_to_list}
 use Rattle.std.specs.List.{list_any, list_all}
 use Rattle.oz_base.specs.Lists.{first, holds_of, is_empty}
@@ -16,7 +16,6 @@ use Rattle.oz_semantics.specs.Steps.{without_top}
 use Rattle.oz_semantics.specs.declared.configuration.Frame.{Frame}
 use Rattle.oz_semantics.specs.declared.configuration.Thread.{Thread}
 use Rattle.oz_semantics.specs.declared.configuration.Layer.{Layer}
-use Rattle.oz_semantics.specs.declared.configuration.Configuration.{Configuration}
 use Rattle.oz_laws.proofs.SameLaws.{and-left, and-right}
 use Rattle.view_laws.specs.Needs.{NoneNeeded}
 use Rattle.view_laws.proofs.Members.{decide}

@@ -17,3 +17,7 @@ pub mod EditingLaws
 pub mod PropagatingLaws
 pub mod FallibleLaws
 pub mod StayLaws
+pub mod SleepLaws
+pub mod AskingLaws
+pub mod ForetoldLaws
+pub mod PendLaws

@@ -12,7 +12,7 @@ use Rattle.need_laws.proofs.FireLaws.{all_fired}
 use Rattle.need_laws.proofs.AfterLaws.{fired_view}
 use Rattle.need_laws.proofs.RoundLaws.{none_left, none_there}
 use Rattle.oz_machine.specs.declared.course.Due.{Due}
-use Rattle.oz_machine.specs.declared.course.Due.TheVariants.{Nobody, Mover, Everybody}
+use Rattle.oz_machine.specs.declared.course.Due.TheVariants.{Nobody, Mover, Told, Everybody}
 use Rattle.oz_machine.specs.declared.course.Course.{Course}
 use Rattle.oz_machine.specs.Courses.{layers_after, asked, config_of}
 
@@ -46,4 +46,5 @@ all_same statements old new mover e is due queue shown =
 pub seen_after : (statements : List Statement) (layers : List Layer) (due : Due) (space : List ℕ) → view (layers_after statements layers due) space ≡ view layers space
 seen_after statements layers Nobody space = refl
 seen_after statements layers (Mover id started) space = refl
+seen_after statements layers (Told mover woken) space = refl
 seen_after statements layers (Everybody mover) space = fired_view layers (triggered statements layers) space (all_fired statements layers)

@@ -1,5 +1,5 @@
 -- What follows a step that told nothing.
-use Rattle.std.proofs.Common.{Contains, arith, ◌≡◌, ◌≤◌, ℕ, Bool, true, false, ◌&&◌, ◌||◌, cond, if◌then◌else◌, List, [], ◌∷◌, ◌++◌, refl, sym, ap, subst, ◌∙◌, Option, Some, None, map, filter, drop, unwrap_or}
+use Rattle.std.proofs.Common.{Contains, arith, ◌≡◌, ℕ, Bool, true, false, ◌&&◌, ◌||◌, cond, if◌then◌else◌, List, [], ◌∷◌, ◌++◌, refl, sym, ap, subst, ◌∙◌, Option, Some, None, map, filter, drop, unwrap_or}
 use Rattle.std.specs.Prelude.{IfSome, option_to_list}
 use Rattle.std.specs.List.{find, list_any}
 use Rattle.std.proofs.lemmas.List.Folds.{list_any-append}
@@ -14,12 +14,12 @@ use Rattle.oz_semantics.specs.Sights.{Sight, can_step}
 use Rattle.oz_semantics.specs.Statements.{stack_answer}
 use Rattle.oz_semantics.specs.Readiness.{answer_ready}
 use Rattle.oz_semantics.specs.Spaces.{sight, states_of, thread_ready}
-use Rattle.oz_semantics.specs.Changes.{Change, Pushes, Spawns, Holds, AddsTrigger, changed_all}
+use Rattle.oz_semantics.specs.Changes.{Change, Pushes, Spawns, Holds, changed_all}
 use Rattle.oz_semantics.specs.Answers.{Act, Passes, GoesOn, Declares, Starts, GivesValue, GivesTerm, GivesVariable, MakesProcedure, MakesName, MakesCell, Reads, Writes, Exchanges, MakesPort, Sends, Delays, Confines, Posts, Shows}
 use Rattle.oz_semantics.specs.Effects.{Makes, declared_changes, act_effect}
 use Rattle.oz_acts.specs.Doings.{IsDone, is_quiet, started_by}
 use Rattle.oz_semantics.specs.Settling.{Turned, is_among, mover_in, queue_after, runnable_in, runnable}
-use Rattle.oz_semantics.specs.Steps.{went_on, without_top, stepped}
+use Rattle.oz_semantics.specs.Steps.{went_on, without_top}
 use Rattle.oz_semantics.specs.declared.configuration.Frame.{Frame}
 use Rattle.oz_semantics.specs.declared.configuration.Thread.{Thread}
 use Rattle.oz_semantics.specs.declared.configuration.Layer.{Layer}
@@ -30,7 +30,7 @@ use Rattle.oz_language.specs.declared.kernel.Kernel.{Kernel}
 use Rattle.oz_semantics.specs.Schedule.{turn}
 use Rattle.oz_machine.proofs.TurnLaws as turns
 use Rattle.turn_laws.proofs.KeptLaws.{kept_turn}
-use Rattle.oz_machine.specs.Turns.{cost_of, HasNotEnded, IsTurn}
+use Rattle.oz_machine.specs.Turns.{HasNotEnded, IsTurn}
 use Rattle.oz_base.specs.ListLaws.{list_eq-equivalence}
 use Rattle.oz_laws.proofs.SameLaws.{ident_eq-refl}
 use Rattle.view_laws.specs.Queues.{AreNew}

@@ -1,13 +1,12 @@
 -- A thread that did not step stays in its space.
-use Rattle.std.proofs.Common.{◌≡◌, inl, inr, ◌==◌, ◌||◌, ℕ, Bool, true, false, not, cond, List, [], ◌∷◌, ◌++◌, refl, sym, ap, ap₂, subst, ◌∙◌, Some, Option, drop, filter}
+use Rattle.std.proofs.Common.{◌≡◌, inl, inr, ◌||◌, ℕ, Bool, true, false, not, cond, List, [], ◌∷◌, ◌++◌, refl, sym, ap, ap₂, subst, ◌∙◌, Some, Option, drop, filter}
 use Rattle.std.specs.Prelude.{unwrap_or}
 use Rattle.std.specs.List.{list_all}
 use Rattle.std.proofs.lemmas.Bool.{false≢true, eqb-true}
-use Rattle.oz_base.specs.Lists.{list_eq, is_empty, edit_first}
+use Rattle.oz_base.specs.Lists.{list_eq, is_empty}
 use Rattle.oz_base.specs.declared.names.Ident.{Ident}
 use Rattle.oz_language.specs.declared.kernel.Statement.{Statement}
 use Rattle.oz_semantics.specs.Names.{named}
-use Rattle.oz_semantics.specs.Answers.{Rests}
 use Rattle.oz_semantics.specs.Readiness.{answer_ready}
 use Rattle.oz_semantics.specs.Sights.{can_step}
 use Rattle.oz_semantics.specs.Spaces.{answer_in, states_of, thread_ready}
@@ -19,7 +18,6 @@ use Rattle.oz_semantics.specs.declared.value.Tell.{Tell}
 use Rattle.oz_semantics.specs.declared.configuration.Frame.{Frame}
 use Rattle.oz_semantics.specs.declared.configuration.Thread.{Thread}
 use Rattle.oz_semantics.specs.declared.configuration.Layer.{Layer}
-use Rattle.oz_semantics.specs.declared.configuration.Configuration.{Configuration}
 use Rattle.oz_laws.proofs.SameLaws.{In, In-flat_back, and-left, and-right}
 use Rattle.view_laws.proofs.Members.{decide, not_both, In-left}
 use Rattle.view_laws.proofs.ListLaws.{among_in, in_among, in_filter, found_in}

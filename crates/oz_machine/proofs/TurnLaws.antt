@@ -23,7 +23,7 @@ use Rattle.builtins.specs.declared.answer.Answer.TheVariants.{Acts, Edits, Raise
 use Rattle.oz_base.specs.declared.names.Ident.{Ident}
 use Rattle.oz_language.specs.declared.kernel.Kernel.{Kernel}
 use Rattle.oz_language.specs.declared.kernel.Statement.{Statement}
-use Rattle.oz_semantics.specs.Schedule.{least_due, run_failed, after_run_of, propagated, turn_of_queue, turn_of, turn}
+use Rattle.oz_semantics.specs.Schedule.{least_due, after_run_of, turn_of_queue, turn_of, turn}
 use Rattle.oz_semantics.specs.Steps.{stepped}
 use Rattle.oz_semantics.specs.declared.outcome.Stepped.TheVariants.{Moved, Quiescent}
 use Rattle.oz_semantics.specs.declared.configuration.Propagator.{Propagator}

@@ -8,21 +8,24 @@ use Rattle.oz_semantics.specs.Settling.{runnable, queue_after}
 use Rattle.oz_semantics.specs.declared.configuration.Layer.{Layer}
 use Rattle.oz_semantics.specs.declared.configuration.Configuration.{Configuration}
 use Rattle.turn_laws.specs.Kept.{IsKept}
+use Rattle.sleep_laws.specs.Woken.{told_queue}
 use Rattle.oz_machine.specs.Quiet.{able_in, able_of}
 use Rattle.oz_machine.specs.declared.course.Due.{Due}
-use Rattle.oz_machine.specs.declared.course.Due.TheVariants.{Nobody, Mover, Everybody}
+use Rattle.oz_machine.specs.declared.course.Due.TheVariants.{Nobody, Mover, Told, Everybody}
 use Rattle.oz_machine.specs.declared.course.Course.{Course}
 
 -- the layers that are left once those who are due were asked: where that is everybody, by-need computations that are needed begin before
 abbrev pub layers_after : List Statement → List Layer → Due → List Layer
 layers_after statements layers Nobody = layers
 layers_after statements layers (Mover id started) = layers
+layers_after statements layers (Told mover woken) = layers
 layers_after statements layers (Everybody mover) = triggered statements layers
 
 -- the queue that is left then
 abbrev pub asked : List Statement → List Layer → Due → List Ident → List Ident
 asked statements layers Nobody queue = queue
 asked statements layers (Mover id started) queue = (queue ++ able_in statements layers id) ++ able_of statements layers started
+asked statements layers (Told mover woken) queue = told_queue statements layers mover woken queue
 asked statements layers (Everybody mover) queue = queue_after (runnable statements (triggered statements layers)) mover queue
 
 -- the configuration

@@ -13,6 +13,7 @@ ghost use Rattle.oz_semantics.specs.declared.configuration.Status.TheVariants.{O
 ghost use Rattle.settle_laws.specs.Settles.{Settles};
 ghost use Rattle.oz_machine.specs.Bounding.{allows_none, IsOpenAt};
 ghost use Rattle.oz_machine.specs.Courses.{config_of};
+ghost use Rattle.oz_machine.specs.Asleep.{Sleeps};
 
 use crate::course::Course;
 use crate::searching::{commit_in, follow_edit};
@@ -23,6 +24,7 @@ use oz_base::{Copies, GREATEST_VALUE, Ident, Interval, LEAST_VALUE, SpaceName};
 use oz_language::{Constant, Statement};
 use oz_search::Bounded;
 use oz_semantics::{Status, Tell};
+use oz_sleep::Sleeping;
 use space_core::Levels;
 use std::alloc::{AllocError, Global};
 use std::slice::from_ref;
@@ -209,12 +211,15 @@ pub fn commit_below(
     feature: Constant,
     branch: Bounded,
     course: &mut Course,
+    sleeping: &mut Sleeping,
 ) -> Result<(), AllocError>
+    requires asleep { Sleeps statements.now sleeping.old course.old }
     ensures commit { OnOk result (config_of statements.now course.new ≡ chosen_below statements.now space.now feature branch (config_of statements.now course.old)) }
     ensures lower { OnOk result (is_top space.now ≡ false) }
     ensures err { OnErr result (config_of statements.now course.new ≡ config_of statements.now course.old) }
+    ensures asleep { Sleeps statements.now sleeping.new course.new }
 {
-    settle_only(alloc, statements, course)?;
+    settle_only(alloc, statements, course, sleeping)?;
     let left = committed_below(alloc, statements, space, feature, branch, &course.levels)?;
     course.levels = left;
     follow_edit(course);

@@ -17,6 +17,11 @@ pub enum Due {
         mover: Ident,
         started: Option<Ident>,
     },
+    /// The thread that stepped and told its space something, those of its space that are in the queue, and those with these numbers.
+    Told {
+        mover: Ident,
+        woken: Sequence<u64>,
+    },
     /// Everybody. The thread that stepped, if one did, joins before the others.
     Everybody {
         mover: Option<Ident>,
@@ -49,6 +54,10 @@ impl Copies for Due {
             Due::Mover { mover, started } => Ok(Due::Mover {
                 mover: mover.copied(alloc)?,
                 started: copied_thread(alloc, started.as_ref())?,
+            }),
+            Due::Told { mover, woken } => Ok(Due::Told {
+                mover: mover.copied(alloc)?,
+                woken: woken.copied(alloc)?,
             }),
             Due::Everybody { mover } => Ok(Due::Everybody {
                 mover: copied_thread(alloc, mover.as_ref())?,

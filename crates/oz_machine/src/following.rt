@@ -7,12 +7,14 @@ ghost use Rattle.oz_semantics.specs.Settling.{settled};
 ghost use Rattle.oz_semantics.specs.Steps.{went_on};
 ghost use Rattle.oz_semantics.specs.declared.configuration.Layer.{Layer};
 ghost use Rattle.oz_semantics.specs.declared.outcome.Stepped.TheVariants.{Moved};
-ghost use Rattle.oz_machine.specs.declared.course.Due.TheVariants.{Nobody, Mover, Everybody};
+ghost use Rattle.oz_machine.specs.declared.course.Due.TheVariants.{Nobody, Mover, Told, Everybody};
 ghost use Rattle.oz_machine.specs.Courses.{config_of, stepping};
 ghost use Rattle.settle_laws.specs.Settles.{Settles};
+ghost use Rattle.oz_machine.specs.Asleep.{AreLaidBut};
+ghost use Rattle.oz_sleep.specs.declared.sleeping.Sleeping.{Sleeping};
 
 use crate::course::{Course, Due};
-use oz_base::Ident;
+use oz_base::{Ident, Sequence};
 use oz_semantics::Stepped;
 
 /// The thread that stepped leaves the head of the queue. It is due, and so is the one that it started, if it did.
@@ -27,8 +29,22 @@ pub fn leave_alone(course: &mut Course, started: Option<Ident>)
     }
 }
 
+/// The thread that told its space something leaves the head of the queue. It is due, and so are those of its space that are in the queue
+/// or have these numbers.
+pub fn leave_told(course: &mut Course, woken: Sequence<u64>)
+    ensures levels { course.new.levels ≡ course.old.levels }
+    ensures queue { course.new.queue ≡ drop 1 course.old.queue }
+    ensures due { (mover : Ident) → first course.old.queue ≡ Some mover → course.new.due ≡ Told mover woken }
+    ensures shown { course.new.shown ≡ course.old.shown }
+{
+    if let Some(mover) = course.queue.next() {
+        course.due = Due::Told { mover, woken };
+    }
+}
+
 /// The thread that stepped leaves the head of the queue, and everybody is due.
 fn leave_to_all(course: &mut Course)
+    ensures asleep { (statements : List Statement) (s : Sleeping) → AreLaidBut statements course.new.levels s course.new.due course.new.queue }
     ensures levels { course.new.levels ≡ course.old.levels }
     ensures queue { course.new.queue ≡ drop 1 course.old.queue }
     ensures due { (mover : Ident) → first course.old.queue ≡ Some mover → course.new.due ≡ Everybody (Some mover) }
@@ -54,6 +70,7 @@ pub fn follow(cost: u64, course: &mut Course) -> Stepped
     ensures turn { (statements : List Statement) (mover : Ident) (before : List Layer) → first course.old.queue ≡ Some mover → Settles mover.space before course.old.levels
         → settled statements (Some mover) cost (record (stepping course.old) { layers = before }) ≡ (result, config_of statements course.new) }
     ensures cost { result ≡ Moved cost }
+    ensures asleep { (statements : List Statement) (s : Sleeping) → AreLaidBut statements course.new.levels s course.new.due course.new.queue }
 {
     leave_to_all(course);
     Stepped::Moved { cost }

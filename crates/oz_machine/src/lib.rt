@@ -7,6 +7,7 @@ mod course;
 mod declarations;
 mod editing;
 mod following;
+mod foreseeing;
 mod machine;
 mod opening;
 mod propagating;

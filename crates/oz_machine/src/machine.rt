@@ -20,6 +20,7 @@ use oz_base::{Copies, Ident, Sequence, Shared, SpaceName};
 use oz_language::{Constant, Kernel};
 use oz_search::Bounded;
 use oz_semantics::{State, Stepped};
+use oz_sleep::Sleeping;
 use shared_list::SharedList;
 use std::alloc::{AllocError, Global};
 use std::marker::Model;
@@ -31,6 +32,8 @@ pub struct Machine {
     course: Course,
     /// Whether all is known to hold that holds from turn to turn. It is not once the top has ended.
     kept: bool,
+    /// Who is known to sleep.
+    sleeping: Sleeping,
 }
 
 impl Model for Machine {
@@ -44,7 +47,9 @@ impl Model for Machine {
 
     ghost view = { λ m. record { kernel = m.kernel; config = config_of m.kernel.statements m.course } };
 
-    ghost invariant = { λ m. Keeps m.kernel.statements m.kept m.course };
+    ghost use Rattle.oz_machine.specs.Asleep.{Sleeps};
+
+    ghost invariant = { λ m. Keeps m.kernel.statements m.kept m.course × Sleeps m.kernel.statements m.sleeping m.course };
 }
 
 impl Machine {
@@ -58,6 +63,7 @@ impl Machine {
             kernel: Shared::new(alloc, kernel)?,
             course,
             kept: true,
+            sleeping: Sleeping::unknown(alloc),
         })
     }
 
@@ -69,6 +75,7 @@ impl Machine {
             kernel: self.kernel.copied(alloc)?,
             course: self.course.copied(alloc)?,
             kept: self.kept,
+            sleeping: self.sleeping.copied(alloc)?,
         })
     }
 
@@ -84,8 +91,9 @@ impl Machine {
             kernel,
             course,
             kept,
+            sleeping,
         } = self;
-        step(alloc, kernel.get(), course, kept, fuel)
+        step(alloc, kernel.get(), course, kept, sleeping, fuel)
     }
 
     /// Turns while something of the space or below it can step, for no more than the fuel. A text that is shown costs a step for
@@ -100,8 +108,9 @@ impl Machine {
             kernel,
             course,
             kept,
+            sleeping,
         } = self;
-        run(alloc, kernel.get(), course, kept, space, fuel)
+        run(alloc, kernel.get(), course, kept, sleeping, space, fuel)
     }
 
     /// The texts that were shown, in their order.
@@ -147,9 +156,14 @@ impl Machine {
         ensures kernel { OnOk result (self.new.kernel ≡ self.old.kernel) }
         ensures err { OnErr result (self.new ≡ self.old) }
     {
-        let Machine { kernel, course, .. } = self;
+        let Machine {
+            kernel,
+            course,
+            sleeping,
+            ..
+        } = self;
         let statements = kernel.get().statements.as_slice();
-        searching::root(alloc, statements, procedure, course)
+        searching::root(alloc, statements, procedure, course, sleeping)
     }
 
     /// Commits a space that offers alternatives to one of them, from 1. Where it is refused nothing changes.
@@ -158,9 +172,14 @@ impl Machine {
         ensures kernel { OnOk result (self.new.kernel ≡ self.old.kernel) }
         ensures err { OnErr result (self.new ≡ self.old) }
     {
-        let Machine { kernel, course, .. } = self;
+        let Machine {
+            kernel,
+            course,
+            sleeping,
+            ..
+        } = self;
         let statements = kernel.get().statements.as_slice();
-        searching::commit(alloc, statements, space, index, course)
+        searching::commit(alloc, statements, space, index, course, sleeping)
     }
 
     /// Commits a space that offers alternatives to the one of a branch, and tells it that its cost, the field of its root variable at the
@@ -177,9 +196,14 @@ impl Machine {
         ensures kernel { OnOk result (self.new.kernel ≡ self.old.kernel) }
         ensures err { OnErr result (self.new ≡ self.old) }
     {
-        let Machine { kernel, course, .. } = self;
+        let Machine {
+            kernel,
+            course,
+            sleeping,
+            ..
+        } = self;
         let statements = kernel.get().statements.as_slice();
-        bounding::commit_below(alloc, statements, space, feature, branch, course)
+        bounding::commit_below(alloc, statements, space, feature, branch, course, sleeping)
     }
 
     /// The integer at a feature of the space's root variable, as the space sees it, if there is one. It refuses for want of memory, and

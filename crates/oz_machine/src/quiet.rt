@@ -14,6 +14,9 @@ ghost use Rattle.quiet_laws.specs.Unknown.{given_by};
 ghost use Rattle.unneeded_laws.specs.Unneeded.{adds_trigger, is_waiting};
 ghost use Rattle.oz_machine.specs.Courses.{config_of, stepping};
 ghost use Rattle.oz_machine.specs.Quiet.{top_steps, AreAwake, IsHead, LeavesOthers, names_in, news_of};
+ghost use Rattle.oz_machine.specs.Asleep.{AreLaidBut};
+ghost use Rattle.oz_sleep.specs.Laid.{AreLaid};
+ghost use Rattle.oz_sleep.specs.declared.sleeping.Sleeping.{Sleeping};
 
 use crate::course::Course;
 use crate::declarations::declares;
@@ -150,6 +153,12 @@ pub fn go_on_quietly(
         → names_in mover.now.space (news_of (layer_of layers mover.now.space) changes) ≡ option_to_list started
         → list_any adds_trigger changes ≡ false → (gives ≡ false → given_by changes ≡ 0)
         → went_on kernel.now.statements mover.now cost course.old.levels (stepping course.old) ≡ (result, config_of kernel.now.statements course.new) }
+    ensures asleep { (s : Sleeping) (layers : List Layer) (changes : List Change)
+        → IsHead kernel.now.statements mover.now layers (drop 1 course.old.queue) course.old.shown
+        → course.old.levels ≡ changed_all mover.now changes (without_top mover.now layers)
+        → names_in mover.now.space (news_of (layer_of layers mover.now.space) changes) ≡ option_to_list started
+        → AreLaid kernel.now.statements layers s (mover.now ∷ drop 1 course.old.queue)
+        → AreLaidBut kernel.now.statements course.new.levels s course.new.due course.new.queue }
     ensures cost { result ≡ Moved cost }
 {
     course.levels.drop_terminated(&mover.space);

@@ -8,6 +8,7 @@ ghost use Rattle.oz_semantics.specs.Runs.{run, Ended};
 ghost use Rattle.oz_machine.specs.Courses.{config_of, Keeps};
 ghost use Rattle.oz_machine.specs.Answers.{IsRun, IsLeftOff};
 ghost use Rattle.oz_machine.specs.declared.course.Due.TheVariants.{Nobody};
+ghost use Rattle.oz_machine.specs.Asleep.{Sleeps};
 
 use crate::course::Course;
 use crate::settling::settle;
@@ -16,6 +17,7 @@ use builtins::Answer;
 use oz_base::{Ident, SpaceName};
 use oz_language::{Kernel, Statement};
 use oz_semantics::{State, Stepped};
+use oz_sleep::Sleeping;
 use stability::{is_due_below, space_state};
 use std::alloc::{AllocError, Global};
 
@@ -83,28 +85,31 @@ fn run_turns(
     answered: &mut Option<Answer>,
     course: &mut Course,
     kept: &mut bool,
+    sleeping: &mut Sleeping,
     space: &SpaceName,
     fuel: u64,
 ) -> Result<Ran, AllocError>
-    requires { Keeps kernel.now.statements kept.old course.old }
+    requires kept { Keeps kernel.now.statements kept.old course.old }
+    requires asleep { Sleeps kernel.now.statements sleeping.old course.old }
     ensures run { IfOk result (IsRun (record { kernel = kernel.now; config = config_of kernel.now.statements course.new }) space.now fuel (run kernel.now space.now (config_of kernel.now.statements course.old) fuel)) }
     ensures kept { Keeps kernel.now.statements kept.new course.new }
     ensures err { OnErr result (IsLeftOff kernel.now space.now fuel (config_of kernel.now.statements course.old) (config_of kernel.now.statements course.new)) }
+    ensures asleep { Sleeps kernel.now.statements sleeping.new course.new }
 {
     let statements = kernel.statements.as_slice();
     let mut left = fuel;
-    settle(alloc, statements, course, answered)?;
+    settle(alloc, statements, course, answered, sleeping)?;
     'turns: while goes_on(alloc, statements, course, *kept, space)? {
-        let Some(stepped) = turn(alloc, kernel, answered, course, kept, left)? else {
+        let Some(stepped) = turn(alloc, kernel, answered, course, kept, sleeping, left)? else {
             return Ok(Ran::OutOfFuel);
         };
         match stepped {
             Stepped::Moved { cost } => {
                 left -= cost;
-                settle(alloc, statements, course, answered)?;
+                settle(alloc, statements, course, answered, sleeping)?;
             }
             Stepped::Quiescent => {
-                settle(alloc, statements, course, answered)?;
+                settle(alloc, statements, course, answered, sleeping)?;
                 return ended(alloc, kernel, course, space, fuel, left);
             }
             Stepped::TopEnded { exception, cost } => {
@@ -123,14 +128,26 @@ pub fn run(
     kernel: &Kernel,
     course: &mut Course,
     kept: &mut bool,
+    sleeping: &mut Sleeping,
     space: &SpaceName,
     fuel: u64,
 ) -> Result<Ran, AllocError>
-    requires { Keeps kernel.now.statements kept.old course.old }
+    requires kept { Keeps kernel.now.statements kept.old course.old }
+    requires asleep { Sleeps kernel.now.statements sleeping.old course.old }
     ensures run { IfOk result (IsRun (record { kernel = kernel.now; config = config_of kernel.now.statements course.new }) space.now fuel (run kernel.now space.now (config_of kernel.now.statements course.old) fuel)) }
     ensures kept { Keeps kernel.now.statements kept.new course.new }
     ensures err { OnErr result (IsLeftOff kernel.now space.now fuel (config_of kernel.now.statements course.old) (config_of kernel.now.statements course.new)) }
+    ensures asleep { Sleeps kernel.now.statements sleeping.new course.new }
 {
     let mut answered = None;
-    run_turns(alloc, kernel, &mut answered, course, kept, space, fuel)
+    run_turns(
+        alloc,
+        kernel,
+        &mut answered,
+        course,
+        kept,
+        sleeping,
+        space,
+        fuel,
+    )
 }

@@ -7,19 +7,23 @@ ghost use Rattle.settle_laws.specs.Settles.{Settles};
 ghost use Rattle.oz_semantics.specs.Search.{followed, with_root, search_space, chosen_in};
 ghost use Rattle.oz_semantics.specs.declared.configuration.Layer.{Layer};
 ghost use Rattle.oz_machine.specs.Courses.{config_of};
+ghost use Rattle.oz_machine.specs.Asleep.{Sleeps};
+ghost use Rattle.oz_sleep.specs.declared.sleeping.Sleeping.{Sleeping};
 
 use crate::course::{Course, Due};
 use crate::settling::settle_only;
 use oz_base::{Ident, SpaceName};
 use oz_language::Statement;
 use oz_semantics::Tell;
+use oz_sleep::Sleeping;
 use space_core::Levels;
 use stability::{Choice, chosen};
 use std::alloc::{AllocError, Global};
 
 /// What follows an edit: everybody is due.
 pub fn follow_edit(course: &mut Course)
-    ensures { (statements : List Statement) (space : List ℕ) (before made : List Layer) → Settles space made course.old.levels
+    ensures asleep { (statements : List Statement) (s : Sleeping) → Sleeps statements s course.new }
+    ensures follows { (statements : List Statement) (space : List ℕ) (before made : List Layer) → Settles space made course.old.levels
         → config_of statements course.new ≡ followed statements (record { layers = before; queue = course.old.queue; shown = course.old.shown }) made }
 {
     course.due = Due::Everybody { mover: None };
@@ -31,12 +35,15 @@ pub fn root(
     statements: &[Statement],
     procedure: Ident,
     course: &mut Course,
+    sleeping: &mut Sleeping,
 ) -> Result<SpaceName, AllocError>
+    requires asleep { Sleeps statements.now sleeping.old course.old }
     ensures root { OnOk result (config_of statements.now course.new ≡ with_root statements.now procedure (config_of statements.now course.old)) }
     ensures name { IfOk result (λ space. space ≡ search_space (config_of statements.now course.old)) }
     ensures err { OnErr result (config_of statements.now course.new ≡ config_of statements.now course.old) }
+    ensures asleep { Sleeps statements.now sleeping.new course.new }
 {
-    settle_only(alloc, statements, course)?;
+    settle_only(alloc, statements, course, sleeping)?;
     let top = SpaceName::top();
     if course.levels.place(&top).is_none() {
         return Err(AllocError);
@@ -100,11 +107,14 @@ pub fn commit(
     space: &SpaceName,
     index: u64,
     course: &mut Course,
+    sleeping: &mut Sleeping,
 ) -> Result<(), AllocError>
+    requires asleep { Sleeps statements.now sleeping.old course.old }
     ensures commit { OnOk result (config_of statements.now course.new ≡ chosen_in statements.now space.now index (config_of statements.now course.old)) }
     ensures err { OnErr result (config_of statements.now course.new ≡ config_of statements.now course.old) }
+    ensures asleep { Sleeps statements.now sleeping.new course.new }
 {
-    settle_only(alloc, statements, course)?;
+    settle_only(alloc, statements, course, sleeping)?;
     commit_in(alloc, statements, space, index, &mut course.levels)?;
     follow_edit(course);
     Ok(())

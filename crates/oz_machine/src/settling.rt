@@ -1,11 +1,16 @@
 //! What comes before each step: those who are due are asked whether they can step.
-ghost use Rattle.std.specs.Prelude.{◌≡◌, ◌<◌, ◌++◌, [], None, Some, length, position, option_copied, option_to_list, IfOk, OnOk, OnErr};
+ghost use Rattle.std.specs.Prelude.{◌≡◌, ◌<◌, ◌++◌, ◌∷◌, [], true, map, None, Some, length, position, option_copied, option_to_list, IfOk, OnOk, OnErr};
 ghost use Rattle.oz_semantics.specs.Configurations.{is_of, stack_of};
 ghost use Rattle.oz_semantics.specs.Settling.{runnable, queue_after};
 ghost use Rattle.oz_semantics.specs.Spaces.{sight};
 ghost use Rattle.oz_semantics.specs.Statements.{stack_answer};
 ghost use Rattle.builtins.specs.Answers.{IsAnswer};
 ghost use Rattle.oz_machine.specs.declared.course.Due.TheVariants.{Nobody};
+ghost use Rattle.oz_semantics.specs.Names.{named};
+ghost use Rattle.sleep_laws.specs.Woken.{told_queue};
+ghost use Rattle.oz_machine.specs.Asleep.{AreLaidBut, Sleeps};
+ghost use Rattle.oz_sleep.specs.Laid.{Lays};
+ghost use Rattle.oz_sleep.specs.declared.sleeping.Sleeping.{Sleeping};
 ghost use Rattle.oz_machine.specs.Courses.{asked, config_of, layers_after};
 ghost use Rattle.oz_machine.specs.Quiet.{top_steps, able_in, waits, IsHeadAnswer};
 
@@ -14,6 +19,7 @@ use crate::declarations::declares;
 use builtins::Answer;
 use oz_base::{Copies, Ident};
 use oz_language::Statement;
+use oz_sleep::{Sleeping, ask_told};
 use oz_threads::{Queue, is_step};
 use space_core::Levels;
 use stability::runnable;
@@ -213,6 +219,108 @@ fn join_mover(
     join_able(alloc, statements, levels, id, queue)
 }
 
+/// A thread joins the end of the queue, if it can step, and else falls asleep. Its answer is left in `answered`, where no other was in
+/// the queue and it is a step.
+fn join_or_sleep(
+    alloc: Global,
+    statements: &[Statement],
+    levels: &Levels,
+    id: &Ident,
+    queue: &mut Queue,
+    answered: &mut Option<Answer>,
+    sleeping: &mut Sleeping,
+) -> Result<(), AllocError>
+    requires answered { answered.old ≡ None }
+    requires asleep { Lays statements.now levels.now sleeping.old (queue.old ++ id.now ∷ []) }
+    ensures ok { OnOk result (queue.new ≡ queue.old ++ able_in statements.now levels.now id.now) }
+    ensures answer { OnOk result (IsHeadAnswer statements.now levels.now queue.new answered.new) }
+    ensures asleep { OnOk result (Lays statements.now levels.now sleeping.new queue.new) }
+    ensures err { OnErr result (queue.new ≡ queue.old) }
+    ensures left { OnErr result (sleeping.new ≡ sleeping.old) }
+{
+    let before = queue.len();
+    join_mover(alloc, statements, levels, id, queue, answered)?;
+    if queue.len() != before {
+        return Ok(());
+    }
+    sleeping.lay_down(alloc, statements, levels, id);
+    Ok(())
+}
+
+/// Two threads join the end of the queue, as far as they can step, and else fall asleep.
+fn join_both_or_sleep(
+    alloc: Global,
+    statements: &[Statement],
+    levels: &Levels,
+    id: &Ident,
+    other: &Ident,
+    queue: &mut Queue,
+    sleeping: &mut Sleeping,
+) -> Result<(), AllocError>
+    requires asleep { Lays statements.now levels.now sleeping.old (queue.old ++ id.now ∷ other.now ∷ []) }
+    ensures ok { OnOk result (queue.new ≡ (queue.old ++ able_in statements.now levels.now id.now) ++ able_in statements.now levels.now other.now) }
+    ensures asleep { OnOk result (Lays statements.now levels.now sleeping.new queue.new) }
+    ensures err { OnErr result (queue.new ≡ queue.old) }
+    ensures left { OnErr result (sleeping.new ≡ sleeping.old) }
+{
+    let before = queue.len();
+    join_both(alloc, statements, levels, id, other, queue)?;
+    let joined = queue.len() - before;
+    if joined == 2 {
+        return Ok(());
+    }
+    sleeping.lay_down(alloc, statements, levels, id);
+    sleeping.lay_down(alloc, statements, levels, other);
+    Ok(())
+}
+
+/// The thread that told its space something joins the queue, as those do with these numbers, as far as they can step.
+fn join_told(
+    alloc: Global,
+    statements: &[Statement],
+    levels: &Levels,
+    mover: &Ident,
+    woken: &[u64],
+    queue: &mut Queue,
+    answered: &mut Option<Answer>,
+    sleeping: &mut Sleeping,
+) -> Result<(), AllocError>
+    requires answered { answered.old ≡ None }
+    requires asleep { Lays statements.now levels.now sleeping.old (queue.old ++ mover.now ∷ map (named mover.now.space) woken.now) }
+    ensures ok { OnOk result (queue.new ≡ told_queue statements.now levels.now mover.now woken.now queue.old) }
+    ensures answer { OnOk result (IsHeadAnswer statements.now levels.now queue.new answered.new) }
+    ensures asleep { OnOk result (Lays statements.now levels.now sleeping.new queue.new) }
+    ensures err { OnErr result (queue.new ≡ queue.old) }
+    ensures left { OnErr result (Lays statements.now levels.now sleeping.new (queue.old ++ mover.now ∷ map (named mover.now.space) woken.now)) }
+{
+    if queue.len() == 0 && woken.is_empty() {
+        return join_or_sleep(alloc, statements, levels, mover, queue, answered, sleeping);
+    }
+    ask_told(alloc, statements, levels, mover, woken, queue, sleeping)
+}
+
+/// All threads that can step make the queue, and the others of the space of the thread that stepped fall asleep, where that is of use.
+#[tactic(auto, using(crate::proofs::AskingLaws::requeued_exact, crate::proofs::AskingLaws::unknown_lays))]
+fn requeue_all(
+    alloc: Global,
+    statements: &[Statement],
+    levels: &Levels,
+    mover: Option<&Ident>,
+    queue: &mut Queue,
+    sleeping: &mut Sleeping,
+) -> Result<(), AllocError>
+    ensures ok { OnOk result (queue.new ≡ queue_after (runnable statements.now levels.now) (option_copied mover.entry) queue.old) }
+    ensures asleep { OnOk result (Lays statements.now levels.now sleeping.new queue.new) }
+    ensures err { OnErr result (queue.new ≡ queue.old) }
+{
+    requeue(alloc, statements, levels, mover, queue)?;
+    match mover {
+        None => sleeping.forget(alloc),
+        Some(mover) => sleeping.learn(alloc, statements, levels, &mover.space),
+    }
+    Ok(())
+}
+
 /// Those who are due join the queue, as far as they can step, where all that is needed has begun. The answer of the head is left in
 /// `answered`, where it was made.
 fn ask(
@@ -222,24 +330,49 @@ fn ask(
     due: &Due,
     queue: &mut Queue,
     answered: &mut Option<Answer>,
+    sleeping: &mut Sleeping,
 ) -> Result<(), AllocError>
     requires answered { answered.old ≡ None }
     requires begun { layers_after statements.now levels.now due.now ≡ levels.now }
+    requires asleep { sleeping.old.known ≡ true → AreLaidBut statements.now levels.now sleeping.old due.now queue.old }
     ensures ok { OnOk result (queue.new ≡ asked statements.now levels.now due.now queue.old) }
     ensures answer { OnOk result (IsHeadAnswer statements.now levels.now queue.new answered.new) }
+    ensures asleep { OnOk result (Lays statements.now levels.now sleeping.new queue.new) }
     ensures err { OnErr result (queue.new ≡ queue.old) }
+    ensures left { OnErr result (sleeping.new.known ≡ true → AreLaidBut statements.now levels.now sleeping.new due.now queue.old) }
 {
     match due {
         Due::Nobody => Ok(()),
         Due::Mover {
             mover,
             started: None,
-        } => join_mover(alloc, statements, levels, mover, queue, answered),
+        } => {
+            sleeping.keep_for(alloc, &mover.space);
+            join_or_sleep(alloc, statements, levels, mover, queue, answered, sleeping)
+        }
         Due::Mover {
             mover,
             started: Some(started),
-        } => join_both(alloc, statements, levels, mover, started, queue),
-        Due::Everybody { mover } => requeue(alloc, statements, levels, mover.as_ref(), queue),
+        } => {
+            sleeping.keep_for(alloc, &mover.space);
+            join_both_or_sleep(alloc, statements, levels, mover, started, queue, sleeping)
+        }
+        Due::Told { mover, woken } => {
+            sleeping.keep_for(alloc, &mover.space);
+            join_told(
+                alloc,
+                statements,
+                levels,
+                mover,
+                woken.as_slice(),
+                queue,
+                answered,
+                sleeping,
+            )
+        }
+        Due::Everybody { mover } => {
+            requeue_all(alloc, statements, levels, mover.as_ref(), queue, sleeping)
+        }
     }
 }
 
@@ -252,9 +385,10 @@ fn begin_needed(
 ) -> Result<(), AllocError>
     ensures same { config_of statements.now course.new ≡ config_of statements.now course.old }
     ensures begun { OnOk result (layers_after statements.now course.new.levels course.new.due ≡ course.new.levels) }
+    ensures asleep { (s : Sleeping) → Sleeps statements.now s course.old → Sleeps statements.now s course.new }
 {
     match course.due {
-        Due::Nobody | Due::Mover { .. } => Ok(()),
+        Due::Nobody | Due::Mover { .. } | Due::Told { .. } => Ok(()),
         Due::Everybody { .. } => {
             by_need::fire(alloc, statements, &mut course.levels)?;
             Ok(())
@@ -269,9 +403,12 @@ pub fn settle(
     statements: &[Statement],
     course: &mut Course,
     answered: &mut Option<Answer>,
+    sleeping: &mut Sleeping,
 ) -> Result<(), AllocError>
+    requires asleep { Sleeps statements.now sleeping.old course.old }
     ensures same { config_of statements.now course.new ≡ config_of statements.now course.old }
     ensures due { OnOk result (course.new.due ≡ Nobody) }
+    ensures asleep { Sleeps statements.now sleeping.new course.new }
     ensures answer { OnOk result (IsHeadAnswer statements.now course.new.levels course.new.queue answered.new) }
 {
     *answered = None;
@@ -283,6 +420,7 @@ pub fn settle(
         &course.due,
         &mut course.queue,
         answered,
+        sleeping,
     )?;
     course.due = Due::Nobody;
     Ok(())
@@ -293,10 +431,13 @@ pub fn settle_only(
     alloc: Global,
     statements: &[Statement],
     course: &mut Course,
+    sleeping: &mut Sleeping,
 ) -> Result<(), AllocError>
+    requires asleep { Sleeps statements.now sleeping.old course.old }
     ensures same { config_of statements.now course.new ≡ config_of statements.now course.old }
     ensures due { OnOk result (course.new.due ≡ Nobody) }
+    ensures asleep { Sleeps statements.now sleeping.new course.new }
 {
     let mut answered = None;
-    settle(alloc, statements, course, &mut answered)
+    settle(alloc, statements, course, &mut answered, sleeping)
 }

@@ -1,7 +1,8 @@
 //! What follows a step that told its space something, where no space is below: threads of its own space alone can step by that.
-ghost use Rattle.std.specs.Prelude.{◌≡◌, ◌++◌, [], List, Some, true, drop};
+ghost use Rattle.std.specs.Prelude.{◌≡◌, ◌++◌, [], List, Some, true, drop, IfSome};
 ghost use Rattle.std.specs.List.{list_all};
 ghost use Rattle.oz_base.specs.Lists.{first};
+ghost use Rattle.oz_language.specs.declared.kernel.Statement.{Statement};
 ghost use Rattle.oz_semantics.specs.Store.{is_consistent};
 ghost use Rattle.oz_semantics.specs.Configurations.{is_numbered, layer_of, view};
 ghost use Rattle.oz_semantics.specs.Changes.{Change, done};
@@ -12,11 +13,14 @@ ghost use Rattle.oz_semantics.specs.declared.outcome.Stepped.TheVariants.{Moved}
 ghost use Rattle.turn_laws.specs.Telling.{IsAlone};
 ghost use Rattle.oz_machine.specs.Courses.{config_of, stepping};
 ghost use Rattle.oz_machine.specs.Quiet.{IsAwakeAlone, IsHead, LetsNoneStep};
+ghost use Rattle.oz_machine.specs.Asleep.{AreLaidBut, IsForetold};
+ghost use Rattle.oz_machine.specs.Waking.{IsLeftTold};
+ghost use Rattle.oz_sleep.specs.declared.sleeping.Sleeping.{Sleeping};
 
 use crate::course::Course;
-use crate::following::{follow, leave_alone};
+use crate::following::{follow, leave_alone, leave_told};
 use crate::quiet::is_known_able;
-use oz_base::Ident;
+use oz_base::{Ident, Sequence};
 use oz_language::Kernel;
 use oz_semantics::{Stepped, Thread};
 use space_core::Levels;
@@ -71,27 +75,51 @@ fn lets_none_step(alloc: Global, kernel: &Kernel, levels: &Levels, id: &Ident) -
     is_awake_alone(alloc, kernel, levels, id)
 }
 
+/// Threads of its space with these numbers alone may wake by what a thread told its space, if that is known.
+fn go_on_waking(woken: Option<Sequence<u64>>, cost: u64, course: &mut Course) -> Stepped
+    ensures follows { (statements : List Statement) (mover : Ident) → first course.old.queue ≡ Some mover → IsLeftTold statements mover cost woken course.old result course.new }
+    ensures cost { result ≡ Moved cost }
+{
+    match woken {
+        Some(woken) if course.levels.is_plain() => {
+            leave_told(course, woken);
+            Stepped::Moved { cost }
+        }
+        _ => {
+            course.levels.consistent();
+            follow(cost, course)
+        }
+    }
+}
+
 /// A thread goes on after a step that told its space, below which there is none, what is consistent with what it sees.
 pub fn go_on_told(
     alloc: Global,
     kernel: &Kernel,
     mover: &Ident,
+    woken: Option<Sequence<u64>>,
     cost: u64,
     course: &mut Course,
 ) -> Stepped
     requires { first course.old.queue ≡ Some mover.now }
-    ensures turn { (layers : List Layer) (ts : List Tell) (changes : List Change)
+    ensures turn { (s : Sleeping) (layers : List Layer) (ts : List Tell) (changes : List Change)
         → IsHead kernel.now.statements mover.now layers (drop 1 course.old.queue) course.old.shown
         → IsAlone layers mover.now.space → is_consistent (view layers mover.now.space ++ ts) ≡ true
         → course.old.levels ≡ done mover.now ts changes (without_top mover.now layers)
+        → IsForetold kernel.now.statements layers s mover.now (drop 1 course.old.queue) woken ts changes
         → went_on kernel.now.statements mover.now cost course.old.levels (stepping course.old) ≡ (result, config_of kernel.now.statements course.new) }
+    ensures asleep { (s : Sleeping) (layers : List Layer) (ts : List Tell) (changes : List Change)
+        → IsHead kernel.now.statements mover.now layers (drop 1 course.old.queue) course.old.shown
+        → IsAlone layers mover.now.space → is_consistent (view layers mover.now.space ++ ts) ≡ true
+        → course.old.levels ≡ done mover.now ts changes (without_top mover.now layers)
+        → IsForetold kernel.now.statements layers s mover.now (drop 1 course.old.queue) woken ts changes
+        → IfSome woken (λ numbers. AreLaidBut kernel.now.statements course.new.levels s course.new.due course.new.queue) }
     ensures cost { result ≡ Moved cost }
 {
     course.levels.drop_terminated(&mover.space);
-    if !lets_none_step(alloc, kernel, &course.levels, mover) {
-        course.levels.consistent();
-        return follow(cost, course);
+    if lets_none_step(alloc, kernel, &course.levels, mover) {
+        leave_alone(course, None);
+        return Stepped::Moved { cost };
     }
-    leave_alone(course, None);
-    Stepped::Moved { cost }
+    go_on_waking(woken, cost, course)
 }

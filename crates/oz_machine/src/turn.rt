@@ -1,5 +1,5 @@
 //! One turn of the machine: the least propagator that is due runs, or else the head of the queue makes one step.
-ghost use Rattle.std.specs.Prelude.{◌≡◌, ◌≤◌, ◌<◌, ◌+◌, ◌&&◌, not, true, false, None, is_some, length, position, List, IfOk, IfSome, OnErr, Some, MatchOption, option_copied};
+ghost use Rattle.std.specs.Prelude.{◌≡◌, ◌≤◌, ◌<◌, ◌+◌, true, false, None, is_some, length, position, List, IfOk, IfSome, OnErr, Some, MatchOption, option_copied};
 ghost use Rattle.oz_base.specs.Lists.{first};
 ghost use Rattle.oz_language.specs.declared.kernel.Statement.{Statement};
 ghost use Rattle.oz_semantics.specs.Configurations.{is_of, layer_at, stack_of};
@@ -15,17 +15,18 @@ ghost use Rattle.operations.specs.Outcomes.{IsOutcome};
 ghost use Rattle.builtins.specs.Answers.{act_of, edit_of, IsAnswer};
 ghost use Rattle.builtins.specs.declared.answer.Act;
 ghost use Rattle.builtins.specs.declared.answer.Answer;
-ghost use Rattle.space_core.specs.Telling.{has_below};
 ghost use Rattle.oz_machine.specs.declared.course.Due.TheVariants.{Nobody};
 ghost use Rattle.oz_machine.specs.Courses.{config_of, stepping, Keeps};
-ghost use Rattle.oz_acts.specs.Doings.{is_quiet, is_shown};
-ghost use Rattle.oz_machine.specs.Quiet.{delays, gives_out, IsDeclaration, IsHeadAnswer, KeepsHead, operates, shows};
+ghost use Rattle.oz_acts.specs.Doings.{is_shown};
+ghost use Rattle.oz_machine.specs.Quiet.{IsDeclaration, IsHeadAnswer, KeepsHead, operates, shows};
 ghost use Rattle.oz_machine.specs.Turns.{cost_of, CostsWithin, HasNotEnded, IsTurn};
+ghost use Rattle.oz_machine.specs.Asleep.{Pends, Sleeps};
 
 use crate::course::Course;
 use crate::declarations::declaration;
 use crate::editing::edit;
 use crate::following::{follow, go_on};
+use crate::foreseeing::{foreseen, gives_out, is_known_lowest, is_known_quiet, is_known_still};
 use crate::propagating::propagate;
 use crate::quiet::go_on_quietly;
 use crate::raising::{clash, raise, raise_kind};
@@ -33,56 +34,16 @@ use crate::settling::{settle_only, top_answer};
 use crate::told::go_on_told;
 use builtins::{Act, Answer, Edit};
 use operations::Outcome;
-use oz_acts::{act, give_term, is_quiet, started, take_off};
-use oz_base::{Copies, Ident, Sequence};
+use oz_acts::{act, give_term, started, take_off};
+use oz_base::{Copies, Ident};
 use oz_language::{Identifier, Kernel, Statement};
 use oz_raise::Node;
 use oz_semantics::{Stepped, Tell};
+use oz_sleep::Sleeping;
 use space_core::Levels;
 use stability::{DuePropagator, answer_in, least_due, states_of};
 use std::alloc::{AllocError, Global};
 use term_text::{Text, term_text};
-
-/// Whether an act tells nothing, where this spares a look at the other threads.
-fn is_known_quiet(what: &Act, kept: bool) -> bool
-    ensures { result ≡ (kept && is_quiet (act_of what.now)) }
-{
-    kept && is_quiet(what)
-}
-
-/// Whether an act adds a by-need computation.
-fn delays(what: &Act) -> bool
-    ensures { result ≡ delays (act_of what.now) }
-{
-    match what {
-        Act::Delays { .. } => true,
-        _ => false,
-    }
-}
-
-/// Whether an act that tells nothing gives out variables.
-fn gives_out(what: &Act) -> bool
-    ensures { result ≡ gives_out (act_of what.now) }
-{
-    match what {
-        Act::Declares(_) => true,
-        _ => false,
-    }
-}
-
-/// Whether an act of which it is known that it tells nothing adds no by-need computation either.
-fn is_known_still(what: &Act, quiet: bool) -> bool
-    ensures { result ≡ (quiet && not (delays (act_of what.now))) }
-{
-    quiet && !delays(what)
-}
-
-/// Whether no space is below the thread's, where this spares a look at the threads of other spaces: after a step that told something.
-fn is_known_lowest(levels: &Levels, id: &Ident, kept: bool, quiet: bool) -> bool
-    ensures { result ≡ ((kept && not quiet) && not (has_below levels.now id.now.space)) }
-{
-    kept && !quiet && !levels.has_below(&id.space)
-}
 
 /// The thread does what an act says that shows nothing. The act is of no use afterwards.
 fn make_act(
@@ -91,29 +52,37 @@ fn make_act(
     id: &Ident,
     what: &mut Act,
     kept: bool,
+    sleeping: &mut Sleeping,
     course: &mut Course,
 ) -> Result<Stepped, AllocError>
     requires head { first course.old.queue ≡ Some id.now }
     requires there { is_some (layer_at course.old.levels id.now.space) ≡ true }
     requires kept { KeepsHead kernel.now.statements id.now kept course.old }
     requires shown { is_shown (act_of what.old) ≡ false }
+    requires asleep { Pends kernel.now.statements sleeping.old course.old }
     ensures turn { IfOk result (λ stepped. after_answer kernel.now id.now (without_top id.now course.old.levels) (stepping course.old) (answers.Acts (act_of what.old)) ≡ (stepped, config_of kernel.now.statements course.new)) }
     ensures cost { IfOk result (λ stepped. cost_of stepped ≡ 1) }
     ensures err { OnErr result (course.new ≡ course.old) }
+    ensures asleep { Sleeps kernel.now.statements sleeping.new course.new }
 {
     let quiet = is_known_quiet(what, kept);
     let lowest = is_known_lowest(&course.levels, id, kept, quiet);
     let still = is_known_still(what, quiet);
     let gives = gives_out(what);
     let started = started(alloc, &course.levels, id, what)?;
+    let woken = foreseen(alloc, &course.levels, id, what, lowest, sleeping)?;
     if !act(alloc, &mut course.levels, id, what)? {
         return clash(alloc, id, course);
     }
     if lowest {
-        return Ok(go_on_told(alloc, kernel, id, 1, course));
+        let stepped = go_on_told(alloc, kernel, id, woken, 1, course);
+        sleeping.resume();
+        return Ok(stepped);
     }
     if still {
-        return Ok(go_on_quietly(alloc, kernel, id, started, gives, 1, course));
+        let stepped = go_on_quietly(alloc, kernel, id, started, gives, 1, course);
+        sleeping.resume();
+        return Ok(stepped);
     }
     course.levels.consistent();
     Ok(go_on(id, 1, course))
@@ -199,21 +168,24 @@ fn make_step(
     id: &Ident,
     answer: &mut Answer,
     kept: bool,
+    sleeping: &mut Sleeping,
     course: &mut Course,
 ) -> Result<Stepped, AllocError>
     requires head { first course.old.queue ≡ Some id.now }
     requires there { is_some (layer_at course.old.levels id.now.space) ≡ true }
     requires kept { KeepsHead kernel.now.statements id.now kept course.old }
     requires shown { shows answer.old ≡ false }
+    requires asleep { Pends kernel.now.statements sleeping.old course.old }
     ensures turn { (a : answers.Answer) → IsAnswer a answer.old → IfOk result (λ stepped. after_answer kernel.now id.now (without_top id.now course.old.levels) (stepping course.old) a ≡ (stepped, config_of kernel.now.statements course.new)) }
     ensures cost { IfOk result (λ stepped. cost_of stepped ≡ 1) }
     ensures err { OnErr result (course.new ≡ course.old) }
+    ensures asleep { Sleeps kernel.now.statements sleeping.new course.new }
 {
     match answer {
         Answer::Rests => Ok(rest(course)),
         Answer::Operates { .. } => Ok(rest(course)),
         Answer::Edits(edit) => make_edit(alloc, kernel, id, edit, course),
-        Answer::Acts(what) => make_act(alloc, kernel, id, what, kept, course),
+        Answer::Acts(what) => make_act(alloc, kernel, id, what, kept, sleeping, course),
         Answer::Widens(tells) => widen(alloc, id, tells.as_slice(), course),
         Answer::RaisesKind(kind) => raise_kind(alloc, id, *kind, course),
         Answer::RaisesTerm(exception) => raise(
@@ -325,6 +297,7 @@ fn step_as(
     id: &Ident,
     answer: &mut Answer,
     kept: bool,
+    sleeping: &mut Sleeping,
     course: &mut Course,
     fuel: u64,
 ) -> Result<Option<Stepped>, AllocError>
@@ -333,14 +306,16 @@ fn step_as(
     requires head { first course.old.queue ≡ Some id.now }
     requires kept { KeepsHead kernel.now.statements id.now kept course.old }
     requires fuel { 1 ≤ fuel }
+    requires asleep { Pends kernel.now.statements sleeping.old course.old }
     ensures turn { (a : answers.Answer) → IsAnswer a answer.old → IfOk result (IsTurn (after_answer kernel.now id.now (without_top id.now course.old.levels) (stepping course.old) a) fuel (config_of kernel.now.statements course.old) (config_of kernel.now.statements course.new)) }
     ensures cost { IfOk result (λ turned. IfSome turned (CostsWithin fuel)) }
     ensures err { OnErr result (course.new ≡ course.old) }
+    ensures asleep { Sleeps kernel.now.statements sleeping.new course.new }
 {
     if let Some(variable) = shown(answer) {
         return show(alloc, kernel, place, id, variable, kept, course, fuel);
     }
-    Ok(Some(make_step(alloc, kernel, id, answer, kept, course)?))
+    Ok(Some(make_step(alloc, kernel, id, answer, kept, sleeping, course)?))
 }
 
 /// The thread makes the declaration on top of its stack.
@@ -351,19 +326,24 @@ fn declare(
     names: &[Identifier],
     body: &[u32],
     kept: bool,
+    sleeping: &mut Sleeping,
     course: &mut Course,
 ) -> Result<Stepped, AllocError>
     requires head { first course.old.queue ≡ Some id.now }
     requires there { is_some (layer_at course.old.levels id.now.space) ≡ true }
     requires kept { KeepsHead kernel.now.statements id.now kept course.old }
     requires declared { IsDeclaration kernel.now.statements (stack_of course.old.levels id.now) names.now body.now }
+    requires asleep { Pends kernel.now.statements sleeping.old course.old }
     ensures turn { IfOk result (λ made. stepped kernel.now id.now (stepping course.old) ≡ (made, config_of kernel.now.statements course.new)) }
     ensures cost { IfOk result (λ made. cost_of made ≡ 1) }
     ensures err { OnErr result (course.new ≡ course.old) }
+    ensures asleep { Sleeps kernel.now.statements sleeping.new course.new }
 {
     course.levels.declare_in(alloc, id, names, body)?;
     if kept {
-        return Ok(go_on_quietly(alloc, kernel, id, None, true, 1, course));
+        let stepped = go_on_quietly(alloc, kernel, id, None, true, 1, course);
+        sleeping.resume();
+        return Ok(stepped);
     }
     course.levels.consistent();
     Ok(go_on(id, 1, course))
@@ -407,7 +387,18 @@ fn step_outcome(
     match outcome {
         Outcome::Answers(answer) => {
             let mut answer = answer;
-            step_as(alloc, kernel, place, id, &mut answer, kept, course, fuel)
+            let mut nobody = Sleeping::unknown(alloc);
+            step_as(
+                alloc,
+                kernel,
+                place,
+                id,
+                &mut answer,
+                kept,
+                &mut nobody,
+                course,
+                fuel,
+            )
         }
         Outcome::GivesTerm { variable, nodes } => Ok(Some(make_term(
             alloc,
@@ -474,6 +465,7 @@ fn step_answering(
     place: usize,
     id: &Ident,
     kept: bool,
+    sleeping: &mut Sleeping,
     course: &mut Course,
     fuel: u64,
 ) -> Result<Option<Stepped>, AllocError>
@@ -482,13 +474,25 @@ fn step_answering(
     requires head { first course.old.queue ≡ Some id.now }
     requires kept { KeepsHead kernel.now.statements id.now kept course.old }
     requires fuel { 1 ≤ fuel }
+    requires asleep { Pends kernel.now.statements sleeping.old course.old }
     ensures turn { IfOk result (IsTurn (stepped kernel.now id.now (stepping course.old)) fuel (config_of kernel.now.statements course.old) (config_of kernel.now.statements course.new)) }
     ensures cost { IfOk result (λ turned. IfSome turned (CostsWithin fuel)) }
     ensures err { OnErr result (course.new ≡ course.old) }
+    ensures asleep { Sleeps kernel.now.statements sleeping.new course.new }
 {
     let statements = kernel.statements.as_slice();
     let mut answer = top_answer(alloc, statements, &course.levels, place, id)?;
-    step_answered(alloc, kernel, place, id, &mut answer, kept, course, fuel)
+    step_answered(
+        alloc,
+        kernel,
+        place,
+        id,
+        &mut answer,
+        kept,
+        sleeping,
+        course,
+        fuel,
+    )
 }
 
 /// A step of the thread at the head of the queue, whose answer was not made. A declaration needs none.
@@ -498,6 +502,7 @@ fn step_anew(
     place: usize,
     id: &Ident,
     kept: bool,
+    sleeping: &mut Sleeping,
     course: &mut Course,
     fuel: u64,
 ) -> Result<Option<Stepped>, AllocError>
@@ -506,13 +511,17 @@ fn step_anew(
     requires head { first course.old.queue ≡ Some id.now }
     requires kept { KeepsHead kernel.now.statements id.now kept course.old }
     requires fuel { 1 ≤ fuel }
+    requires asleep { Pends kernel.now.statements sleeping.old course.old }
     ensures turn { IfOk result (IsTurn (stepped kernel.now id.now (stepping course.old)) fuel (config_of kernel.now.statements course.old) (config_of kernel.now.statements course.new)) }
     ensures cost { IfOk result (λ turned. IfSome turned (CostsWithin fuel)) }
     ensures err { OnErr result (course.new ≡ course.old) }
+    ensures asleep { Sleeps kernel.now.statements sleeping.new course.new }
 {
     match declaration(kernel.statements.as_slice(), &course.levels, id) {
-        None => step_answering(alloc, kernel, place, id, kept, course, fuel),
-        Some((names, body)) => Ok(Some(declare(alloc, kernel, id, names, body, kept, course)?)),
+        None => step_answering(alloc, kernel, place, id, kept, sleeping, course, fuel),
+        Some((names, body)) => Ok(Some(declare(
+            alloc, kernel, id, names, body, kept, sleeping, course,
+        )?)),
     }
 }
 
@@ -524,6 +533,7 @@ fn step_answered(
     id: &Ident,
     answer: &mut Answer,
     kept: bool,
+    sleeping: &mut Sleeping,
     course: &mut Course,
     fuel: u64,
 ) -> Result<Option<Stepped>, AllocError>
@@ -533,14 +543,18 @@ fn step_answered(
     requires answered { IsAnswer (stack_answer (sight kernel.now.statements course.old.levels id.now.space) (stack_of course.old.levels id.now)) answer.old }
     requires kept { KeepsHead kernel.now.statements id.now kept course.old }
     requires fuel { 1 ≤ fuel }
+    requires asleep { Pends kernel.now.statements sleeping.old course.old }
     ensures turn { IfOk result (IsTurn (stepped kernel.now id.now (stepping course.old)) fuel (config_of kernel.now.statements course.old) (config_of kernel.now.statements course.new)) }
     ensures cost { IfOk result (λ turned. IfSome turned (CostsWithin fuel)) }
     ensures err { OnErr result (course.new ≡ course.old) }
+    ensures asleep { Sleeps kernel.now.statements sleeping.new course.new }
 {
     if operates(answer) {
         return step_operating(alloc, kernel, place, id, kept, course, fuel);
     }
-    step_as(alloc, kernel, place, id, answer, kept, course, fuel)
+    step_as(
+        alloc, kernel, place, id, answer, kept, sleeping, course, fuel,
+    )
 }
 
 /// A step of the thread at the head of the queue. Its answer was made already, or it is made now. None exactly where the step costs more
@@ -551,6 +565,7 @@ fn step_of(
     id: &Ident,
     answered: &mut Option<Answer>,
     kept: bool,
+    sleeping: &mut Sleeping,
     course: &mut Course,
     fuel: u64,
 ) -> Result<Option<Stepped>, AllocError>
@@ -558,17 +573,21 @@ fn step_of(
     requires answered { IsHeadAnswer kernel.now.statements course.old.levels course.old.queue answered.old }
     requires kept { KeepsHead kernel.now.statements id.now kept course.old }
     requires fuel { 1 ≤ fuel }
+    requires asleep { Pends kernel.now.statements sleeping.old course.old }
     ensures turn { IfOk result (IsTurn (stepped kernel.now id.now (stepping course.old)) fuel (config_of kernel.now.statements course.old) (config_of kernel.now.statements course.new)) }
     ensures cost { IfOk result (λ turned. IfSome turned (CostsWithin fuel)) }
     ensures err { OnErr result (course.new ≡ course.old) }
+    ensures asleep { Sleeps kernel.now.statements sleeping.new course.new }
 {
     let Some(place) = course.levels.place(&id.space) else {
         course.levels.consistent();
         return Ok(Some(follow(1, course)));
     };
     match answered {
-        Some(answer) => step_answered(alloc, kernel, place, id, answer, kept, course, fuel),
-        None => step_anew(alloc, kernel, place, id, kept, course, fuel),
+        Some(answer) => step_answered(
+            alloc, kernel, place, id, answer, kept, sleeping, course, fuel,
+        ),
+        None => step_anew(alloc, kernel, place, id, kept, sleeping, course, fuel),
     }
 }
 
@@ -578,6 +597,7 @@ fn take_step(
     kernel: &Kernel,
     answered: &mut Option<Answer>,
     kept: bool,
+    sleeping: &mut Sleeping,
     course: &mut Course,
     fuel: u64,
 ) -> Result<Option<Stepped>, AllocError>
@@ -585,9 +605,11 @@ fn take_step(
     requires least { least_due course.old.levels ≡ None }
     requires answered { IsHeadAnswer kernel.now.statements course.old.levels course.old.queue answered.old }
     requires kept { Keeps kernel.now.statements kept course.old }
+    requires asleep { Pends kernel.now.statements sleeping.old course.old }
     ensures turn { IfOk result (IsTurn (turn kernel.now (config_of kernel.now.statements course.old)) fuel (config_of kernel.now.statements course.old) (config_of kernel.now.statements course.new)) }
     ensures cost { IfOk result (λ turned. IfSome turned (CostsWithin fuel)) }
     ensures err { OnErr result (course.new ≡ course.old) }
+    ensures asleep { Sleeps kernel.now.statements sleeping.new course.new }
 {
     let Some(id) = course.queue.first() else {
         return Ok(Some(Stepped::Quiescent));
@@ -596,7 +618,7 @@ fn take_step(
         return Ok(None);
     }
     let id = id.copied(alloc)?;
-    step_of(alloc, kernel, &id, answered, kept, course, fuel)
+    step_of(alloc, kernel, &id, answered, kept, sleeping, course, fuel)
 }
 
 /// The least propagator that is due runs, unless there is no fuel.
@@ -625,20 +647,23 @@ fn take_turn(
     kernel: &Kernel,
     answered: &mut Option<Answer>,
     kept: bool,
+    sleeping: &mut Sleeping,
     course: &mut Course,
     fuel: u64,
 ) -> Result<Option<Stepped>, AllocError>
     requires due { course.old.due ≡ Nobody }
     requires answered { IsHeadAnswer kernel.now.statements course.old.levels course.old.queue answered.old }
     requires kept { Keeps kernel.now.statements kept course.old }
+    requires asleep { Pends kernel.now.statements sleeping.old course.old }
     ensures turn { IfOk result (IsTurn (turn kernel.now (config_of kernel.now.statements course.old)) fuel (config_of kernel.now.statements course.old) (config_of kernel.now.statements course.new)) }
     ensures cost { IfOk result (λ turned. IfSome turned (CostsWithin fuel)) }
     ensures err { OnErr result (course.new ≡ course.old) }
+    ensures asleep { Sleeps kernel.now.statements sleeping.new course.new }
 {
     if let Some(due) = least_due(&course.levels) {
         return take_run(alloc, kernel, due, course, fuel);
     }
-    take_step(alloc, kernel, answered, kept, course, fuel)
+    take_step(alloc, kernel, answered, kept, sleeping, course, fuel)
 }
 
 /// Whether all that was known to hold before a turn is known after it: the top has not ended.
@@ -661,17 +686,22 @@ pub fn turn(
     answered: &mut Option<Answer>,
     course: &mut Course,
     kept: &mut bool,
+    sleeping: &mut Sleeping,
     fuel: u64,
 ) -> Result<Option<Stepped>, AllocError>
     requires due { course.old.due ≡ Nobody }
     requires answered { IsHeadAnswer kernel.now.statements course.old.levels course.old.queue answered.old }
     requires kept { Keeps kernel.now.statements kept.old course.old }
+    requires asleep { Sleeps kernel.now.statements sleeping.old course.old }
     ensures turn { IfOk result (IsTurn (turn kernel.now (config_of kernel.now.statements course.old)) fuel (config_of kernel.now.statements course.old) (config_of kernel.now.statements course.new)) }
     ensures cost { IfOk result (λ turned. IfSome turned (CostsWithin fuel)) }
     ensures kept { Keeps kernel.now.statements kept.new course.new }
     ensures err { OnErr result (course.new ≡ course.old) }
+    ensures asleep { Sleeps kernel.now.statements sleeping.new course.new }
 {
-    let turned = take_turn(alloc, kernel, answered, *kept, course, fuel)?;
+    sleeping.begin_turn();
+    let turned = take_turn(alloc, kernel, answered, *kept, sleeping, course, fuel)?;
+    sleeping.end_turn();
     *kept = is_still_kept(*kept, &turned);
     Ok(turned)
 }
@@ -682,17 +712,20 @@ fn turn_anew(
     kernel: &Kernel,
     course: &mut Course,
     kept: &mut bool,
+    sleeping: &mut Sleeping,
     fuel: u64,
 ) -> Result<Option<Stepped>, AllocError>
     requires due { course.old.due ≡ Nobody }
     requires kept { Keeps kernel.now.statements kept.old course.old }
+    requires asleep { Sleeps kernel.now.statements sleeping.old course.old }
     ensures turn { IfOk result (IsTurn (turn kernel.now (config_of kernel.now.statements course.old)) fuel (config_of kernel.now.statements course.old) (config_of kernel.now.statements course.new)) }
     ensures cost { IfOk result (λ turned. IfSome turned (CostsWithin fuel)) }
     ensures kept { Keeps kernel.now.statements kept.new course.new }
     ensures err { OnErr result (course.new ≡ course.old) }
+    ensures asleep { Sleeps kernel.now.statements sleeping.new course.new }
 {
     let mut answered = None;
-    turn(alloc, kernel, &mut answered, course, kept, fuel)
+    turn(alloc, kernel, &mut answered, course, kept, sleeping, fuel)
 }
 
 /// A turn, after those who are due were asked.
@@ -701,14 +734,17 @@ pub fn step(
     kernel: &Kernel,
     course: &mut Course,
     kept: &mut bool,
+    sleeping: &mut Sleeping,
     fuel: u64,
 ) -> Result<Option<Stepped>, AllocError>
-    requires { Keeps kernel.now.statements kept.old course.old }
+    requires kept { Keeps kernel.now.statements kept.old course.old }
+    requires asleep { Sleeps kernel.now.statements sleeping.old course.old }
     ensures turn { IfOk result (IsTurn (turn kernel.now (config_of kernel.now.statements course.old)) fuel (config_of kernel.now.statements course.old) (config_of kernel.now.statements course.new)) }
     ensures cost { IfOk result (λ turned. IfSome turned (CostsWithin fuel)) }
     ensures kept { Keeps kernel.now.statements kept.new course.new }
     ensures err { OnErr result (config_of kernel.now.statements course.new ≡ config_of kernel.now.statements course.old) }
+    ensures asleep { Sleeps kernel.now.statements sleeping.new course.new }
 {
-    settle_only(alloc, kernel.statements.as_slice(), course)?;
-    turn_anew(alloc, kernel, course, kept, fuel)
+    settle_only(alloc, kernel.statements.as_slice(), course, sleeping)?;
+    turn_anew(alloc, kernel, course, kept, sleeping, fuel)
 }

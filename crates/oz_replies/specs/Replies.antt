@@ -1,5 +1,5 @@
 -- What the program answers, and with which status it ends.
-use Rattle.std.specs.Prelude.{ℕ, ◌+◌, ◌≡◌, ◌<◌, ◌≤◌, nat_le, Bool, true, false, if◌then◌else◌, List, [], ◌∷◌, ◌++◌, Option, Some, None, length, map, count_by, codes}
+use Rattle.std.specs.Prelude.{ℕ, ◌+◌, ◌≡◌, ◌<◌, ◌≤◌, nat_le, Bool, true, false, if◌then◌else◌, List, [], ◌∷◌, ◌++◌, Some, None, length, map, count_by, codes}
 use Rattle.std.specs.List.{flat_map}
 use Rattle.std.specs.Fmt.{decimal}
 use Rattle.oz_search.specs.Trees.{Found}
@@ -11,8 +11,7 @@ use Rattle.oz_semantics.specs.Runs.{Ran, Ended, TopRaised, Over, run, opening}
 use Rattle.oz_semantics.specs.Search.{has_script, script_found}
 use Rattle.oz_language.specs.Refusals.{Program, Accepts, IsRefused}
 use Rattle.oz_language.specs.KernelTexts.{kernel_text}
-use Rattle.oz_language.specs.Commands.{IsUsage, AsksAll, AsksRun, AsksKernel}
-use Rattle.oz_language.specs.Translation.{statements_of, kernel_of}
+use Rattle.oz_language.specs.Translation.{statements_of}
 use Rattle.oz_language.specs.declared.kernel.Kernel.{Kernel}
 use Rattle.oz_semantics.specs.declared.configuration.Configuration.{Configuration}
 use Rattle.oz_language.specs.declared.fault.RefusalKind.{RefusalKind}
@@ -166,14 +165,6 @@ pub record IsTextReply (bytes : List ℕ) (answer_to : Program → Answer) (answ
   pub refused : length bytes ≤ text_limit → (fault : Fault) → IsRefused bytes fault → answer ≡ refused_answer fault
   pub accepted : length bytes ≤ text_limit → (p : Program) → Accepts bytes p → answer ≡ answer_to p
 
--- What the program answers to its words, where the source has these bytes: a cause, and what is written.
-pub record IsReply (words : List (List ℕ)) (bytes : List ℕ) (answer : Answer) : Type 0 where
-  pub usage : IsUsage words → answer ≡ (causes.Usage, usage_reply)
-  pub all : (budget : ℕ) → AsksAll words budget → IsTextReply bytes (λ p. all_answer (kernel_of p) budget) answer
-  pub run : (budget : ℕ) → AsksRun words budget → IsTextReply bytes (λ p. run_answer (kernel_of p) budget) answer
-  -- a kernel is written for each text that is accepted
-  pub kernel : AsksKernel words → IsTextReply bytes kernel_answer answer
-
 -- The status of a cause
 abbrev pub status_of : Cause → ℕ
 status_of causes.Done = 0
@@ -183,6 +174,8 @@ status_of (causes.Refused fault) = 3
 status_of causes.ReadFault = 4
 status_of causes.WriteFault = 5
 status_of (causes.Spent total) = 6
+status_of (causes.SpentBest total entries) = 6
 status_of causes.NoMemory = 7
 status_of (causes.TooLarge count) = 8
 status_of causes.NoScript = 9
+status_of causes.NotFd = 10

@@ -6,26 +6,31 @@ ghost use Rattle.oz_outside.specs.Counts.{Rose};
 ghost use Rattle.oz_language.specs.Refusals.{Program, Accepts, IsRefused};
 ghost use Rattle.oz_language.specs.Translation.{statements_of, kernel_of};
 ghost use Rattle.oz_language.specs.KernelTexts.{kernel_text};
-ghost use Rattle.oz_language.specs.Commands.{InRange, Spells, IsUsage, AsksAll, AsksRun, AsksKernel};
+ghost use Rattle.oz_commands.specs.Commands.{InRange, Spells, IsUsage, AsksAll, AsksRun, AsksBest, AsksKernel};
 ghost use Rattle.oz_semantics.specs.Runs.{Ended, run, opening};
 ghost use Rattle.fd_form.specs.FdScripts.{fd_form};
+ghost use Rattle.fd_form.specs.Costs.{HasCost};
 ghost use Rattle.fd_form.specs.declared.script.FdScript.{FdScript};
 ghost use Rattle.fd_form_law.specs.FdCompleteness.{AreAnswers};
-ghost use Rattle.oz_replies.specs.Replies.{IsReply, Searches, status_of, text_limit, usage_reply, too_large_reply, shown_lines, leaves_reply, kind_text, refused_reply, refused_answer, all_answer, run_answer};
-ghost use Rattle.oz_language.specs.declared.command.Command.{Command};
+ghost use Rattle.oz_replies.specs.Calls.{IsReply};
+ghost use Rattle.oz_replies.specs.BestReplies.{BestAnswer, IsBestAnswer, ShowsOptimum, best_cause, best_reply};
+ghost use Rattle.oz_replies.specs.Replies.{Searches, status_of, text_limit, usage_reply, too_large_reply, shown_lines, leaves_reply, kind_text, refused_answer, all_answer, run_answer};
+ghost use Rattle.oz_commands.specs.declared.command.Command.{Command};
 ghost use Rattle.oz_semantics.specs.declared.configuration.Configuration.{Configuration};
 ghost use Rattle.oz_language.specs.declared.fault.RefusalKind.{RefusalKind};
 ghost use Rattle.oz_language.specs.declared.fault.Fault.{Fault};
+ghost use Rattle.oz_language.specs.declared.kernel.Constant.{Constant};
 ghost use Rattle.oz_search.specs.declared.leaf.Outcome.{Outcome as Leaf};
 ghost use Rattle.oz_replies.specs.declared.cause.Cause.{Cause};
-ghost use Rattle.call_laws.specs.Call.{answered, TextGives, AsText, IsCommand, Plans, IsDue, IsRead, IsBounded, Ends, Answers, IsExcused};
+ghost use Rattle.call_laws.specs.Call.{TextGives, AsText, IsCommand, Plans, IsDue, IsRead, IsBounded, Ends, Answers, IsExcused};
 
-use command_answers::{Plan, answered};
+use crate::answers::answer_for;
+use answer_plans::Plan;
 use command_line::read_command;
-use kernel_trans::translate;
-use oz_language::{Command, Fault, RefusalKind};
+use oz_commands::Command;
+use oz_language::{Fault, RefusalKind};
 use oz_outside::{Gate, READ_LIMIT, ReadError as SourceError, Sink, Source, read_all, write_all};
-use oz_reader::{Program, ReadError, read_program};
+use oz_reader::{ReadError, read_program};
 use oz_replies::Cause;
 use reply_text::add_decimal;
 use std::alloc::{AllocError, Global};
@@ -65,22 +70,6 @@ fn refused(alloc: Global, fault: Fault) -> Result<Plan, AllocError>
         cause: Cause::Refused(fault),
         reply,
     })
-}
-
-/// What a command answers for the program of a text.
-fn answer_for<R: Threads + Wait + Sync, G: Gate>(
-    rt: &R,
-    alloc: Global,
-    command: Command,
-    program: Program,
-    gate: &G,
-) -> Result<Plan, AllocError>
-    requires { InRange command }
-    ensures { IfOk result (λ plan. (plan.cause, plan.reply.items) ≡ answered command program) }
-{
-    let (words, phrase) = program.into_parts();
-    let kernel = translate(alloc, words, &phrase)?;
-    answered(rt, alloc, command, kernel, gate)
 }
 
 /// What a command answers for a text.
@@ -221,9 +210,11 @@ fn status_of(cause: &Cause) -> u8
         Cause::ReadFault => 4,
         Cause::WriteFault => 5,
         Cause::Spent { .. } => 6,
+        Cause::SpentBest { .. } => 6,
         Cause::NoMemory => 7,
         Cause::TooLarge { .. } => 8,
         Cause::NoScript => 9,
+        Cause::NotFd => 10,
     }
 }
 
@@ -249,8 +240,10 @@ fn finish<K: Sink>(cause: Cause, reply: &[u8], sink: &mut K) -> Outcome
 }
 
 /// Does what the words ask: reads a program from the source, and writes to the sink what it shows, and for `all` then the leaves
-/// of its search; or, for `kernel`, the program's kernel. The words are those after the program's name. What is written and why the call
-/// ended depends neither on the number of workers nor on how their turns fall.
+/// of its search; for `best` a solution of the least cost and that cost; or, for `kernel`, the program's kernel. The words are those
+/// after the program's name. For `all`, `run` and `kernel`, what is written and why the call ended depends neither on the number of
+/// workers nor on how their turns fall. For `best` it is one of the right answers, of which there may be several: any of the solutions
+/// of the least cost, and with several workers a search may take more steps than with one.
 ///
 /// A fault of the source or of the sink comes only where its count rose in this call. Want of memory may be answered at any
 /// time before the writing, and then nothing is written.
@@ -272,7 +265,8 @@ pub fn oz_call<R: Threads + Wait + Sync, S: Source, K: Sink, G: Gate>(
         (record { written = K.written sink.old; faults = K.faults sink.old })
         (record { written = K.written sink.new; faults = K.faults sink.new }) result.cause }
 
-    // Where the source tells its bytes and neither a read nor memory fails, cause and reply are a function of words and bytes.
+    // Where the source tells its bytes and neither a read nor memory fails, cause and reply are an answer to words and bytes: the only
+    // one for `all`, `run` and `kernel`, and for `best` one that is right.
     ensures reply { (bytes : List ℕ) → S.left source.old ≡ Some bytes → result.cause ≢ Cause.ReadFault → result.cause ≢ Cause.NoMemory
         → (cause : Cause) × (reply : List ℕ) × IsReply (map string_bytes words.now) bytes (cause, reply)
         × Ends cause reply
@@ -307,6 +301,19 @@ pub fn oz_call<R: Threads + Wait + Sync, S: Source, K: Sink, G: Gate>(
         → result.cause ≢ Cause.ReadFault → result.cause ≢ Cause.WriteFault → result.cause ≢ Cause.NoMemory
         → (result.cause ≡ Cause.Done) × (K.written sink.new ≡ Some (before ++ shown_lines top)) }
 
+    // `best` on an accepted text writes one of the right answers to its program.
+    ensures best { (workers budget : ℕ) (bytes before : List ℕ) (p : Program) → AsksBest (map string_bytes words.now) workers budget
+        → S.left source.old ≡ Some bytes → K.written sink.old ≡ Some before → length bytes ≤ text_limit → Accepts bytes p
+        → result.cause ≢ Cause.ReadFault → result.cause ≢ Cause.WriteFault → result.cause ≢ Cause.NoMemory
+        → (a : BestAnswer) × IsBestAnswer p workers budget a × (result.cause ≡ best_cause a) × (K.written sink.new ≡ Some (before ++ best_reply budget a)) }
+
+    // Where it is done on a finite-domain script with a cost, what was written is the text of an assignment that meets every relation
+    // which the script posts and whose cost none betters, and that cost; or `none`, and no assignment meets them.
+    ensures optimum { (workers budget : ℕ) (bytes before : List ℕ) (p : Program) (script : FdScript) (place : ℕ) (feature : Constant) → AsksBest (map string_bytes words.now) workers budget
+        → S.left source.old ≡ Some bytes → K.written sink.old ≡ Some before → length bytes ≤ text_limit → Accepts bytes p → HasCost p script place feature
+        → result.cause ≡ Cause.Done
+        → (reply : List ℕ) × ShowsOptimum p.words script place reply × (K.written sink.new ≡ Some (before ++ reply)) }
+
     // `kernel` on an accepted text writes its kernel.
     ensures kernel { (bytes before : List ℕ) (p : Program) → AsksKernel (map string_bytes words.now)
         → S.left source.old ≡ Some bytes → K.written sink.old ≡ Some before → length bytes ≤ text_limit → Accepts bytes p
@@ -332,6 +339,8 @@ pub fn oz_call<R: Threads + Wait + Sync, S: Source, K: Sink, G: Gate>(
         → (result.cause ≡ (all_answer (kernel_of p) budget).0) ⊎ IsExcused result.cause }
     ensures accepted_run { (budget : ℕ) (bytes : List ℕ) (p : Program) → AsksRun (map string_bytes words.now) budget → S.left source.old ≡ Some bytes → length bytes ≤ text_limit → Accepts bytes p
         → (result.cause ≡ (run_answer (kernel_of p) budget).0) ⊎ IsExcused result.cause }
+    ensures accepted_best { (workers budget : ℕ) (bytes : List ℕ) (p : Program) → AsksBest (map string_bytes words.now) workers budget → S.left source.old ≡ Some bytes → length bytes ≤ text_limit → Accepts bytes p
+        → ((a : BestAnswer) × IsBestAnswer p workers budget a × (result.cause ≡ best_cause a)) ⊎ IsExcused result.cause }
 
     // Faults come only where they were counted, and before the writing nothing is written.
     ensures read_fault { result.cause ≡ Cause.ReadFault → Rose (S.faults source.old) (S.faults source.new) }

@@ -106,13 +106,27 @@ impl<K: SearchKind> Path<K> {
         self.copied(*self.branches.allocator())
     }
 
+    /// The path of the child by this branch.
+    pub fn child(&self, branch: K::Branch) -> Result<Path<K>, AllocError>
+        ensures child { IfOk result (λ child. child ≡ self.now ++ branch ∷ []) }
+    {
+        let mut child = self.copy()?;
+        child.branches.push(branch)?;
+        Ok(child)
+    }
+
     /// The path of the child by the free branch to this alternative.
     pub fn extended(&self, alternative: u32) -> Result<Path<K>, AllocError>
         ensures child { IfOk result (λ child. child ≡ self.now ++ K.search.free alternative ∷ []) }
     {
-        let mut child = self.copy()?;
-        child.branches.push(K::free(alternative))?;
-        Ok(child)
+        self.child(K::free(alternative))
+    }
+
+    /// How it stands to the path of these branches.
+    pub fn compared(&self, path: &[K::Branch]) -> Ordering
+        ensures { result ≡ path_cmp K.search self.now path.now }
+    {
+        order::<K>(self.branches.as_slice(), path)
     }
 
     /// How many branches it has: 0 at the root.

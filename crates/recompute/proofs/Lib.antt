@@ -1,3 +1,4 @@
+mod BestLaws
 mod EntryLaws
 mod NodeLaws
 mod PlaceLaws

@@ -1,3 +1,4 @@
+pub mod Bests
 pub mod Origins
 pub mod Places
 pub mod Ways

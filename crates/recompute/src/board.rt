@@ -1,63 +1,77 @@
 //! The choices that the workers of a search share, so that none runs a node again that another has run.
 ghost use Rattle.std.specs.Prelude.{◌≡◌, ◌<◌, Some, length, slice_get, option_map, IfOk, IfSome};
 ghost use Rattle.std.specs.List.Sorted.{IsSearchInRange};
+ghost use Rattle.oz_search.specs.Paths.{path_cmp};
 
 use crate::placed::{Placed, Start};
+use crate::source::Source;
+use node_pool::SearchKind;
 use oz_base::{Copies, Shared};
 use std::alloc::{AllocError, Global};
 use std::cmp::Ordering;
 
 /// A choice, and how many of its alternatives are still to be taken.
 #[derive(Drop)]
-struct Entry<S: Start> {
-    choice: Shared<Placed<S>>,
+struct Entry<T: Source, S: Start<T>> {
+    choice: Shared<Placed<T, S>>,
     left: u32,
 }
 
 /// Choices of which an alternative is still to be taken, in the order of their paths. A choice is asked for once for each of its
 /// alternatives, and leaves with the last. Were it asked for otherwise, it would only be found less often.
 #[derive(Drop)]
-pub struct Board<S: Start> {
-    entries: Vec<Entry<S>>,
+pub struct Board<T: Source, S: Start<T>> {
+    entries: Vec<Entry<T, S>>,
 }
 
-fn order<S: Start>(entry: &Entry<S>, path: &[u32]) -> Ordering {
-    entry.choice.get().path().cmp(path)
+fn order<T: Source, S: Start<T>>(
+    entry: &Entry<T, S>,
+    path: &[<T::Kind as SearchKind>::Branch],
+) -> Ordering
+    ensures { result ≡ path_cmp T.Kind.search entry.now.choice path.now }
+{
+    entry.choice.get().path().compared(path)
 }
 
 /// Where the choice at this path stands, or where it would.
-fn place<S: Start>(entries: &[Entry<S>], path: &[u32]) -> Result<usize, usize>
+fn place<T: Source, S: Start<T>>(
+    entries: &[Entry<T, S>],
+    path: &[<T::Kind as SearchKind>::Branch],
+) -> Result<usize, usize>
     ensures { IsSearchInRange result (length entries.now) }
 {
     entries.binary_search_by(|entry| order(entry, path))
 }
 
 /// Where the choice at this path stands, if it does.
-fn place_of<S: Start>(entries: &[Entry<S>], path: &[u32]) -> Option<usize>
+fn place_of<T: Source, S: Start<T>>(
+    entries: &[Entry<T, S>],
+    path: &[<T::Kind as SearchKind>::Branch],
+) -> Option<usize>
     ensures place { IfSome result (λ at. at < length entries.now) }
     ensures path { IfSome result (λ at. option_map (λ entry. entry.choice) (slice_get entries.now at) ≡ Some path.now) }
 {
     let Ok(at) = place(entries, path) else {
         return None;
     };
-    if entries[at].choice.get().path() == path {
+    if order(&entries[at], path).is_eq() {
         return Some(at);
     }
     None
 }
 
-impl<S: Start> Board<S> {
+impl<T: Source, S: Start<T>> Board<T, S> {
     /// One without choices.
-    pub fn new(alloc: Global) -> Board<S> {
+    pub fn new(alloc: Global) -> Board<T, S> {
         Board {
             entries: Vec::new(alloc),
         }
     }
 
     /// Puts a choice there, all of whose alternatives are to be taken.
-    pub fn put(&mut self, choice: Shared<Placed<S>>) -> Result<(), AllocError> {
+    pub fn put(&mut self, choice: Shared<Placed<T, S>>) -> Result<(), AllocError> {
         let left = choice.get().count();
-        let at = match place(self.entries.as_slice(), choice.get().path()) {
+        let at = match place(self.entries.as_slice(), choice.get().path().as_slice()) {
             Ok(at) => at,
             Err(at) => at,
         };
@@ -71,8 +85,8 @@ impl<S: Start> Board<S> {
     pub fn take(
         &mut self,
         alloc: Global,
-        path: &[u32],
-    ) -> Result<Option<Shared<Placed<S>>>, AllocError>
+        path: &[<T::Kind as SearchKind>::Branch],
+    ) -> Result<Option<Shared<Placed<T, S>>>, AllocError>
         ensures { IfOk result (λ found. IfSome found (λ choice. choice ≡ path.now)) }
     {
         let Some(at) = place_of(self.entries.as_slice(), path) else {

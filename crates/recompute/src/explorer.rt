@@ -1,59 +1,60 @@
 //! Goes to nodes by their paths, from those that it has solved before.
 ghost use Rattle.std.specs.Prelude.{◌≡◌, ◌≢◌, ◌<◌, [], ◌∷◌, ℕ, List, None, IfOk, length, option_copied};
-ghost use Rattle.recompute.specs.Origins.{Origin, met_at};
+ghost use Rattle.oz_search.specs.Nodes.{Maker};
+ghost use Rattle.oz_semantics.specs.declared.configuration.Configuration.{Configuration};
+ghost use Rattle.recompute.specs.Origins.{Origin, met_by};
 ghost use Rattle.recompute.specs.Ways.{IsWay, rest_behind, rest_of, met_on, answer_of, Goes};
 
-use crate::frozen::Frozen;
-use crate::waypoint::{Waypoint, solved};
-use node_pool::{Path, Plain};
-use oz_search::{Kind, Outcome, Report};
+use crate::source::Source;
+use crate::waypoint::{Waypoint, opened, solved};
+use node_pool::{Path, SearchKind};
+use oz_search::{Kind, Report};
 use std::alloc::{AllocError, Global};
 use std::marker::Model;
 
 /// What there is at a path. The shortest prefix that is no node, or needs too many steps, decides.
 #[derive(Drop)]
-pub enum Solved {
+pub enum Solved<L> {
     /// A node.
-    Node(Report<Outcome>),
+    Node(Report<L>),
     /// The node at the prefix of this length has more own steps than the fuel.
     OutOfFuel { at: usize },
-    /// This entry of the path, counted from 1, is no alternative of the node before it.
+    /// This branch of the path, counted from 1, takes no alternative of the node before it.
     NotANode { at: usize },
 }
 
 /// Goes to any node of a tree. It keeps the machines of the nodes on its way to the last one, each as it came to rest, so that a
 /// path is run only from where it leaves that way. Contracts see where the search starts.
 #[derive(Drop)]
-pub struct Explorer {
-    frozen: Frozen,
+pub struct Explorer<T: Source> {
+    source: T,
     /// From the root on.
-    way: Vec<Waypoint>,
+    way: Vec<Waypoint<<T::Kind as SearchKind>::Branch, <T::Kind as SearchKind>::Leaf>>,
 }
 
-impl Model for Explorer {
-    ghost use Rattle.std.specs.Coded.{codes};
-    ghost use Rattle.environments.specs.contracts.environment.Environment as environment;
-    ghost use Rattle.recompute.specs.Origins.{Origin};
+impl<T: Source> Model for Explorer<T> {
     ghost use Rattle.recompute.specs.Ways.{IsWay};
 
-    ghost Value = { Origin };
+    ghost Value = { T };
 
-    ghost coded = { Prim.hlevel (codes, environment.the_row.coded) };
+    ghost view = { λ e. e.source };
 
-    ghost view = { λ e. e.frozen };
-
-    ghost invariant = { λ e. IsWay e.frozen e.way.items };
+    ghost invariant = { λ e. IsWay T.Kind.search (T.maker e.source) (T.origin e.source) e.way.items };
 }
 
 /// What is left of a path behind these nodes, if it leads through them, and none has more own steps than the fuel.
-fn rest_behind<'a>(way: &[Waypoint], path: &'a [u32], fuel: u64) -> Option<&'a [u32]>
-    ensures { option_copied result ≡ rest_behind fuel way.now path.now }
+fn rest_behind<'a, K: SearchKind>(
+    way: &[Waypoint<K::Branch, K::Leaf>],
+    path: &'a [K::Branch],
+    fuel: u64,
+) -> Option<&'a [K::Branch]>
+    ensures { option_copied result ≡ rest_behind K.search fuel way.now path.now }
 {
     let mut nodes = way;
     let mut rest = path;
     'nodes: while let Some((node, further)) = nodes.split_first() {
         let (branch, others) = rest.split_first()?;
-        if node.branch != *branch || node.report.steps > fuel {
+        if !K::compare(node.branch, *branch).is_eq() || node.report.steps > fuel {
             return None;
         }
         nodes = further;
@@ -63,8 +64,12 @@ fn rest_behind<'a>(way: &[Waypoint], path: &'a [u32], fuel: u64) -> Option<&'a [
 }
 
 /// The same of a way from the root.
-fn rest_of<'a>(way: &[Waypoint], path: &'a [u32], fuel: u64) -> Option<&'a [u32]>
-    ensures { option_copied result ≡ rest_of fuel way.now path.now }
+fn rest_of<'a, K: SearchKind>(
+    way: &[Waypoint<K::Branch, K::Leaf>],
+    path: &'a [K::Branch],
+    fuel: u64,
+) -> Option<&'a [K::Branch]>
+    ensures { option_copied result ≡ rest_of K.search fuel way.now path.now }
 {
     match way.split_first() {
         None => Some(path),
@@ -72,17 +77,17 @@ fn rest_of<'a>(way: &[Waypoint], path: &'a [u32], fuel: u64) -> Option<&'a [u32]
             if root.report.steps > fuel {
                 return None;
             }
-            rest_behind(further, path, fuel)
+            rest_behind::<K>(further, path, fuel)
         }
     }
 }
 
-fn let_go(_node: Waypoint) {}
+fn let_go<B: Drop, L: Drop>(_node: Waypoint<B, L>) {}
 
 /// Takes the last node off the way.
-fn drop_last(way: &mut Vec<Waypoint>)
+fn drop_last<K: SearchKind>(way: &mut Vec<Waypoint<K::Branch, K::Leaf>>)
     requires { way.old.items ≢ [] }
-    ensures way { (o : Origin) → IsWay o way.old.items → IsWay o way.new.items }
+    ensures way { (m : Maker K.Branch K.Leaf Configuration) (o : Origin) → IsWay K.search m o way.old.items → IsWay K.search m o way.new.items }
     ensures shorter { length way.new.items < length way.old.items }
 {
     let Some(node) = way.pop() else {
@@ -92,65 +97,71 @@ fn drop_last(way: &mut Vec<Waypoint>)
 }
 
 /// Goes back to where the path leaves the way, and gives what is left of the path.
-fn go_back<'a>(way: &mut Vec<Waypoint>, path: &'a [u32], fuel: u64) -> &'a [u32]
-    ensures way { (o : Origin) → IsWay o way.old.items → IsWay o way.new.items }
-    ensures rest { (o : Origin) → IsWay o way.old.items → met_on o fuel way.new.items result.now ≡ met_at o fuel path.now }
+fn go_back<'a, T: Source>(
+    source: &T,
+    way: &mut Vec<Waypoint<<T::Kind as SearchKind>::Branch, <T::Kind as SearchKind>::Leaf>>,
+    path: &'a [<T::Kind as SearchKind>::Branch],
+    fuel: u64,
+) -> &'a [<T::Kind as SearchKind>::Branch]
+    requires { IsWay T.Kind.search (T.maker source.now) (T.origin source.now) way.old.items }
+    ensures way { IsWay T.Kind.search (T.maker source.now) (T.origin source.now) way.new.items }
+    ensures rest { met_on T.Kind.search (T.maker source.now) (T.origin source.now) fuel way.new.items result.now ≡ met_by T.Kind.search (T.maker source.now) (T.origin source.now) fuel path.now }
 {
+    let _source = source;
     'nodes: loop {
-        match rest_of(way.as_slice(), path, fuel) {
+        match rest_of::<T::Kind>(way.as_slice(), path, fuel) {
             Some(rest) => return rest,
-            None => drop_last(way),
+            None => drop_last::<T::Kind>(way),
         }
     }
 }
 
 /// Solves the root, if the way has not begun.
-fn begin(
+fn begin<T: Source>(
     alloc: Global,
-    frozen: &Frozen,
-    way: &mut Vec<Waypoint>,
+    source: &T,
+    way: &mut Vec<Waypoint<<T::Kind as SearchKind>::Branch, <T::Kind as SearchKind>::Leaf>>,
     fuel: u64,
-) -> Result<Option<Solved>, AllocError>
-    requires { IsWay frozen.now way.old.items }
-    ensures way { IsWay frozen.now way.new.items }
+) -> Result<Option<Solved<<T::Kind as SearchKind>::Leaf>>, AllocError>
+    requires { IsWay T.Kind.search (T.maker source.now) (T.origin source.now) way.old.items }
+    ensures way { IsWay T.Kind.search (T.maker source.now) (T.origin source.now) way.new.items }
     ensures begun { IfOk result (λ stopped. stopped ≡ None → way.new.items ≢ []) }
-    ensures goes { (p : List ℕ) → IfOk result (Goes frozen.now fuel (met_on frozen.now fuel way.old.items p) way.new.items p) }
+    ensures goes { (p : List T.Kind.Branch) → IfOk result (Goes T.Kind.search (T.maker source.now) (T.origin source.now) fuel (met_on T.Kind.search (T.maker source.now) (T.origin source.now) fuel way.old.items p) way.new.items p) }
 {
     if !way.as_slice().is_empty() {
         return Ok(None);
     }
-    let machine = frozen.machine(alloc)?;
-    let Some(root) = solved(alloc, frozen.space(), 0, machine, fuel)? else {
+    let machine = source.frozen().machine(alloc)?;
+    let Some(root) = solved(alloc, source, T::Kind::free(0), machine, fuel)? else {
         return Ok(Some(Solved::OutOfFuel { at: 0 }));
     };
     way.push(root)?;
     Ok(None)
 }
 
-/// Goes on to an alternative of the last node.
-fn go_down(
+/// Goes on by a branch of the last node.
+fn go_down<T: Source>(
     alloc: Global,
-    frozen: &Frozen,
-    way: &mut Vec<Waypoint>,
-    alternative: u32,
+    source: &T,
+    way: &mut Vec<Waypoint<<T::Kind as SearchKind>::Branch, <T::Kind as SearchKind>::Leaf>>,
+    branch: <T::Kind as SearchKind>::Branch,
     fuel: u64,
-) -> Result<Option<Solved>, AllocError>
-    requires way { IsWay frozen.now way.old.items }
+) -> Result<Option<Solved<<T::Kind as SearchKind>::Leaf>>, AllocError>
+    requires way { IsWay T.Kind.search (T.maker source.now) (T.origin source.now) way.old.items }
     requires begun { way.old.items ≢ [] }
-    ensures way { IsWay frozen.now way.new.items }
+    ensures way { IsWay T.Kind.search (T.maker source.now) (T.origin source.now) way.new.items }
     ensures begun { way.new.items ≢ [] }
-    ensures goes { (p : List ℕ) → IfOk result (Goes frozen.now fuel (met_on frozen.now fuel way.old.items (alternative ∷ p)) way.new.items p) }
+    ensures goes { (p : List T.Kind.Branch) → IfOk result (Goes T.Kind.search (T.maker source.now) (T.origin source.now) fuel (met_on T.Kind.search (T.maker source.now) (T.origin source.now) fuel way.old.items (branch ∷ p)) way.new.items p) }
 {
     let nodes = way.as_slice();
     let at = nodes.len();
     let Some(node) = nodes.last() else {
         unreachable!()
     };
-    let space = frozen.space();
-    let Some(machine) = node.opened(alloc, space, alternative)? else {
+    let Some(machine) = opened(alloc, source, node, branch)? else {
         return Ok(Some(Solved::NotANode { at }));
     };
-    let Some(child) = solved(alloc, space, alternative, machine, fuel)? else {
+    let Some(child) = solved(alloc, source, branch, machine, fuel)? else {
         return Ok(Some(Solved::OutOfFuel { at }));
     };
     way.push(child)?;
@@ -158,10 +169,12 @@ fn go_down(
 }
 
 /// What is known of the last node. A leaf is taken off the way.
-fn last_report(way: &mut Vec<Waypoint>) -> Result<Report<Outcome>, AllocError>
+fn last_report<K: SearchKind>(
+    way: &mut Vec<Waypoint<K::Branch, K::Leaf>>,
+) -> Result<Report<K::Leaf>, AllocError>
     requires { way.old.items ≢ [] }
-    ensures way { (o : Origin) → IsWay o way.old.items → IsWay o way.new.items }
-    ensures report { (o : Origin) (fuel : ℕ) → IfOk result (λ report. Solved.Node report ≡ answer_of (met_on o fuel way.old.items [])) }
+    ensures way { (m : Maker K.Branch K.Leaf Configuration) (o : Origin) → IsWay K.search m o way.old.items → IsWay K.search m o way.new.items }
+    ensures report { (m : Maker K.Branch K.Leaf Configuration) (o : Origin) (fuel : ℕ) → IfOk result (λ report. Solved.Node report ≡ answer_of (met_on K.search m o fuel way.old.items [])) }
 {
     let Some(node) = way.pop() else {
         unreachable!()
@@ -173,8 +186,8 @@ fn last_report(way: &mut Vec<Waypoint>) -> Result<Report<Outcome>, AllocError>
     } = node;
     let Report { kind, steps } = report;
     match kind {
-        Kind::End(outcome) => Ok(Report {
-            kind: Kind::End(outcome),
+        Kind::End(leaf) => Ok(Report {
+            kind: Kind::End(leaf),
             steps,
         }),
         Kind::Alternatives(count) => {
@@ -195,38 +208,38 @@ fn last_report(way: &mut Vec<Waypoint>) -> Result<Report<Outcome>, AllocError>
 }
 
 /// Goes along the path, from where it leaves the way.
-fn walk(
+fn walk<T: Source>(
     alloc: Global,
-    frozen: &Frozen,
-    way: &mut Vec<Waypoint>,
-    path: &[u32],
+    source: &T,
+    way: &mut Vec<Waypoint<<T::Kind as SearchKind>::Branch, <T::Kind as SearchKind>::Leaf>>,
+    path: &[<T::Kind as SearchKind>::Branch],
     fuel: u64,
-) -> Result<Solved, AllocError>
-    requires { IsWay frozen.now way.old.items }
-    ensures way { IsWay frozen.now way.new.items }
-    ensures solved { IfOk result (λ solved. solved ≡ answer_of (met_at frozen.now fuel path.now)) }
+) -> Result<Solved<<T::Kind as SearchKind>::Leaf>, AllocError>
+    requires { IsWay T.Kind.search (T.maker source.now) (T.origin source.now) way.old.items }
+    ensures way { IsWay T.Kind.search (T.maker source.now) (T.origin source.now) way.new.items }
+    ensures solved { IfOk result (λ solved. solved ≡ answer_of (met_by T.Kind.search (T.maker source.now) (T.origin source.now) fuel path.now)) }
 {
-    let mut rest = go_back(way, path, fuel);
-    if let Some(stopped) = begin(alloc, frozen, way, fuel)? {
+    let mut rest = go_back(source, way, path, fuel);
+    if let Some(stopped) = begin(alloc, source, way, fuel)? {
         return Ok(stopped);
     }
-    'path: while let Some((alternative, further)) = rest.split_first() {
-        if let Some(stopped) = go_down(alloc, frozen, way, *alternative, fuel)? {
+    'path: while let Some((branch, further)) = rest.split_first() {
+        if let Some(stopped) = go_down(alloc, source, way, *branch, fuel)? {
             return Ok(stopped);
         }
         rest = further;
     }
-    let report = last_report(way)?;
+    let report = last_report::<T::Kind>(way)?;
     Ok(Solved::Node(report))
 }
 
-impl Explorer {
+impl<T: Source> Explorer<T> {
     /// One that has been nowhere yet.
-    pub fn new(alloc: Global, frozen: &Frozen) -> Result<Explorer, AllocError>
-        ensures { IfOk result (λ explorer. explorer ≡ frozen.now) }
+    pub fn new(alloc: Global, source: &T) -> Result<Explorer<T>, AllocError>
+        ensures { IfOk result (λ explorer. explorer ≡ source.now) }
     {
         Ok(Explorer {
-            frozen: frozen.copy(alloc)?,
+            source: source.copy(alloc)?,
             way: Vec::new(alloc),
         })
     }
@@ -236,13 +249,13 @@ impl Explorer {
     pub fn solve(
         &mut self,
         alloc: Global,
-        path: &Path<Plain>,
+        path: &Path<T::Kind>,
         fuel: u64,
-    ) -> Result<Solved, AllocError>
-        ensures solved { IfOk result (λ solved. solved ≡ answer_of (met_at self.old fuel path.now)) }
+    ) -> Result<Solved<<T::Kind as SearchKind>::Leaf>, AllocError>
+        ensures solved { IfOk result (λ solved. solved ≡ answer_of (met_by T.Kind.search (T.maker self.old) (T.origin self.old) fuel path.now)) }
         ensures same { self.new ≡ self.old }
     {
-        let Explorer { frozen, way } = self;
-        walk(alloc, frozen, way, path.as_slice(), fuel)
+        let Explorer { source, way } = self;
+        walk(alloc, source, way, path.as_slice(), fuel)
     }
 }

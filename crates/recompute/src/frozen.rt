@@ -1,10 +1,15 @@
 //! Where a search starts. All workers share it.
-ghost use Rattle.std.specs.Prelude.{◌≡◌, ◌≤◌, ◌^◌, IfOk};
+ghost use Rattle.std.specs.Prelude.{◌≡◌, ◌≤◌, ◌^◌, refl, IfOk, OnOk};
+ghost use Rattle.machine_search.proofs.MakerLaws.{maker_law};
 ghost use Rattle.recompute.specs.Origins.{origin};
+ghost use Rattle.recompute.specs.Ways.{StandsAfter};
 
+use crate::source::Source;
+use crate::waypoint::run_to_rest;
 use node_pool::{Plain, Tree};
 use oz_base::{Copies, SpaceName};
 use oz_machine::Machine;
+use oz_search::{Outcome, Report};
 use std::alloc::{AllocError, Global};
 use std::marker::Model;
 
@@ -42,6 +47,43 @@ impl Tree for Frozen {
     fn laws(&self) {}
 }
 
+impl Source for Frozen {
+    ghost use Rattle.recompute.specs.Origins.{maker_of};
+
+    ghost origin = { λ o. o };
+
+    ghost maker = { maker_of };
+
+    fn copy(&self, alloc: Global) -> Result<Frozen, AllocError> {
+        Ok(Frozen {
+            machine: self.machine.copy(alloc)?,
+            space: self.space.copied(alloc)?,
+            budget: self.budget,
+        })
+    }
+
+    fn frozen(&self) -> &Frozen {
+        self
+    }
+
+    fn commit(&self, alloc: Global, branch: u32, machine: &mut Machine) -> Result<(), AllocError> {
+        machine.commit(alloc, &self.space, branch as u64)
+    }
+
+    fn run(
+        &self,
+        alloc: Global,
+        machine: &mut Machine,
+        fuel: u64,
+    ) -> Result<Option<Report<Outcome>>, AllocError> {
+        run_to_rest(alloc, &self.space, machine, fuel)
+    }
+
+    ghost makes = { λ o. maker_law o.kernel o.space };
+
+    ghost grows = { λ o fuel. refl };
+}
+
 impl Frozen {
     /// The start of a search, where the space was just made in the machine.
     pub fn new(machine: Machine, space: SpaceName, budget: u64) -> Frozen
@@ -53,17 +95,6 @@ impl Frozen {
             space,
             budget,
         }
-    }
-
-    /// An equal start.
-    pub fn copy(&self, alloc: Global) -> Result<Frozen, AllocError>
-        ensures { IfOk result (λ copy. copy ≡ self.now) }
-    {
-        Ok(Frozen {
-            machine: self.machine.copy(alloc)?,
-            space: self.space.copied(alloc)?,
-            budget: self.budget,
-        })
     }
 
     /// The machine in which the root was just made, to be run.

@@ -2,12 +2,16 @@
 #![tactic(auto)]
 
 mod board;
+mod bounded;
 mod explorer;
 mod frozen;
 mod placed;
+mod source;
 mod waypoint;
 
 pub use board::Board;
+pub use bounded::FrozenBest;
 pub use explorer::{Explorer, Solved};
 pub use frozen::Frozen;
 pub use placed::{Found, Placed, Start, solve_root};
+pub use source::Source;

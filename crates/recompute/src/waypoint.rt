@@ -3,19 +3,21 @@ ghost use Rattle.std.specs.Prelude.{◌≡◌, IfOk};
 ghost use Rattle.oz_semantics.specs.Search.{kind_of};
 ghost use Rattle.recompute.specs.Ways.{offers, RestsBy, ComesToRest, MakesNode, Opens};
 
+use crate::source::Source;
+use node_pool::SearchKind;
 use oz_base::{Sequence, SpaceName};
 use oz_machine::{Machine, Ran};
 use oz_search::{Kind, Outcome, Report};
 use oz_semantics::State;
 use std::alloc::{AllocError, Global};
 
-/// A node: the alternative by which it was reached, which says nothing at the root; the machine that has come to rest there;
-/// and what is known of the node.
+/// A node: the branch by which it was reached, which says nothing at the root; the machine that has come to rest there; and
+/// what is known of the node.
 #[derive(Drop)]
-pub struct Waypoint {
-    pub branch: u32,
+pub struct Waypoint<B, L> {
+    pub branch: B,
     pub machine: Machine,
-    pub report: Report<Outcome>,
+    pub report: Report<L>,
 }
 
 /// A space came to rest in this state, by so many steps.
@@ -73,7 +75,7 @@ fn kind_of(state: State, text: Sequence<u8>) -> Result<Option<Kind<Outcome>>, Al
 
 /// Runs a space that was just made, or committed, until it rests, and says what its node is. None exactly where the node has more own
 /// steps than the fuel.
-fn run_to_rest(
+pub fn run_to_rest(
     alloc: Global,
     space: &SpaceName,
     machine: &mut Machine,
@@ -100,18 +102,22 @@ fn run_to_rest(
     Ok(Some(Report { kind, steps }))
 }
 
-/// The node of a space that was just made, or committed to this alternative. None exactly where it has more own steps than the
+/// The node of a machine whose space was just made, or committed to this branch. None exactly where it has more own steps than the
 /// fuel.
-pub fn solved(
+pub fn solved<T: Source>(
     alloc: Global,
-    space: &SpaceName,
-    branch: u32,
+    source: &T,
+    branch: <T::Kind as SearchKind>::Branch,
     mut machine: Machine,
     fuel: u64,
-) -> Result<Option<Waypoint>, AllocError>
-    ensures { IfOk result (MakesNode space.now branch fuel machine) }
+) -> Result<
+    Option<Waypoint<<T::Kind as SearchKind>::Branch, <T::Kind as SearchKind>::Leaf>>,
+    AllocError,
+>
+    requires { machine.kernel ≡ (T.origin source.now).kernel }
+    ensures { IfOk result (MakesNode (T.maker source.now) branch fuel machine) }
 {
-    match run_to_rest(alloc, space, &mut machine, fuel)? {
+    match source.run(alloc, &mut machine, fuel)? {
         None => Ok(None),
         Some(report) => Ok(Some(Waypoint {
             branch,
@@ -121,31 +127,31 @@ pub fn solved(
     }
 }
 
-/// Whether the node is a choice of which this is an alternative.
-fn offers(kind: &Kind<Outcome>, alternative: u32) -> bool
-    ensures { result ≡ offers kind.now alternative }
+/// Whether the node is a choice of which the branch takes an alternative.
+fn offers<K: SearchKind>(kind: &Kind<K::Leaf>, branch: K::Branch) -> bool
+    ensures { result ≡ offers K.search kind.now branch }
 {
+    let alternative = K::number(branch);
     match kind {
         Kind::Alternatives(count) => 1 <= alternative && alternative <= *count,
         Kind::End(_) => false,
     }
 }
 
-impl Waypoint {
-    /// The machine committed to an alternative. None exactly where the node does not offer it.
-    pub fn opened(
-        &self,
-        alloc: Global,
-        space: &SpaceName,
-        alternative: u32,
-    ) -> Result<Option<Machine>, AllocError>
-        ensures { IfOk result (Opens self.now space.now alternative) }
-    {
-        if !offers(&self.report.kind, alternative) {
-            return Ok(None);
-        }
-        let mut machine = self.machine.copy(alloc)?;
-        machine.commit(alloc, space, alternative as u64)?;
-        Ok(Some(machine))
+/// The machine of a node, committed to a branch. None exactly where the node does not offer it.
+pub fn opened<T: Source>(
+    alloc: Global,
+    source: &T,
+    node: &Waypoint<<T::Kind as SearchKind>::Branch, <T::Kind as SearchKind>::Leaf>,
+    branch: <T::Kind as SearchKind>::Branch,
+) -> Result<Option<Machine>, AllocError>
+    requires { node.now.machine.kernel ≡ (T.origin source.now).kernel }
+    ensures { IfOk result (Opens T.Kind.search (T.maker source.now) node.now branch) }
+{
+    if !offers::<T::Kind>(&node.report.kind, branch) {
+        return Ok(None);
     }
+    let mut machine = node.machine.copy(alloc)?;
+    source.commit(alloc, branch, &mut machine)?;
+    Ok(Some(machine))
 }

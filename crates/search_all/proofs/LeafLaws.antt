@@ -17,7 +17,8 @@ use Rattle.search_law.specs.NodeLaw.{leaves_alone}
 use Rattle.machine_search.specs.Visits.{found_below, leaves_of}
 use Rattle.machine_search.proofs.SpaceLaws.{space_law}
 use Rattle.recompute.specs.Origins.{Origin, tree_of}
-use Rattle.search_all.specs.Answers.{leaves_in, answer_of, IsOver, Closes}
+use Rattle.search_crew.specs.Crews.{IsOver}
+use Rattle.search_all.specs.Answers.{leaves_in, answer_of, Closes}
 
 -- the entry at a place is the leaf there
 pub entry_there : (h : History ℕ Outcome) (place : ℕ) (x : List ℕ × Outcome) (e : Entry (List ℕ) Outcome) → leaf_at_place outcomes h place ≡ Some x → e ≡ slice_index_or h place e → leaf_of outcomes e ≡ Some x
@@ -62,7 +63,7 @@ pub found_all : (o : Origin) (h : History ℕ Outcome) (leaves : List Outcome) �
     → ◌≡◌ {A = Option (List Outcome)} (Some leaves) (answer_of o)
 found_all o h leaves closes none e = by closes.over
   where
-    by : IsOver h → ◌≡◌ {A = Option (List Outcome)} (Some leaves) (answer_of o)
+    by : IsOver outcomes h → ◌≡◌ {A = Option (List Outcome)} (Some leaves) (answer_of o)
     by (inl is) = ap (λ (x : List Outcome). Some x) e ∙ answer_is o (Some (leaves_in h, total_of h)) (closes.finished is.0 is.1)
     by (inr (x, i)) = absurd (cc (i, none))
 

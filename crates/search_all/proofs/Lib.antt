@@ -1,6 +1,1 @@
-mod BoardLaws
-mod EndLaws
 mod LeafLaws
-mod CrewLaws
-mod NearLaws
-mod PartLaws

@@ -6,7 +6,7 @@
 
 ghost use Rattle.search_law.specs.Law.{FinishedLaw, SpentLaw, TakenLaw, PlainLaw, BoundLaw, LastLaw, StaysLaw, ClaimLaw, OnceLaw, OpenLaw, LeavesLaw, PlacesLaw, PlainSearch, BestSearch};
 ghost use Rattle.search_law.specs.BestLaw.{BestLaw};
-ghost use Rattle.search_law.specs.OneWorker.{OneWorkerLaw};
+ghost use Rattle.search_law.specs.OneWorker.{OneWorkerLaw, FinishesLaw};
 ghost use Rattle.search_law.specs.Example.{FoundLaw, BoundsLaw, OpenAlternatives};
 ghost use Rattle.search_law.specs.NodeLaw.{FuelLaw, TreeLaw, UniqueLaw, ClaimedLaw, ThereLaw, StopLaw, ParentLaw, PrefixLaw, RefusedLaw, ConfigLaw};
 
@@ -118,6 +118,11 @@ pub fn best_law<A>()
 /// Of two legal histories of one worker alone, one goes on where the other ends.
 pub fn one_worker_law()
     ensures { OneWorkerLaw }
+{}
+
+/// Where one worker alone has finished, no history of its own ends with a stop for want of steps.
+pub fn finishes_law()
+    ensures { FinishesLaw }
 {}
 
 /// The traversal of a small tree, with enough fuel and with too little.

@@ -7,6 +7,7 @@ pub mod PathLaws
 pub mod HalvingLaws
 pub mod BehindLaws
 pub mod ThreadLaws
+pub mod ThreadListLaws
 pub mod MemberLaws
 pub mod TraceLaws
 pub mod SoundLaws

@@ -1,8 +1,7 @@
 -- Threads, cells and ports of one space that come to those of another.
-use Rattle.std.proofs.Common.{◌≡◌, ℕ, zero, suc, ◌+◌, ◌-◌, ◌<◌, ◌≤◌, Bool, true, false, ◌&&◌, List, [], ◌∷◌, ◌++◌, refl, sym, ap, subst, ◌∙◌, arith, Some, map, take, drop, length, slice_get, slice_index_or}
+use Rattle.std.proofs.Common.{◌≡◌, ℕ, zero, suc, ◌+◌, ◌-◌, ◌<◌, ◌≤◌, Bool, true, false, List, [], ◌∷◌, ◌++◌, refl, sym, ap, subst, ◌∙◌, arith, Some, map, take, drop, length, slice_get, slice_index_or}
 use Rattle.std.specs.Prelude.{◌||◌}
 use Rattle.std.specs.List.{list_all}
-use Rattle.std.proofs.lemmas.Bool.{false≢true}
 use Rattle.std.proofs.lemmas.Option.{slice_get-get_or}
 use Rattle.oz_semantics.specs.Configurations.{with_frames}
 use Rattle.oz_semantics.specs.Renamings.{Renaming, renamed_thread, renamed_trigger, renamed_propagator, renamed_layer}
@@ -15,7 +14,13 @@ use Rattle.space_core.specs.Merging.{raised_by, with_joined, joining_by}
 use Rattle.space_core.specs.Shown.{next_with, shown, IsQuiet}
 use Rattle.space_core.specs.declared.level.Level.{Level}
 use Rattle.space_core.specs.declared.level.Numbers.{Numbers}
-use Rattle.space_core.specs.Threads.{Running, Ascends, goes_on, IsKept}
+use Rattle.space_core.specs.declared.ended.Ended.{Ended}
+use Rattle.space_core.specs.declared.ended.Ended.TheVariants.{Nobody, AtMost, Several}
+use Rattle.space_core.specs.Threads.{Running, Ascends, goes_on, may_end, with_other, is_noted, IsKept}
+use Rattle.std.proofs.lemmas.List.Folds.{list_all-append}
+use Rattle.view_laws.proofs.Members.{and_both}
+use Rattle.oz_laws.proofs.SameLaws.{and-left, and-right}
+use Rattle.space_core.proofs.ThreadLaws.{or_first}
 use Rattle.space_core.proofs.RenamedLaws.{kept_renamed}
 
 nested_more : {A B C : Type 0} (f : B → C) (g : A → B) (xs : List A) (n : ℕ) (x : A) → slice_get xs n ≡ Some x → map f (map g (take n xs)) ++ f (g x) ∷ [] ≡ map f (map g (take (suc n) xs))
@@ -65,28 +70,26 @@ ascends_both low mid high [] us h k = lower us h k
     lower (u ∷ us) p q = let r : mid ≤ u.number = q.0 in (omega (arith, p, r), q.1)
 ascends_both low mid high (t ∷ ts) us h k = (h.0, ascends_both (t.number + 1) mid high ts us h.1 k)
 
-going_raised : (by : ℕ) (ts : List Thread) → list_all goes_on (map (raised_by by) ts) ≡ list_all goes_on ts
-going_raised by [] = refl
-going_raised by (t ∷ ts) = ap (λ (b : Bool). goes_on t && b) (going_raised by ts)
-
-going_both : (ts us : List Thread) → list_all goes_on ts ≡ true → list_all goes_on us ≡ true → list_all goes_on (ts ++ us) ≡ true
-going_both [] us h k = k
-going_both (t ∷ ts) us h k = by (goes_on t) h (going_both ts us)
+any_noted : (ts : List Thread) → list_all (is_noted Several) ts ≡ true
+any_noted [] = refl
+any_noted (t ∷ ts) = and_both _ _ (by (goes_on t)) (any_noted ts)
   where
-    by : (b : Bool) → (b && list_all goes_on ts) ≡ true → (list_all goes_on ts ≡ true → list_all goes_on us ≡ true → list_all goes_on (ts ++ us) ≡ true) → (b && list_all goes_on (ts ++ us)) ≡ true
-    by true e rest = rest e k
-    by false e rest = absurd (false≢true e)
+    by : (b : Bool) → (b || true) ≡ true
+    by true = refl
+    by false = refl
 
-or_left_false : (a b : Bool) → (a || b) ≡ false → a ≡ false
-or_left_false true b e = e
-or_left_false false b e = refl
+raised_noted : (by : ℕ) (ended : Ended) (us : List Thread) → list_all (is_noted Nobody) us ≡ true → list_all (is_noted ended) (map (raised_by by) us) ≡ true
+raised_noted by ended [] h = refl
+raised_noted by ended (u ∷ us) h =
+    and_both _ _ (ap (λ (b : Bool). b || may_end ended (u.number + by)) (or_first (goes_on u) false refl (and-left _ _ h))) (raised_noted by ended us (and-right (is_noted Nobody u) _ h))
 
-or_right_false : (a b : Bool) → (a || b) ≡ false → b ≡ false
-or_right_false true b e = absurd (false≢true (sym e))
-or_right_false false b e = e
+joined_noted : (by : ℕ) (ts us : List Thread) (ended more : Ended) → list_all (is_noted ended) ts ≡ true → list_all (is_noted more) us ≡ true → list_all (is_noted (with_other more ended)) (ts ++ map (raised_by by) us) ≡ true
+joined_noted by ts us ended Nobody h k = list_all-append (is_noted ended) ts (map (raised_by by) us) ∙ and_both _ _ h (raised_noted by ended us k)
+joined_noted by ts us ended (AtMost one) h k = any_noted (ts ++ map (raised_by by) us)
+joined_noted by ts us ended Several h k = any_noted (ts ++ map (raised_by by) us)
 
-pub kept_joined : (r : Renaming) (ts us : List Thread) (next other : ℕ) (ended more : Bool) → IsKept ts next ended → IsKept us other more
-    → IsKept (ts ++ map (raised_by (next - 1)) (map (renamed_thread r) us)) (next + (other - 1)) (ended || more)
+pub kept_joined : (r : Renaming) (ts us : List Thread) (next other : ℕ) (ended more : Ended) → IsKept ts next ended → IsKept us other more
+    → IsKept (ts ++ map (raised_by (next - 1)) (map (renamed_thread r) us)) (next + (other - 1)) (with_other more ended)
 kept_joined r ts us next other ended more h k =
     let g = kept_renamed r us other more k in
     let a : 1 ≤ next = ascends_low 1 next ts h.ascends in
@@ -94,13 +97,12 @@ kept_joined r ts us next other ended more h k =
     record {
       ascends = ascends_both 1 next (next + (other - 1)) ts (map (raised_by (next - 1)) (map (renamed_thread r) us)) h.ascends
           (ascends_raised (next - 1) 1 other (map (renamed_thread r) us) g.ascends next (next + (other - 1)) (omega (arith, a)) (omega (arith, a, b)));
-      going = λ e. going_both ts (map (raised_by (next - 1)) (map (renamed_thread r) us)) (h.going (or_left_false ended more e))
-          (going_raised (next - 1) (map (renamed_thread r) us) ∙ g.going (or_right_false ended more e));
+      noted = joined_noted (next - 1) ts (map (renamed_thread r) us) ended more h.noted g.noted;
     }
 
 -- none is left
-pub kept_none : (ts : List Thread) (next : ℕ) (ended : Bool) → IsKept ts next ended → IsKept [] next ended
-kept_none ts next ended h = record { ascends = ascends_low 1 next ts h.ascends; going = λ e. refl }
+pub kept_none : (ts : List Thread) (next : ℕ) (ended : Ended) → IsKept ts next ended → IsKept [] next ended
+kept_none ts next ended h = record { ascends = ascends_low 1 next ts h.ascends; noted = refl }
 
 -- What is kept of a space that all of a child came to
 module _ (r : Renaming) (child l m : Level) (number : ℕ) (q : IsQuiet (with_frames number (λ stack. drop 1 stack)) l m)
@@ -148,8 +150,9 @@ module _ (r : Renaming) (child l m : Level) (number : ℕ) (q : IsQuiet (with_fr
       }
 
 -- by what they came to
-pub kept_by : (r : Renaming) (ts us : List Thread) (next other : ℕ) (ended more : Bool) → IsKept ts next ended → IsKept us other more → (after : List Thread) → after ≡ ts ++ map (raised_by (next - 1)) (map (renamed_thread r) us)
-    → (n : ℕ) → n ≡ next + (other - 1) → IsKept after n (ended || more)
-kept_by r ts us next other ended more h k after e n f =
-    subst (λ (vs : List Thread). IsKept vs n (ended || more)) (sym e)
-    (subst (λ (m : ℕ). IsKept (ts ++ map (raised_by (next - 1)) (map (renamed_thread r) us)) m (ended || more)) (sym f) (kept_joined r ts us next other ended more h k))
+pub kept_by : (r : Renaming) (ts us : List Thread) (next other : ℕ) (ended more : Ended) → IsKept ts next ended → IsKept us other more → (after : List Thread) → after ≡ ts ++ map (raised_by (next - 1)) (map (renamed_thread r) us)
+    → (n : ℕ) → n ≡ next + (other - 1) → (now : Ended) → now ≡ with_other more ended → IsKept after n now
+kept_by r ts us next other ended more h k after e n f now s =
+    subst (IsKept after n) (sym s)
+    (subst (λ (vs : List Thread). IsKept vs n (with_other more ended)) (sym e)
+    (subst (λ (m : ℕ). IsKept (ts ++ map (raised_by (next - 1)) (map (renamed_thread r) us)) m (with_other more ended)) (sym f) (kept_joined r ts us next other ended more h k)))

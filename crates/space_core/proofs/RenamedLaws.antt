@@ -1,7 +1,6 @@
 -- Spaces that are put among others under other names.
-use Rattle.std.proofs.Common.{◌≡◌, inl, inr, ◌⊎◌, ℕ, suc, zero, ◌+◌, ◌<◌, ◌≤◌, Bool, true, false, not, ◌&&◌, if◌then◌else◌, cond, List, [], ◌∷◌, ◌++◌, refl, sym, ap, subst, ◌∙◌, arith, Contains, Some, filter, map, take, length, slice_get, slice_index_or}
+use Rattle.std.proofs.Common.{◌≡◌, inl, inr, ◌⊎◌, ℕ, suc, zero, ◌+◌, ◌<◌, ◌≤◌, Bool, true, false, not, if◌then◌else◌, cond, List, [], ◌∷◌, ◌++◌, refl, sym, ap, subst, ◌∙◌, arith, Contains, Some, filter, map, take, length, slice_get, slice_index_or}
 use Rattle.std.specs.List.{list_all}
-use Rattle.std.proofs.lemmas.Bool.{false≢true}
 use Rattle.std.specs.Option.{option_map}
 use Rattle.std.proofs.lemmas.Option.{slice_get-get_or}
 use Rattle.oz_semantics.specs.Configurations.{placed}
@@ -16,7 +15,11 @@ use Rattle.renamed_terms.specs.Meanings.{renaming_of}
 use Rattle.space_core.specs.Ending.{IsAdded}
 use Rattle.space_core.specs.Renamed.{gives_name, IsRenamed, IsPlacedBy, renamed_of, IsOneOf, ArePlacedBy}
 use Rattle.space_core.specs.Shown.{shown, shown_all}
-use Rattle.space_core.specs.Threads.{Ascends, goes_on, IsKept}
+use Rattle.space_core.specs.declared.ended.Ended.{Ended}
+use Rattle.space_core.specs.Threads.{Ascends, goes_on, may_end, is_noted, IsKept}
+use Rattle.std.specs.Prelude.{◌||◌}
+use Rattle.view_laws.proofs.Members.{and_both}
+use Rattle.oz_laws.proofs.SameLaws.{and-left, and-right}
 use Rattle.oz_laws.proofs.SameLaws.{contains-from_In}
 use Rattle.space_core.specs.declared.level.Level.{Level}
 use Rattle.space_core.proofs.FateLaws.{got_in}
@@ -34,16 +37,13 @@ goes_renamed r t = by t.frames
     by [] = refl
     by (f ∷ fs) = refl
 
-going_first : (r : Renaming) (ts us : List Thread) (a b : Bool) → a ≡ b → (list_all goes_on us ≡ true → list_all goes_on ts ≡ true) → (b && list_all goes_on us) ≡ true → (a && list_all goes_on ts) ≡ true
-going_first r ts us a true e rest k = ap (λ (c : Bool). c && list_all goes_on ts) e ∙ rest k
-going_first r ts us a false e rest k = absurd (false≢true k)
+all_noted : (r : Renaming) (ended : Ended) (ts : List Thread) → list_all (is_noted ended) ts ≡ true → list_all (is_noted ended) (map (renamed_thread r) ts) ≡ true
+all_noted r ended [] h = h
+all_noted r ended (t ∷ ts) h =
+    and_both _ _ (ap (λ (b : Bool). b || may_end ended t.number) (goes_renamed r t) ∙ and-left _ _ h) (all_noted r ended ts (and-right (is_noted ended t) _ h))
 
-all_going : (r : Renaming) (ts : List Thread) → list_all goes_on ts ≡ true → list_all goes_on (map (renamed_thread r) ts) ≡ true
-all_going r [] e = e
-all_going r (t ∷ ts) e = going_first r (map (renamed_thread r) ts) ts (goes_on (renamed_thread r t)) (goes_on t) (goes_renamed r t) (all_going r ts) e
-
-pub kept_renamed : (r : Renaming) (ts : List Thread) (next : ℕ) (ended : Bool) → IsKept ts next ended → IsKept (map (renamed_thread r) ts) next ended
-kept_renamed r ts next ended k = record { ascends = ascends_renamed r 1 next ts k.ascends; going = λ e. all_going r ts (k.going e) }
+pub kept_renamed : (r : Renaming) (ts : List Thread) (next : ℕ) (ended : Ended) → IsKept ts next ended → IsKept (map (renamed_thread r) ts) next ended
+kept_renamed r ts next ended k = record { ascends = ascends_renamed r 1 next ts k.ascends; noted = all_noted r ended ts k.noted }
 
 -- Cells and ports, one after another
 

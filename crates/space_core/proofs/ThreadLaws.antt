@@ -1,13 +1,13 @@
 -- Threads whose numbers ascend: where a search finds one, and what edits leave.
-use Rattle.std.proofs.Common.{◌≡◌, ℕ, zero, suc, ◌+◌, ◌<◌, ◌≤◌, ◌≢◌, ◌==◌, Bool, true, false, not, cond, ◌||◌, List, [], ◌∷◌, ◌++◌, Option, Some, None, Result, Ok, Err, length, get_or, slice_set, drop, refl, sym, ap, subst, ◌∙◌, inl, inr, arith}
-use Rattle.std.specs.Prelude.{position, filter, OnOk, OnErr}
-use Rattle.std.specs.List.{list_all}
+use Rattle.std.proofs.Common.{◌≡◌, ℕ, zero, suc, ◌+◌, ◌<◌, ◌≤◌, ◌≢◌, ◌==◌, Bool, true, false, not, cond, ◌||◌, List, [], ◌∷◌, ◌++◌, Option, Some, None, Result, Ok, Err, length, get_or, slice_set, if◌then◌else◌, drop, refl, sym, ap, subst, ◌∙◌, inl, inr, arith}
+use Rattle.std.specs.Prelude.{position, nat_lt, filter, OnOk, OnErr}
+use Rattle.std.specs.List.{list_all, find, remove}
 use Rattle.std.specs.List.Sorted.{IsSearchInRange, IsBinarySearchResult, IsNonDecreasingBy}
 use Rattle.std.specs.Option.{option_map}
 use Rattle.std.specs.Result.{result_ok}
 use Rattle.std.specs.Ordering.{nat_cmp, ordering_index}
 use Rattle.std.proofs.lemmas.Cmp.{ranked}
-use Rattle.std.proofs.lemmas.Bool.{cases_lt}
+use Rattle.std.proofs.lemmas.Bool.{cases_lt, false≢true}
 use Rattle.std.proofs.lemmas.Bool.Decides.{nat_tests, Decides-eqb}
 use Rattle.std.proofs.lemmas.List.{get_or_default, get_or_append_left, get_or-set_same, set-append_left}
 use Rattle.std.proofs.lemmas.List.Folds.{list_all-append}
@@ -17,8 +17,10 @@ use Rattle.view_laws.proofs.Members.{decide, and_both}
 use Rattle.oz_semantics.specs.Configurations.{is_numbered, in_thread}
 use Rattle.oz_semantics.specs.declared.configuration.Frame.{Frame}
 use Rattle.oz_semantics.specs.declared.configuration.Thread.{Thread}
-use Rattle.space_core.specs.Places.{IsFirst}
-use Rattle.space_core.specs.Threads.{Running, Ascends, goes_on, IsKept, with_stack, with_new, without_ended, IsPopped}
+use Rattle.space_core.specs.Places.{IsAbsent, IsFirst}
+use Rattle.space_core.specs.declared.ended.Ended.{Ended}
+use Rattle.space_core.specs.declared.ended.Ended.TheVariants.{Nobody, AtMost, Several}
+use Rattle.space_core.specs.Threads.{Running, Ascends, goes_on, may_end, with_ended, with_seen, is_noted, IsKept, with_stack, with_new, without_ended, IsPopped}
 use Rattle.space_core.proofs.Firsts.{position_here, position_later}
 
 -- each number is at least the bound
@@ -75,10 +77,22 @@ module _ (next : ℕ) (ts : List Thread) (a : Ascends 1 next ts) (n : ℕ) where
   ]))
 
 -- and so it is in the list that is kept
-pub found_in_kept : (threads now : List Thread) (next : ℕ) (ended : Bool) (value : Running) → now ≡ threads → record { list = threads; next = next } ≡ value → IsKept threads next ended → (n : ℕ) (r : Result ℕ ℕ) → IsSearchInRange r (length now)
+pub found_in_kept : (threads now : List Thread) (next : ℕ) (ended : Ended) (value : Running) → now ≡ threads → record { list = threads; next = next } ≡ value → IsKept threads next ended → (n : ℕ) (r : Result ℕ ℕ) → IsSearchInRange r (length now)
     → IsBinarySearchResult (λ (t : Thread). nat_cmp t.number n) now r → (at : Option ℕ) → at ≡ result_ok r → at ≡ position (is_numbered n) value.list
 found_in_kept threads now next ended value seen viewed k n r within result at e =
     e ∙ searched next now (subst (Ascends 1 next) (sym seen) k.ascends) n r within result ∙ ap (position (is_numbered n)) (seen ∙ ap (λ (v : Running). v.list) viewed)
+
+-- a look at a place
+pub stands_at : (ts : List Thread) (n place : ℕ) (d : Thread) → true ≡ nat_lt place (length ts) → d ≡ get_or ts place d → (d.number == n) ≡ true → (place < length ts) × ((t : Thread) → (get_or ts place t).number ≡ n)
+stands_at ts n place d within there same =
+    let inside : place < length ts = grind (arith, nat_tests, within) in
+    (inside, λ t. ap (λ (u : Thread). u.number) (get_or_default ts place t d inside ∙ sym there) ∙ (Decides-eqb d.number n).0 same)
+
+-- and a thread that stands where it was guessed to stand
+pub guessed_in_kept : (threads now : List Thread) (next : ℕ) (ended : Ended) (value : Running) → now ≡ threads → record { list = threads; next = next } ≡ value → IsKept threads next ended → (n place : ℕ)
+    → place < length now → ((t : Thread) → (get_or now place t).number ≡ n) → Some place ≡ position (is_numbered n) value.list
+guessed_in_kept threads now next ended value seen viewed k n place within there =
+    sym (position_at 1 next n now (subst (Ascends 1 next) (sym seen) k.ascends) place none within (there none)) ∙ ap (position (is_numbered n)) (seen ∙ ap (λ (v : Running). v.list) viewed)
 
 -- What edits leave
 
@@ -128,70 +142,208 @@ filter_all : (p : Thread → Bool) (ts : List Thread) → list_all p ts ≡ true
 filter_all p [] a = refl
 filter_all p (t ∷ ts) a = rw (and-left (p t) _ a) (ap (λ us. t ∷ us) (filter_all p ts (and-right (p t) _ a)))
 
--- what is not noted of either
-noted_or : (ended ends : Bool) → (ended || ends) ≡ false → (ended ≡ false) × (ends ≡ false)
-noted_or false b e = (refl, e)
-noted_or true b e = cc
+-- What is noted
+
+or_right : (a b c : Bool) → (b ≡ true → c ≡ true) → (a || b) ≡ true → (a || c) ≡ true
+or_right true b c f h = refl
+or_right false b c f h = f h
+
+or_both : (a b c d : Bool) → (a ≡ true → b ≡ true) → (c ≡ true → d ≡ true) → (a || c) ≡ true → (b || d) ≡ true
+or_both true b c d f g h = ap (λ (x : Bool). x || d) (f refl)
+or_both false true c d f g h = refl
+or_both false false c d f g h = g h
+
+-- what is not so for the second reason is so for the first
+pub or_first : (a b : Bool) → b ≡ false → (a || b) ≡ true → a ≡ true
+or_first true b e h = refl
+or_first false b e h = sym e ∙ h
+
+-- one more thread may have ended, and those of which that was noted before
+noted_more : (n : ℕ) (e : Ended) (m : ℕ) → may_end e m ≡ true → may_end (with_ended n e) m ≡ true
+noted_more n Nobody m h = absurd (false≢true h)
+noted_more n (AtMost one) m h = by (one == n)
+  where
+    by : (b : Bool) → may_end (if b then AtMost one else Several) m ≡ true
+    by true = h
+    by false = refl
+noted_more n Several m h = refl
+
+noted_this : (n : ℕ) (e : Ended) → may_end (with_ended n e) n ≡ true
+noted_this n Nobody = same_number n n refl
+noted_this n (AtMost one) = by (one == n) refl
+  where
+    by : (b : Bool) → (one == n) ≡ b → may_end (if b then AtMost one else Several) n ≡ true
+    by true e = same_number n one (sym ((Decides-eqb one n).0 e))
+    by false e = refl
+noted_this n Several = refl
+
+seen_more : (u : Thread) (e : Ended) (m : ℕ) → may_end e m ≡ true → may_end (with_seen u e) m ≡ true
+seen_more u e m h = by (is_empty u.frames)
+  where
+    by : (b : Bool) → may_end (if b then with_ended u.number e else e) m ≡ true
+    by true = noted_more u.number e m h
+    by false = h
+
+seen_this : (u : Thread) (e : Ended) → is_noted (with_seen u e) u ≡ true
+seen_this u e = by (is_empty u.frames)
+  where
+    by : (b : Bool) → (not b || may_end (if b then with_ended u.number e else e) u.number) ≡ true
+    by true = noted_this u.number e
+    by false = refl
+
+all_more : (p q : Thread → Bool) → ((t : Thread) → p t ≡ true → q t ≡ true) → (ts : List Thread) → list_all p ts ≡ true → list_all q ts ≡ true
+all_more p q f [] h = refl
+all_more p q f (t ∷ ts) h = and_both _ _ (f t (and-left _ _ h)) (all_more p q f ts (and-right (p t) _ h))
+
+seen_all : (u : Thread) (e : Ended) (ts : List Thread) → list_all (is_noted e) ts ≡ true → list_all (is_noted (with_seen u e)) ts ≡ true
+seen_all u e ts h = all_more (is_noted e) (is_noted (with_seen u e)) (λ t. or_right (goes_on t) (may_end e t.number) (may_end (with_seen u e) t.number) (seen_more u e t.number)) ts h
 
 more_goes_on : (frames stack : List Frame) → not (is_empty stack) ≡ true → not (is_empty (frames ++ stack)) ≡ true
 more_goes_on [] stack e = e
 more_goes_on (f ∷ fs) stack e = refl
 
+noted_under : (ended : Ended) (t u : Thread) (frames : List Frame) → u.number ≡ t.number → u.frames ≡ frames ++ t.frames → is_noted ended t ≡ true → is_noted ended u ≡ true
+noted_under ended t u frames n f h =
+    or_both (goes_on t) (goes_on u) (may_end ended t.number) (may_end ended u.number) (λ g. ap (λ (fs : List Frame). not (is_empty fs)) f ∙ more_goes_on frames t.frames g) (λ g. ap (may_end ended) n ∙ g) h
+
 -- the thread at a place was changed
-module _ (ts : List Thread) (next : ℕ) (ended : Bool) (k : IsKept ts next ended) (value : Running) (viewed : record { list = ts; next = next } ≡ value) (place : ℕ) (inside : place < length value.list)
+module _ (ts : List Thread) (next : ℕ) (ended : Ended) (k : IsKept ts next ended) (value : Running) (viewed : record { list = ts; next = next } ≡ value) (place : ℕ) (inside : place < length value.list)
     (t u : Thread) (e : t ≡ get_or ts place t) (n : u.number ≡ t.number) where
   within : place < length ts
   within = subst (λ (v : Running). place < length v.list) (sym viewed) inside
 
-  -- it went on before, and does so still
-  kept_at : (now : Bool) → (now ≡ false → (ended ≡ false) × (goes_on t ≡ true → goes_on u ≡ true)) → IsKept (slice_set ts place u) next now
-  kept_at now h = record {
-    ascends = ascends_set 1 next ts k.ascends place t u e n;
-    going = λ w. let a = h w in let all = k.going a.0 in all_set goes_on ts place u all (a.1 (all_at goes_on ts place t all within e));
-  }
+  kept_at : (now : Ended) → list_all (is_noted now) ts ≡ true → is_noted now u ≡ true → IsKept (slice_set ts place u) next now
+  kept_at now all h = record { ascends = ascends_set 1 next ts k.ascends place t u e n; noted = all_set (is_noted now) ts place u all h }
 
   -- it was looked at afterwards
-  pub kept_noted : (seen : Thread) → seen ≡ get_or (slice_set ts place u) place seen → (ends : Bool) → ends ≡ is_empty seen.frames → IsKept (slice_set ts place u) next (ended || ends)
-  kept_noted seen r ends s = kept_at (ended || ends) (λ w.
-      let a = noted_or ended ends w in
-      (a.0, λ g. ap not (ap (λ (v : Thread). is_empty v.frames) (sym (r ∙ get_or-set_same ts place u seen within)) ∙ sym s ∙ a.1)))
+  pub kept_seen : (seen : Thread) → seen ≡ get_or (slice_set ts place u) place seen → (now : Ended) → now ≡ with_seen seen ended → IsKept (slice_set ts place u) next now
+  kept_seen seen r now s =
+      let is : seen ≡ u = r ∙ get_or-set_same ts place u seen within in
+      subst (IsKept (slice_set ts place u) next) (sym (s ∙ ap (λ (v : Thread). with_seen v ended) is)) (kept_at (with_seen u ended) (seen_all u ended ts k.noted) (seen_this u ended))
 
   kept_under : (frames : List Frame) → u.frames ≡ frames ++ t.frames → IsKept (slice_set ts place u) next ended
-  kept_under frames f = kept_at ended (λ w. (w, λ g. ap (λ (fs : List Frame). not (is_empty fs)) f ∙ more_goes_on frames t.frames g))
+  kept_under frames f = kept_at ended k.noted (noted_under ended t u frames n f (all_at (is_noted ended) ts place t k.noted within e))
 
   -- more was put on its stack, or that was refused
   pub kept_pushed : {A E : Type 0} (r : Result A E) (frames : List Frame) → OnOk r (u.frames ≡ frames ++ t.frames) → OnErr r (u.frames ≡ t.frames) → IsKept (slice_set ts place u) next ended
   kept_pushed (Ok a) frames f g = kept_under frames f
   kept_pushed (Err b) frames f g = kept_under [] g
 
-  -- it is noted that it may have ended
-  pub kept_ended : IsKept (slice_set ts place u) next true
-  kept_ended = kept_at true (λ w. cc)
-
 ascends_bound : (low high : ℕ) (ts : List Thread) → Ascends low high ts → low ≤ high
 ascends_bound low high [] a = a
 ascends_bound low high (t ∷ ts) a = let r = ascends_bound (t.number + 1) high ts a.1 in omega (arith, r, a.0)
 
 -- where none is left
-pub kept_none : (ts : List Thread) (next : ℕ) (ended : Bool) → IsKept ts next ended → IsKept [] next false
-kept_none ts next ended k = record { ascends = ascends_bound 1 next ts k.ascends; going = λ e. refl }
+pub kept_none : (ts : List Thread) (next : ℕ) (ended : Ended) → IsKept ts next ended → IsKept [] next Nobody
+kept_none ts next ended k = record { ascends = ascends_bound 1 next ts k.ascends; noted = refl }
 
-pub kept_filtered : (ts : List Thread) (next : ℕ) (ended : Bool) → IsKept ts next ended → IsKept (filter goes_on ts) next false
-kept_filtered ts next ended k = record { ascends = ascends_filter goes_on 1 next ts k.ascends; going = λ e. all_filtered goes_on ts }
+-- where all have statements
+kept_going : (ts : List Thread) (next : ℕ) (ended : Ended) → IsKept ts next ended → list_all goes_on ts ≡ true → IsKept ts next Nobody
+kept_going ts next ended k h = record { ascends = k.ascends; noted = all_more goes_on (is_noted Nobody) (λ t g. ap (λ (b : Bool). b || false) g) ts h }
+
+pub kept_filtered : (ts : List Thread) (next : ℕ) (ended : Ended) → IsKept ts next ended → IsKept (filter goes_on ts) next Nobody
+kept_filtered ts next ended k =
+    record { ascends = ascends_filter goes_on 1 next ts k.ascends; noted = all_more goes_on (is_noted Nobody) (λ t g. ap (λ (b : Bool). b || false) g) (filter goes_on ts) (all_filtered goes_on ts) }
 
 -- a new thread stands behind the others
-pub kept_more : (ts more : List Thread) (next after : ℕ) (ended : Bool) → IsKept ts next ended → (t : Thread) → t.number ≡ next → more ≡ ts ++ t ∷ [] → after ≡ next + 1 → (ends : Bool) → ends ≡ is_empty t.frames → IsKept more after (ended || ends)
-kept_more ts more next after ended k t e m n ends s = record {
+pub kept_more : (ts more : List Thread) (next after : ℕ) (ended : Ended) → IsKept ts next ended → (t : Thread) → t.number ≡ next → more ≡ ts ++ t ∷ [] → after ≡ next + 1 → (now : Ended) → now ≡ with_seen t ended → IsKept more after now
+kept_more ts more next after ended k t e m n now s = record {
   ascends = subst (λ (us : List Thread). Ascends 1 after us) (sym m) (subst (λ a. Ascends 1 a (ts ++ t ∷ [])) (sym n) (ascends_more 1 next ts t e k.ascends));
-  going = λ w.
-      let a = noted_or ended ends w in
-      ap (list_all goes_on) m ∙ list_all-append goes_on ts (t ∷ []) ∙ and_both _ _ (k.going a.0) (and_both _ _ (ap not (sym s ∙ a.1)) refl);
+  noted = subst (λ (w : Ended). list_all (is_noted w) more ≡ true) (sym s)
+      (ap (list_all (is_noted (with_seen t ended))) m ∙ list_all-append (is_noted (with_seen t ended)) ts (t ∷ []) ∙ and_both _ _ (seen_all t ended ts k.noted) (and_both _ _ (seen_this t ended) refl));
 }
 
--- where it is not noted that a thread may have ended, nothing is to be dropped
-pub none_ended : (ts : List Thread) (next : ℕ) (ended : Bool) (value : Running) → IsKept ts next ended → record { list = ts; next = next } ≡ value → ended ≡ false → value ≡ without_ended value
+-- Which threads are dropped
+
+-- where all have statements, none is
+nothing_dropped : (ts : List Thread) (next : ℕ) (value : Running) → list_all goes_on ts ≡ true → record { list = ts; next = next } ≡ value → value ≡ without_ended value
+nothing_dropped ts next value h viewed =
+    subst (λ (v : Running). v ≡ without_ended v) viewed (ap (λ (us : List Thread). record { list = us; next = next }) (sym (filter_all goes_on ts h)))
+
+-- all without statements were dropped
+pub dropped_ended : (ts after : List Thread) (next : ℕ) (value : Running) → record { list = ts; next = next } ≡ value → after ≡ filter goes_on ts → record { list = after; next = next } ≡ without_ended value
+dropped_ended ts after next value viewed e = ap (λ (us : List Thread). record { list = us; next = next }) e ∙ ap without_ended viewed
+
+-- where it is noted that no thread may have ended
+pub none_ended : (ts : List Thread) (next : ℕ) (ended : Ended) (value : Running) → IsKept ts next ended → record { list = ts; next = next } ≡ value → ended ≡ Nobody → value ≡ without_ended value
 none_ended ts next ended value k viewed e =
-    subst (λ (v : Running). v ≡ without_ended v) viewed (ap (λ (us : List Thread). record { list = us; next = next }) (sym (filter_all goes_on ts (k.going e))))
+    nothing_dropped ts next value (all_more (is_noted Nobody) goes_on (λ t. or_first (goes_on t) false refl) ts (subst (λ (w : Ended). list_all (is_noted w) ts ≡ true) e k.noted)) viewed
+
+absent_goes : (n : ℕ) (ts : List Thread) → find (is_numbered n) ts ≡ None → list_all (is_noted (AtMost n)) ts ≡ true → list_all goes_on ts ≡ true
+absent_goes n [] a h = refl
+absent_goes n (t ∷ ts) a h = by (t.number == n) refl a (absent_goes n ts)
+  where
+    by : (b : Bool) → (t.number == n) ≡ b → cond b (Some t) (find (is_numbered n) ts) ≡ None → (find (is_numbered n) ts ≡ None → list_all (is_noted (AtMost n)) ts ≡ true → list_all goes_on ts ≡ true) → list_all goes_on (t ∷ ts) ≡ true
+    by true e f rest = cc
+    by false e f rest = and_both _ _ (or_first (goes_on t) (t.number == n) e (and-left _ _ h)) (rest f (and-right (is_noted (AtMost n) t) _ h))
+
+-- the one that may have ended is not there
+module _ (ts : List Thread) (next : ℕ) (ended : Ended) (value : Running) (k : IsKept ts next ended) (viewed : record { list = ts; next = next } ≡ value) (n : ℕ) (e : ended ≡ AtMost n)
+    (absent : IsAbsent (is_numbered n) value.list) where
+  all_go : list_all goes_on ts ≡ true
+  all_go = absent_goes n ts (subst (λ (v : Running). find (is_numbered n) v.list ≡ None) (sym viewed) absent.none) (subst (λ (w : Ended). list_all (is_noted w) ts ≡ true) e k.noted)
+
+  pub kept_absent : IsKept ts next Nobody
+  kept_absent = kept_going ts next ended k all_go
+
+  pub absent_ended : value ≡ without_ended value
+  absent_ended = nothing_dropped ts next value all_go viewed
+
+found_numbered : (n : ℕ) (ts : List Thread) (x : Thread) → find (is_numbered n) ts ≡ Some x → (x.number == n) ≡ true
+found_numbered n [] x e = cc
+found_numbered n (t ∷ ts) x e = by (t.number == n) refl e (found_numbered n ts x)
+  where
+    by : (b : Bool) → (t.number == n) ≡ b → cond b (Some t) (find (is_numbered n) ts) ≡ Some x → (find (is_numbered n) ts ≡ Some x → (x.number == n) ≡ true) → (x.number == n) ≡ true
+    by true k f rest = let same : t ≡ x = cc in subst (λ (u : Thread). (u.number == n) ≡ true) same k
+    by false k f rest = rest f
+
+-- it is there: then all others have statements
+pub others_go : (ts : List Thread) (next : ℕ) (ended : Ended) → IsKept ts next ended → (value : Running) → record { list = ts; next = next } ≡ value → (n : ℕ) → ended ≡ AtMost n → (place : ℕ) (x : Thread) → IsFirst (is_numbered n) value.list place x
+    → (i : ℕ) (t : Thread) → i ≢ place → i < length ts → goes_on (get_or ts i t) ≡ true
+others_go ts next ended k value viewed n e place x first i t other within =
+    or_first (goes_on (get_or ts i t)) ((get_or ts i t).number == n) (other_number (get_or ts i t).number n differs)
+    (all_at (is_noted (AtMost n)) ts i (get_or ts i t) (subst (λ (w : Ended). list_all (is_noted w) ts ≡ true) e k.noted) within (get_or_default ts i t (get_or ts i t) within))
+  where
+    here : IsFirst (is_numbered n) ts place x
+    here = subst (λ (v : Running). IsFirst (is_numbered n) v.list place x) (sym viewed) first
+
+    numbered : (get_or ts place t).number ≡ n
+    numbered = ap (λ (u : Thread). u.number) (get_or_default ts place t x here.within ∙ here.item) ∙ (Decides-eqb x.number n).0 (found_numbered n ts x here.found)
+
+    differs : (get_or ts i t).number ≢ n
+    differs same = elim (cases_lt i place) [
+      | inl l ↦ (let o = ordered 1 next ts k.ascends i place t l here.within in omega (arith, o, numbered, same))
+      | inr g ↦ (let o = ordered 1 next ts k.ascends place i t (omega (arith, g, other)) within in omega (arith, o, numbered, same))
+    ]
+
+all_read : (p : Thread → Bool) (ts : List Thread) → ((i : ℕ) (t : Thread) → i < length ts → p (get_or ts i t) ≡ true) → list_all p ts ≡ true
+all_read p [] f = refl
+all_read p (t ∷ ts) f = and_both _ _ (f 0 t (omega arith)) (all_read p ts (λ i d h. f (suc i) d (omega (arith, h))))
+
+-- the thread at a place has no statements, and all others have some
+pub dropped_at : (ts : List Thread) (place : ℕ) → place < length ts → (t : Thread) → t ≡ get_or ts place t → is_empty t.frames ≡ true → ((i : ℕ) (u : Thread) → i ≢ place → i < length ts → goes_on (get_or ts i u) ≡ true)
+    → remove ts place ≡ filter goes_on ts
+dropped_at [] place h t e s f = absurd (omega (arith, h))
+dropped_at (x ∷ ts) zero h t e s f =
+    let gone : goes_on x ≡ false = ap goes_on (sym e) ∙ ap not s in
+    sym (ap (λ (b : Bool). cond b (x ∷ filter goes_on ts) (filter goes_on ts)) gone
+    ∙ filter_all goes_on ts (all_read goes_on ts (λ i u k. f (suc i) u (λ z. omega (arith, z)) (omega (arith, k)))))
+dropped_at (x ∷ ts) (suc place) h t e s f =
+    let going : goes_on x ≡ true = f 0 x (λ z. omega (arith, z)) (omega arith) in
+    let rest : remove ts place ≡ filter goes_on ts = dropped_at ts place (omega (arith, h)) t e s (λ i u n k. f (suc i) u (λ z. n (omega (arith, z))) (omega (arith, k))) in
+    ap (λ (us : List Thread). x ∷ us) rest ∙ sym (ap (λ (b : Bool). cond b (x ∷ filter goes_on ts) (filter goes_on ts)) going)
+
+-- it has statements too
+pub none_dropped : (ts : List Thread) (place : ℕ) (t : Thread) → t ≡ get_or ts place t → is_empty t.frames ≡ false → ((i : ℕ) (u : Thread) → i ≢ place → i < length ts → goes_on (get_or ts i u) ≡ true)
+    → ts ≡ filter goes_on ts
+none_dropped ts place t e s f = sym (filter_all goes_on ts (all_read goes_on ts by))
+  where
+    by : (i : ℕ) (u : Thread) → i < length ts → goes_on (get_or ts i u) ≡ true
+    by i u h = elim (decide (i == place)) [
+      | inl k ↦ (let same : i ≡ place = (Decides-eqb i place).0 k in
+          ap goes_on (get_or_default ts i u t h ∙ ap (λ (j : ℕ). get_or ts j t) same ∙ sym e) ∙ ap not s)
+      | inr k ↦ f i u (λ same. false≢true (sym k ∙ (Decides-eqb i place).1 same)) h
+    ]
 
 -- What is changed at the place of a thread
 

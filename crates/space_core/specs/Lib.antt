@@ -2,6 +2,7 @@ pub mod Levels
 pub mod Places
 pub mod Plain
 pub mod Threads
+pub mod Lending
 pub mod Shown
 pub mod Stacks
 pub mod Unwinding

@@ -1,10 +1,12 @@
 -- What is kept of the threads of a space.
-use Rattle.std.specs.Prelude.{ℕ, ◌≡◌, ◌+◌, ◌≤◌, Bool, true, false, not, List, [], ◌∷◌, ◌++◌, filter, drop, slice_index_or, slice_set, Option}
+use Rattle.std.specs.Prelude.{ℕ, ◌≡◌, ◌==◌, ◌||◌, if◌then◌else◌, ◌+◌, ◌≤◌, Bool, true, false, not, List, [], ◌∷◌, ◌++◌, filter, drop, slice_index_or, slice_set, Option}
 use Rattle.std.specs.List.{list_all}
 use Rattle.oz_base.specs.Lists.{is_empty, first}
 use Rattle.oz_semantics.specs.Configurations.{in_thread}
 use Rattle.oz_semantics.specs.declared.configuration.Frame.{Frame}
 use Rattle.oz_semantics.specs.declared.configuration.Thread.{Thread}
+use Rattle.space_core.specs.declared.ended.Ended.{Ended}
+use Rattle.space_core.specs.declared.ended.Ended.TheVariants.{Nobody, AtMost, Several}
 
 -- the threads, and the number that the next one gets
 pub record Running : Type 0 where
@@ -20,10 +22,36 @@ Ascends low high (t ∷ ts) = (low ≤ t.number) × Ascends (t.number + 1) high 
 abbrev pub goes_on : Thread → Bool
 goes_on t = not (is_empty t.frames)
 
--- The numbers ascend from 1 on, each less than the next one, and all threads have statements where it is not noted that one may have ended
-pub record IsKept (threads : List Thread) (next : ℕ) (ended : Bool) : Type 0 where
+-- whether the thread with a number may have ended
+abbrev pub may_end : Ended → ℕ → Bool
+may_end Nobody number = false
+may_end (AtMost one) number = number == one
+may_end Several number = true
+
+-- the thread with a number may have ended too
+abbrev pub with_ended : ℕ → Ended → Ended
+with_ended number Nobody = AtMost number
+with_ended number (AtMost one) = if one == number then AtMost one else Several
+with_ended number Several = Several
+
+-- a thread that was changed may have ended too where it has no statements
+abbrev pub with_seen : Thread → Ended → Ended
+with_seen t ended = if is_empty t.frames then with_ended t.number ended else ended
+
+-- the threads of another space came, under other numbers
+abbrev pub with_other : Ended → Ended → Ended
+with_other Nobody ended = ended
+with_other (AtMost one) ended = Several
+with_other Several ended = Several
+
+-- whether a thread has statements where it is not noted that it may have ended
+abbrev pub is_noted : Ended → Thread → Bool
+is_noted ended t = goes_on t || may_end ended t.number
+
+-- The numbers ascend from 1 on, each less than the next one, and each thread has statements of which it is not noted that it may have ended
+pub record IsKept (threads : List Thread) (next : ℕ) (ended : Ended) : Type 0 where
   pub ascends : Ascends 1 next threads
-  pub going : ended ≡ false → list_all goes_on threads ≡ true
+  pub noted : list_all (is_noted ended) threads ≡ true
 
 -- a thread's stack, changed
 abbrev pub with_stack : ℕ → (List Frame → List Frame) → Running → Running

@@ -8,6 +8,7 @@ mod copying;
 mod declarations;
 mod domains;
 mod edits;
+mod ended;
 mod fates;
 mod firing;
 mod given;
@@ -25,6 +26,7 @@ mod silence;
 mod spaces;
 mod stacks;
 mod telling;
+mod thread_list;
 mod threads;
 mod tree;
 

@@ -1,6 +1,6 @@
 //! The threads of one space.
-ghost use Rattle.std.specs.Prelude.{◌≡◌, ◌<◌, ◌≤◌, ◌+◌, ◌-◌, ◌++◌, List, [], drop, length, map, filter, slice_index_or, slice_set, IfOk, OnOk, OnErr, MatchOption, option_copied};
-ghost use Rattle.oz_base.specs.Lists.{first, is_empty};
+ghost use Rattle.std.specs.Prelude.{◌≡◌, ◌≢◌, ◌<◌, ◌≤◌, ◌+◌, ◌-◌, ◌++◌, ℕ, true, List, [], drop, length, map, filter, slice_index_or, IfOk, OnOk, OnErr, MatchOption, option_copied};
+ghost use Rattle.oz_base.specs.Lists.{first};
 ghost use Rattle.std.specs.List.{range_with_len};
 ghost use Rattle.oz_semantics.specs.Names.{named};
 ghost use Rattle.oz_semantics.specs.Configurations.{is_numbered, thread_at, frames_in};
@@ -14,8 +14,10 @@ ghost use Rattle.space_core.specs.Stacks.{IsLanding, cut_out, declared_on};
 ghost use Rattle.space_core.specs.Threads.{goes_on, with_stack, with_new, without_ended, IsPopped};
 
 use crate::declarations::declare;
+use crate::ended::{Ended, is_terminated};
 use crate::stacks::{Landing, nearest_mark};
-use oz_base::{Copies, Ident, Sequence, SpaceName, Stack};
+use crate::thread_list::ThreadList;
+use oz_base::{Copies, Ident, SpaceName, Stack};
 use oz_language::Identifier;
 use oz_semantics::{Frame, Thread};
 use renamed_terms::Renamed;
@@ -27,10 +29,10 @@ use std::mem;
 /// The threads of a space, in the order of their numbers. Contracts see the list of them, and the number that the next one gets.
 #[derive(Drop)]
 pub struct Threads {
-    threads: Sequence<Thread>,
+    threads: ThreadList,
     next: u64,
-    /// Whether a thread may have no statements left.
-    ended: bool,
+    /// Which threads may have no statements left.
+    ended: Ended,
 }
 
 impl Model for Threads {
@@ -53,9 +55,9 @@ impl Threads {
         ensures { result ≡ record { list = []; next = 1 } }
     {
         Threads {
-            threads: Sequence::new(alloc),
+            threads: ThreadList::new(alloc),
             next: 1,
-            ended: false,
+            ended: Ended::Nobody,
         }
     }
 
@@ -72,13 +74,22 @@ impl Threads {
         self.next
     }
 
-    /// The place of a thread. It takes time logarithmic in the number of threads.
+    /// The place of a thread. One that stands where it would if none between it and the first or the last thread had ended is found at
+    /// once. For another one it takes time logarithmic in the number of threads.
     fn place(&self, number: u64) -> Option<usize>
         ensures { MatchOption result (IsAbsent (is_numbered number) self.now.list)
             (λ place. (t : Thread) × IsFirst (is_numbered number) self.now.list place t) }
     {
-        self.threads
-            .as_slice()
+        let threads = self.threads.as_slice();
+        let guess = from_first(threads, number);
+        if is_at(threads, number, guess) {
+            return Some(guess);
+        }
+        let guess = from_last(threads, number);
+        if is_at(threads, number, guess) {
+            return Some(guess);
+        }
+        threads
             .binary_search_by_key(&number, |thread| thread.number)
             .ok()
     }
@@ -97,8 +108,7 @@ impl Threads {
         ensures { IsPopped place self.old self.new result }
     {
         let frame = self.threads.get_mut(place).frames.pop();
-        let thread = self.threads.get(place);
-        self.ended |= is_terminated(thread);
+        self.ended = self.ended.with_seen(self.threads.get(place));
         frame
     }
 
@@ -131,7 +141,7 @@ impl Threads {
             return Ok(());
         };
         self.threads.get_mut(place).frames.replace_top(frames)?;
-        self.ended |= is_terminated(self.threads.get(place));
+        self.ended = self.ended.with_seen(self.threads.get(place));
         Ok(())
     }
 
@@ -154,7 +164,7 @@ impl Threads {
         };
         let stack = &mut self.threads.get_mut(place).frames;
         declare(alloc, stack, names, space, from, body)?;
-        self.ended |= is_terminated(self.threads.get(place));
+        self.ended = self.ended.with_seen(self.threads.get(place));
         Ok(())
     }
 
@@ -166,7 +176,7 @@ impl Threads {
             return;
         };
         self.threads.get_mut(place).frames.clear();
-        self.ended = true;
+        self.ended = self.ended.with_seen(self.threads.get(place));
     }
 
     /// Takes so many statements off a thread's stack that stand below the uppermost ones.
@@ -178,18 +188,28 @@ impl Threads {
             return;
         };
         self.threads.get_mut(place).frames.cut(uppermost, count);
-        self.ended |= is_terminated(self.threads.get(place));
+        self.ended = self.ended.with_seen(self.threads.get(place));
     }
 
-    /// Threads without statements are gone. It looks at all threads only where one may have ended.
+    /// Threads without statements are gone. It looks at all threads only where several may have ended.
     pub fn drop_terminated(&mut self, alloc: Global)
         ensures { self.new ≡ without_ended self.old }
     {
-        if !self.ended {
-            return;
+        match self.ended {
+            Ended::Nobody => {}
+            Ended::AtMost(number) => {
+                let Some(place) = self.place(number) else {
+                    self.ended = Ended::Nobody;
+                    return;
+                };
+                drop_at(alloc, &mut self.threads, place);
+                self.ended = Ended::Nobody;
+            }
+            Ended::Several => {
+                self.threads.drop_terminated();
+                self.ended = Ended::Nobody;
+            }
         }
-        drop_terminated_of(alloc, &mut self.threads);
-        self.ended = false;
     }
 
     /// A new thread with these statements, the first of them uppermost. It refuses for want of memory, or where there were 2^64 - 1
@@ -200,10 +220,10 @@ impl Threads {
     {
         let next = self.next.checked_add(1).ok_or(AllocError)?;
         let thread = new_thread(alloc, self.next, frames)?;
-        let ends = is_terminated(&thread);
+        let ended = self.ended.with_seen(&thread);
         self.threads.push(thread)?;
         self.next = next;
-        self.ended |= ends;
+        self.ended = ended;
         Ok(())
     }
 
@@ -229,8 +249,8 @@ impl Threads {
     pub fn stop_all(&mut self, alloc: Global)
         ensures { self.new ≡ record self.old { list = [] } }
     {
-        self.threads = Sequence::new(alloc);
-        self.ended = false;
+        self.threads = ThreadList::new(alloc);
+        self.ended = Ended::Nobody;
     }
 
     /// Where an exception of the statement on top of a thread's stack goes, if there is a mark below it.
@@ -269,11 +289,11 @@ impl Threads {
         let raise = one_before(self.next)?;
         let next = sum(self.next, one_before(other.next)?)?;
         let more = raised_all(alloc, by, other.as_slice(), raise)?;
-        let mut threads = mem::replace(&mut self.threads, Sequence::new(alloc));
+        let mut threads = mem::replace(&mut self.threads, ThreadList::new(alloc));
         threads.append(more)?;
         self.threads = threads;
         self.next = next;
-        self.ended |= other.ended;
+        self.ended = self.ended.with_other(other.ended);
         Ok(())
     }
 }
@@ -288,24 +308,43 @@ impl Copies for Threads {
     }
 }
 
-fn is_terminated(thread: &Thread) -> bool
-    ensures { result ≡ is_empty thread.now.frames }
-{
-    thread.frames.top().is_none()
+/// Where a thread stands if none between the first one and it has ended. It need not stand there.
+fn from_first(threads: &[Thread], number: u64) -> usize {
+    match threads {
+        [] => 0,
+        [first, ..] => number.saturating_sub(first.number) as usize,
+    }
 }
 
-fn retain_others(threads: &mut Vec<Thread>)
-    ensures { threads.new.items ≡ filter goes_on threads.old.items }
-{
-    threads.retain(|thread| !is_terminated(thread));
+/// Where a thread stands if none between it and the last one has ended. It need not stand there.
+fn from_last(threads: &[Thread], number: u64) -> usize {
+    match threads.last() {
+        None => 0,
+        Some(last) => {
+            let behind = last.number.saturating_sub(number) as usize;
+            (threads.len() - 1).saturating_sub(behind)
+        }
+    }
 }
 
-fn drop_terminated_of(alloc: Global, threads: &mut Sequence<Thread>)
-    ensures { threads.new ≡ filter goes_on threads.old }
+/// Whether a thread stands at a place.
+fn is_at(threads: &[Thread], number: u64, place: usize) -> bool
+    ensures { result ≡ true → (place < length threads.now) × ((t : Thread) → (slice_index_or threads.now place t).number ≡ number) }
 {
-    let mut kept = mem::replace(threads, Sequence::new(alloc)).into_vec();
-    retain_others(&mut kept);
-    *threads = Sequence::from_vec(kept);
+    match threads.get(place) {
+        Some(thread) => thread.number == number,
+        None => false,
+    }
+}
+
+/// The thread at a place is gone where it has no statements.
+fn drop_at(alloc: Global, threads: &mut ThreadList, place: usize)
+    requires { place < length threads.old }
+    ensures { ((i : ℕ) (t : Thread) → i ≢ place → i < length threads.old → goes_on (slice_index_or threads.old i t) ≡ true) → threads.new ≡ filter goes_on threads.old }
+{
+    if is_terminated(threads.get(place)) {
+        threads.remove(alloc, place);
+    }
 }
 
 fn new_thread(alloc: Global, number: u64, frames: Vec<Frame>) -> Result<Thread, AllocError>

@@ -1,6 +1,6 @@
 //! Tests of command_line.
 use command_line::read_command;
-use oz_language::Command;
+use oz_commands::Command;
 use std::alloc::Global;
 use std::test::Fail;
 
@@ -26,13 +26,19 @@ fn words_that_spell_a_command(rt: HostRuntime) -> Result<(), Fail> {
     }
     let run = command(rt.alloc(), &["run", "--budget", "5"])?;
     assert_eq!(rt; run, Some(Command::Run { budget: 5 }));
+    let best = command(rt.alloc(), &["best", "--budget", "5", "--workers=64"])?;
+    let expected = Some(Command::Best {
+        workers: 64,
+        budget: 5,
+    });
+    assert_eq!(rt; best, expected);
     assert_eq!(rt; command(rt.alloc(), &["kernel"])?, Some(Command::Kernel));
     Ok(())
 }
 
 #[test]
 fn words_that_spell_none(rt: HostRuntime) -> Result<(), Fail> {
-    let cases: [&[&str]; 16] = [
+    let cases: [&[&str]; 18] = [
         &[],
         &[""],
         &["All"],
@@ -47,6 +53,8 @@ fn words_that_spell_none(rt: HostRuntime) -> Result<(), Fail> {
         &["--version"],
         &["--budget", "5", "all"],
         &["run", "--workers", "1"],
+        &["best", "--workers", "0"],
+        &["best", "--budget", "5", "--budget", "5"],
         &["kernel", "--budget", "5"],
         &["kernel", "x"],
     ];

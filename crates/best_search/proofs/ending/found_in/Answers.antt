@@ -1,6 +1,6 @@
 use Rattle.std.proofs.Common.{◌+◌, ◌∙◌, sym, subst, refl, ap, arith}
 use Rattle.oz_search.specs.Histories.{total_of}
-use Rattle.best_search.specs.Found.{IsSpent}
+use Rattle.oz_replies.specs.BestReplies.{IsStopped}
 use Rattle.best_search.proofs.StopLaws.{total_within, spent_by_fuel, spent_by_total}
 use Rattle.best_search.proofs.ending.found_in.Goals as goal
 
@@ -33,7 +33,7 @@ returns-in-Fuel c =
     let stop = sym (rw c.as_slice.ensures.value at c.in-Some.ensures) in (
       refl,
       subst
-          (λ n. IsSpent c.args.budget c.args.ended.entries.items (n + c.args.budget + 1))
+          (λ n. IsStopped c.args.budget c.args.ended.entries.items (n + c.args.budget + 1))
           (sym sum)
           (spent_by_fuel c.args.budget c.args.ended.entries.items c.in-Some.halt c.requires.replays stop c.in-Fuel.is),
     )

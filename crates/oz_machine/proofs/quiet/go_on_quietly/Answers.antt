@@ -10,6 +10,8 @@ use Rattle.oz_machine.specs.Courses.{asked, stepping}
 use Rattle.oz_machine.specs.Quiet.{LeavesOthers}
 use Rattle.oz_machine.proofs.DoingLaws.{course_view}
 use Rattle.oz_machine.proofs.AbleLaws.{quiet_course}
+use Rattle.oz_machine.proofs.ForetoldLaws.{but_same}
+use Rattle.oz_machine.proofs.SleepLaws.{quiet_laid}
 use Rattle.oz_machine.proofs.quiet.go_on_quietly.Goals as goal
 
 pub returns-then-not-leaves_others-clause-turn : goal.returns-then-not-leaves_others-clause-turn
@@ -32,3 +34,16 @@ returns-clause-turn c = λ layers changes head is names quiet unless.
     quiet_course statements id layers old.levels new (drop 1 old.queue) (asked statements new (Mover id c.args.started) (drop 1 old.queue)) old.shown changes c.args.started c.args.gives c.args.cost head is names quiet unless
     c.drop_terminated.ensures others refl
     ∙ ap (λ d. (Moved c.args.cost, d)) (sym (course_view statements c.leave_alone.new.course new (Mover id c.args.started) (drop 1 old.queue) old.shown left.levels (left.due id c.requires) left.queue left.shown))
+
+pub returns-then-not-leaves_others-clause-asleep : goal.returns-then-not-leaves_others-clause-asleep
+returns-then-not-leaves_others-clause-asleep c = λ s layers changes head is names laid. c.follow.ensures.asleep c.args.kernel.now.statements s
+
+pub returns-clause-asleep : goal.returns-clause-asleep
+returns-clause-asleep c = λ s layers changes head is names laid.
+    let statements = c.args.kernel.now.statements in
+    let id = c.args.mover.now in
+    let old = c.args.course.now in
+    let new = c.drop_terminated.new.self in
+    let left = c.leave_alone.ensures in
+    but_same statements s c.leave_alone.new.course new (Mover id c.args.started) (drop 1 old.queue) left.levels (left.due id c.requires) left.queue
+    (λ own. quiet_laid statements id layers old.levels new (drop 1 old.queue) old.shown changes c.args.started s head is names c.drop_terminated.ensures laid own)

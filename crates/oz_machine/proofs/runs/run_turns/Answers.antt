@@ -6,6 +6,7 @@ use Rattle.oz_semantics.specs.Runs.{Ended, TopRaised, run}
 use Rattle.oz_semantics.specs.declared.configuration.Configuration.{Configuration}
 use Rattle.turn_laws.specs.Kept.{IsKept}
 use Rattle.oz_machine.specs.Courses.{config_of, Keeps}
+use Rattle.oz_machine.specs.Asleep.{Sleeps}
 use Rattle.oz_machine.specs.Quiet.{IsHeadAnswer}
 use Rattle.oz_machine.proofs.RunLaws.{was_made, not_made, made_within, moved_within, ended_within, ok_run, run_still, run_out, run_quiet, run_stopped, run_went, same_quiet, none_after, same_after, turn_after, left_off, on_err}
 use Rattle.oz_machine.proofs.runs.run_turns.Goals as goal
@@ -19,8 +20,9 @@ turns-init c =
     record {
       within = omega arith;
       same = ap (λ (b : Configuration). run k c.args.space.now b c.args.fuel) same;
-      kept = λ known. subst (IsKept k.statements) (sym same) (c.requires known);
+      kept = λ known. subst (IsKept k.statements) (sym same) (c.requires.kept known);
       after = none_after k there here same;
+      asleep = subst (λ (st : List Statement). Sleeps st c.settle.new.sleeping c.settle.new.course) c.as_slice-statements.ensures c.settle.ensures.asleep;
       due = c.in_ok-settle.ensures.due;
       answered = subst (λ (st : List Statement). IsHeadAnswer st c.settle.new.course.levels c.settle.new.course.queue c.settle.new.answered) c.as_slice-statements.ensures c.in_ok-settle.ensures.answer;
     }
@@ -62,6 +64,7 @@ turns-preserved c =
           ap (λ (b : Configuration). run k c.args.space.now b (c.turns.left - c.in-Moved.cost)) same
           ∙ run_went k c.args.space.now c.turns.left here there c.in-Moved.cost goes (turned ∙ ap (λ s. (s, there)) c.in-Moved.is) cost.0 cost.1 ∙ c.turns.invariant.same;
       after = same_after k (config_of k.statements c.args.course.now) there (config_of k.statements next) same (turn_after k (config_of k.statements c.args.course.now) here there c.in-Some.stepped turned c.turns.invariant.after);
+      asleep = subst (λ (st : List Statement). Sleeps st c.settle-in-Moved.new.sleeping next) c.as_slice-statements.ensures c.settle-in-Moved.ensures.asleep;
       due = c.in_ok-settle-in-Moved.ensures.due;
       answered = subst (λ (st : List Statement). IsHeadAnswer st next.levels next.queue c.settle-in-Moved.new.answered) c.as_slice-statements.ensures c.in_ok-settle-in-Moved.ensures.answer;
     }
@@ -181,3 +184,29 @@ returns-clause-run c =
     let still : goes_on k.statements here.layers c.args.space.now ≡ false
     = ap (λ (st : List Statement). goes_on st (config_of st c.turns.course).layers c.args.space.now) (sym c.as_slice-statements.ensures) ∙ sym (c.in_ok-goes_on.ensures c.turns.invariant.due (subst (λ st. Keeps st c.turns.kept c.turns.course) (sym c.as_slice-statements.ensures) c.turns.invariant.kept)) ∙ c.if-branch.false in
     ok_run c.ended-2.result k here c.args.space.now c.args.fuel _ _ (sym c.turns.invariant.same ∙ run_still k c.args.space.now c.turns.left here still) c.ended-2.ensures
+
+pub settle-requires : goal.settle-requires
+settle-requires c = record { asleep = subst (λ (st : List Statement). Sleeps st c.args.sleeping.now c.args.course.now) (sym c.as_slice-statements.ensures) c.requires.asleep }
+
+pub turn-requires : goal.turn-requires
+turn-requires c = record { due = c.turns.invariant.due; answered = c.turns.invariant.answered; kept = c.turns.invariant.kept; asleep = c.turns.invariant.asleep }
+
+pub settle-requires-in-Moved : goal.settle-requires-in-Moved
+settle-requires-in-Moved c = record { asleep = subst (λ (st : List Statement). Sleeps st c.turn.new.sleeping c.turn.new.course) (sym c.as_slice-statements.ensures) c.turn.ensures.asleep }
+
+pub settle-requires-in-Quiescent : goal.settle-requires-in-Quiescent
+settle-requires-in-Quiescent c = record { asleep = subst (λ (st : List Statement). Sleeps st c.turn.new.sleeping c.turn.new.course) (sym c.as_slice-statements.ensures) c.turn.ensures.asleep }
+
+pub returns-in_err-settle-clause-asleep : goal.returns-in_err-settle-clause-asleep
+returns-in_err-settle-clause-asleep c = subst (λ (st : List Statement). Sleeps st c.settle.new.sleeping c.settle.new.course) c.as_slice-statements.ensures c.settle.ensures.asleep
+
+pub returns-in_err-settle-in-Moved-clause-asleep : goal.returns-in_err-settle-in-Moved-clause-asleep
+returns-in_err-settle-in-Moved-clause-asleep c = subst (λ (st : List Statement). Sleeps st c.settle-in-Moved.new.sleeping c.settle-in-Moved.new.course) c.as_slice-statements.ensures c.settle-in-Moved.ensures.asleep
+
+pub returns-in_err-settle-in-Quiescent-clause-asleep : goal.returns-in_err-settle-in-Quiescent-clause-asleep
+returns-in_err-settle-in-Quiescent-clause-asleep c =
+    subst (λ (st : List Statement). Sleeps st c.settle-in-Quiescent.new.sleeping c.settle-in-Quiescent.new.course) c.as_slice-statements.ensures c.settle-in-Quiescent.ensures.asleep
+
+pub returns-in-Quiescent-clause-asleep : goal.returns-in-Quiescent-clause-asleep
+returns-in-Quiescent-clause-asleep c =
+    subst (λ (st : List Statement). Sleeps st c.settle-in-Quiescent.new.sleeping c.settle-in-Quiescent.new.course) c.as_slice-statements.ensures c.settle-in-Quiescent.ensures.asleep

@@ -1,4 +1,4 @@
-use Rattle.std.proofs.Common.{◌≡◌, ◌∙◌, ◌∷◌, [], List, true, sym, subst}
+use Rattle.std.proofs.Common.{◌≡◌, ◌∙◌, ◌∷◌, [], List, subst}
 use Rattle.oz_semantics.specs.Configurations.{in_layer, telling}
 use Rattle.oz_semantics.specs.declared.value.Tell.{Tell}
 use Rattle.settle_laws.specs.Settles.{Settles}

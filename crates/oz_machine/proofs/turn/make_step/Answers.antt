@@ -6,6 +6,7 @@ use Rattle.oz_semantics.specs.declared.value.Tell.{Tell}
 use Rattle.builtins.specs.Answers.{act_of, edit_of}
 use Rattle.oz_machine.specs.Courses.{config_of, stepping}
 use Rattle.oz_machine.proofs.DoingLaws.{ok_turn}
+use Rattle.oz_machine.proofs.PendLaws.{pending_sleeps}
 use Rattle.oz_machine.proofs.turn.make_step.Goals as goal
 
 pub returns-in-Rests-clause-turn : goal.returns-in-Rests-clause-turn
@@ -73,3 +74,27 @@ returns-in_ok-copied-in-RaisesTerm-clause-turn c = λ a h.
     let copy = c.in_ok-copied-in-RaisesTerm.field-0 in
     ok_turn c.raise.result (after_answer k id (without_top id now.levels) (stepping now) a) (raised k.statements id copy (without_top id now.levels) (stepping now)) (config_of k.statements c.raise.new.course)
     (ap (after_answer k id (without_top id now.levels) (stepping now)) (raises ∙ ap (λ (x : Ident). answers.RaisesTerm x) (sym c.in_ok-copied-in-RaisesTerm.ensures))) c.raise.ensures.turn
+
+pub returns-in-Rests-clause-asleep : goal.returns-in-Rests-clause-asleep
+returns-in-Rests-clause-asleep c = pending_sleeps c.args.kernel.now.statements c.args.sleeping.now c.args.course.now c.rest.new.course c.requires.asleep
+
+pub returns-in-Operates-clause-asleep : goal.returns-in-Operates-clause-asleep
+returns-in-Operates-clause-asleep c = pending_sleeps c.args.kernel.now.statements c.args.sleeping.now c.args.course.now c.rest-in-Operates.new.course c.requires.asleep
+
+pub returns-in-Edits-clause-asleep : goal.returns-in-Edits-clause-asleep
+returns-in-Edits-clause-asleep c = pending_sleeps c.args.kernel.now.statements c.args.sleeping.now c.args.course.now c.make_edit.new.course c.requires.asleep
+
+pub returns-in-Widens-clause-asleep : goal.returns-in-Widens-clause-asleep
+returns-in-Widens-clause-asleep c = pending_sleeps c.args.kernel.now.statements c.args.sleeping.now c.args.course.now c.widen.new.course c.requires.asleep
+
+pub returns-in-RaisesKind-clause-asleep : goal.returns-in-RaisesKind-clause-asleep
+returns-in-RaisesKind-clause-asleep c = pending_sleeps c.args.kernel.now.statements c.args.sleeping.now c.args.course.now c.raise_kind.new.course c.requires.asleep
+
+pub returns-in_ok-copied-in-RaisesTerm-clause-asleep : goal.returns-in_ok-copied-in-RaisesTerm-clause-asleep
+returns-in_ok-copied-in-RaisesTerm-clause-asleep c = pending_sleeps c.args.kernel.now.statements c.args.sleeping.now c.args.course.now c.raise.new.course c.requires.asleep
+
+pub returns-in_err-copied-in-RaisesTerm-clause-asleep : goal.returns-in_err-copied-in-RaisesTerm-clause-asleep
+returns-in_err-copied-in-RaisesTerm-clause-asleep c = pending_sleeps c.args.kernel.now.statements c.args.sleeping.now c.args.course.now c.args.course.now c.requires.asleep
+
+pub returns-in-Acts-clause-asleep : goal.returns-in-Acts-clause-asleep
+returns-in-Acts-clause-asleep c = c.make_act.ensures.asleep

@@ -3,6 +3,7 @@ use Rattle.settle_laws.proofs.SettleLaws.{nothing_fails}
 use Rattle.oz_machine.specs.Courses.{stepping}
 use Rattle.oz_acts.proofs.PlaceLaws.{place_none, place_within}
 use Rattle.oz_machine.proofs.DoingLaws.{nowhere_rests}
+use Rattle.oz_machine.proofs.PendLaws.{pending_sleeps}
 use Rattle.oz_machine.proofs.turn.step_of.Goals as goal
 
 pub returns-in_default-clause-turn : goal.returns-in_default-clause-turn
@@ -21,4 +22,18 @@ step_answered-requires c = record {
   answered = (rw c.in-Some-answered.is at c.requires.answered) c.args.id.now c.requires.head;
   kept = c.requires.kept;
   fuel = c.requires.fuel;
+  asleep = c.requires.asleep;
 }
+
+pub step_anew-requires : goal.step_anew-requires
+step_anew-requires c = record {
+  within = place_within c.args.course.now.levels c.args.id.now.space c.in-Some.place (sym c.in-Some.is ∙ c.place.ensures);
+  place = sym c.in-Some.is ∙ c.place.ensures;
+  head = c.requires.head;
+  kept = c.requires.kept;
+  fuel = c.requires.fuel;
+  asleep = c.requires.asleep;
+}
+
+pub returns-in_default-clause-asleep : goal.returns-in_default-clause-asleep
+returns-in_default-clause-asleep c = pending_sleeps c.args.kernel.now.statements c.args.sleeping.now c.args.course.now c.follow.new.course c.requires.asleep

@@ -5,6 +5,7 @@ use Rattle.oz_raise.specs.Nodes.{term_of}
 use Rattle.oz_raise.specs.declared.node.Node.{Node}
 use Rattle.oz_machine.specs.Courses.{stepping}
 use Rattle.oz_acts.proofs.PlaceLaws.{place_there}
+use Rattle.oz_machine.proofs.PendLaws.{nothing_pends}
 use Rattle.oz_machine.proofs.turn.step_outcome.Goals as goal
 
 pub make_term-requires : goal.make_term-requires
@@ -21,3 +22,13 @@ returns-in_ok-make_term-in-GivesTerm-clause-turn c = λ a h.
     ap (after_answer c.args.kernel.now id (without_top id now.levels) (stepping now)) gives
     ∙ ap (λ (ns : List Node). after_answer c.args.kernel.now id (without_top id now.levels) (stepping now) (answers.Acts (answers.GivesTerm c.in-GivesTerm.variable (term_of ns)))) (sym c.as_slice.ensures)
     ∙ c.in_ok-make_term-in-GivesTerm.ensures.turn
+
+pub step_as-requires : goal.step_as-requires
+step_as-requires c = record {
+  within = c.requires.within;
+  place = c.requires.place;
+  head = c.requires.head;
+  kept = c.requires.kept;
+  fuel = c.requires.fuel;
+  asleep = nothing_pends c.args.kernel.now.statements c.unknown-nobody.result c.args.course.now c.unknown-nobody.ensures.known c.unknown-nobody.ensures.pending;
+}

@@ -6,6 +6,7 @@ use Rattle.oz_semantics.specs.Steps.{stepped}
 use Rattle.turn_laws.specs.Kept.{IsKept}
 use Rattle.oz_machine.specs.Courses.{config_of, stepping}
 use Rattle.oz_machine.proofs.TurnLaws.{head_is, turn_is, turn_none, dear_turn, ok_turned}
+use Rattle.oz_machine.proofs.PendLaws.{pending_sleeps}
 use Rattle.oz_machine.proofs.turn.take_step.Goals as goal
 
 pub returns-in_default-clause-turn : goal.returns-in_default-clause-turn
@@ -26,6 +27,7 @@ step_of-requires c =
       answered = c.requires.answered;
       kept = λ known. subst (IsKept k.statements) (head_is k.statements now id c.requires.due head) (c.requires.kept known);
       fuel = omega arith;
+      asleep = c.requires.asleep;
     }
 
 pub returns-clause-turn : goal.returns-clause-turn
@@ -36,3 +38,15 @@ returns-clause-turn c =
     let head : first now.queue ≡ Some id = sym c.in-Some.ensures ∙ ap (λ (i : Ident). Some i) (sym c.in_ok-id.ensures) in
     ok_turned c.step_of.result (turn k (config_of k.statements now)) (stepped k id (stepping now)) c.args.fuel (config_of k.statements now) (config_of k.statements c.step_of.new.course)
     (turn_is k now id c.requires.due c.requires.least head) c.step_of.ensures.turn
+
+pub returns-in_default-clause-asleep : goal.returns-in_default-clause-asleep
+returns-in_default-clause-asleep c = pending_sleeps c.args.kernel.now.statements c.args.sleeping.now c.args.course.now c.args.course.now c.requires.asleep
+
+pub returns-then-fuel-eq0-clause-asleep : goal.returns-then-fuel-eq0-clause-asleep
+returns-then-fuel-eq0-clause-asleep c = pending_sleeps c.args.kernel.now.statements c.args.sleeping.now c.args.course.now c.args.course.now c.requires.asleep
+
+pub returns-in_err-id-clause-asleep : goal.returns-in_err-id-clause-asleep
+returns-in_err-id-clause-asleep c = pending_sleeps c.args.kernel.now.statements c.args.sleeping.now c.args.course.now c.args.course.now c.requires.asleep
+
+pub returns-clause-asleep : goal.returns-clause-asleep
+returns-clause-asleep c = c.step_of.ensures.asleep

@@ -1,4 +1,4 @@
-use Rattle.std.proofs.Common.{◌∙◌, Bool, true, false, if◌then◌else◌, ap, subst}
+use Rattle.std.proofs.Common.{◌∙◌, Bool, if◌then◌else◌, ap, subst}
 use Rattle.oz_semantics.specs.Configurations.{in_layer, telling}
 use Rattle.oz_semantics.specs.Steps.{went_on, raised_kind}
 use Rattle.oz_semantics.specs.declared.outcome.RaiseKind.TheVariants.{FailureTell}

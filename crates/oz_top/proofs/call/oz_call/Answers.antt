@@ -1,14 +1,18 @@
 -- The clauses of the call that follow from its plan and from how the writing ended.
-use Rattle.std.proofs.Common.{ℕ, List, Some, None, map, ◌≡◌, ◌⊎◌, ◌++◌, ◌∙◌, refl, ap, sym, subst, append_assoc}
+use Rattle.std.proofs.Common.{ℕ, List, Some, None, map, ◌≡◌, ◌++◌, ◌-◌, ◌∙◌, ap, sym, subst, append_assoc}
 use Rattle.std.specs.String.{string_bytes}
-use Rattle.oz_replies.specs.Replies.{Answer, shown_lines, leaves_reply}
+use Rattle.oz_commands.specs.Commands.{InRange}
+use Rattle.oz_replies.specs.Replies.{shown_lines, spent, leaves_reply, all_answer, run_answer}
 use Rattle.oz_search.specs.declared.leaf.Outcome.{Outcome}
 use Rattle.oz_language.specs.Translation.{statements_of, kernel_of}
 use Rattle.oz_language.specs.KernelTexts.{kernel_text}
-use Rattle.oz_language.specs.declared.command.Command.TheVariants as commands
+use Rattle.oz_commands.specs.declared.command.Command.TheVariants as commands
 use Rattle.oz_replies.specs.declared.cause.Cause.TheVariants as causes
-use Rattle.call_laws.specs.Call.{Reading, Writing, Plans, Ends, IsExcused}
-use Rattle.call_laws.proofs.Answering.{Replied, replied, read_by, usage_ended, asked_large, asked_refused, asked_accepted, written, done_written, searched_all, ended_run}
+use Rattle.call_laws.specs.Call.{Reading, Writing, Plans, Ends}
+use Rattle.call_laws.proofs.Answering.{Replied, replied, read_by, usage_ended, asked_large, asked_refused, asked_accepted, written, done_written, best_written, asked_best, searched_all, ended_run}
+use Rattle.call_laws.proofs.BestLaws.{optimum_written}
+use Rattle.command_line.proofs.Numbers.{spelled_ranges}
+use Rattle.fd_opening.proofs.ScriptLaws.{top_rests}
 use Rattle.fd_tie.proofs.TieLaws.{fd_reply}
 use Rattle.oz_top.proofs.call.oz_call.Given as given
 use Rattle.oz_top.proofs.call.oz_call.Goals as goal
@@ -48,24 +52,24 @@ returns-clause-reply g c bytes told f m = replies g c bytes told f m
 pub returns-clause-leaves : goal.returns-clause-leaves
 returns-clause-leaves g c budget bytes before p found steps w told o l a s f n m =
     let d = written (words_of g c) (commands.All w.workers budget) bytes (before_of g c) (after_of g c) c.finish.result.cause w.spelled (replies g c bytes told) p l a before (causes.Done, shown_lines s.top ++ leaves_reply (leaves_alone_of found))
-    (searched_all (kernel_of p) budget (Some (found, steps)) s) o f n m in
+    (λ x e. e ∙ searched_all (kernel_of p) budget (Some (found, steps)) s) o f n m in
     (d.0, d.1 ∙ ap Some (sym (append_assoc before (shown_lines s.top) (leaves_reply (leaves_alone_of found)))))
 
 pub returns-clause-spent : goal.returns-clause-spent
 returns-clause-spent g c budget bytes p w told l a s =
-    subst (λ (x : Answer). (c.finish.result.cause ≡ x.0) ⊎ IsExcused c.finish.result.cause) (searched_all (kernel_of p) budget None s)
-    (asked_accepted (words_of g c) (commands.All w.workers budget) bytes (before_of g c) (after_of g c) c.finish.result.cause w.spelled (replies g c bytes told) p l a)
+    asked_accepted (words_of g c) (commands.All w.workers budget) bytes (before_of g c) (after_of g c) c.finish.result.cause w.spelled (replies g c bytes told) p l a (spent (shown_lines s.top) budget)
+    (λ x e. e ∙ searched_all (kernel_of p) budget None s)
 
 pub returns-clause-assignments : goal.returns-clause-assignments
 returns-clause-assignments g c budget bytes before p script w told o l a form is =
     let d = done_written (words_of g c) (commands.All w.workers budget) bytes (before_of g c) (after_of g c) c.finish.result.cause w.spelled (replies g c bytes told) p l a before is o in
-    let r = fd_reply bytes p script budget d.0 a form d.1 in
+    let r = fd_reply bytes p script budget d.0 a form (sym d.1) in
     (r.0, r.1, d.2 ∙ ap (λ (x : List ℕ). Some (before ++ x)) r.2)
 
 pub returns-clause-shown : goal.returns-clause-shown
 returns-clause-shown g c budget bytes before p top left w told o l a e f n m =
     written (words_of g c) (commands.Run budget) bytes (before_of g c) (after_of g c) c.finish.result.cause w (replies g c bytes told) p l a before (causes.Done, shown_lines top)
-    (ended_run (kernel_of p) budget left top e) o f n m
+    (λ x is. is ∙ ended_run (kernel_of p) budget left top e) o f n m
 
 pub returns-clause-read : goal.returns-clause-read
 returns-clause-read g c asked bytes w told =
@@ -80,16 +84,33 @@ returns-clause-refused g c asked bytes fault w told l r = asked_refused (words_o
 
 pub returns-clause-accepted : goal.returns-clause-accepted
 returns-clause-accepted g c budget bytes p w told l a =
-    asked_accepted (words_of g c) (commands.All w.workers budget) bytes (before_of g c) (after_of g c) c.finish.result.cause w.spelled (replies g c bytes told) p l a
+    asked_accepted (words_of g c) (commands.All w.workers budget) bytes (before_of g c) (after_of g c) c.finish.result.cause w.spelled (replies g c bytes told) p l a (all_answer (kernel_of p) budget)
+    (λ x e. e)
 
 pub returns-clause-accepted_run : goal.returns-clause-accepted_run
 returns-clause-accepted_run g c budget bytes p w told l a =
-    asked_accepted (words_of g c) (commands.Run budget) bytes (before_of g c) (after_of g c) c.finish.result.cause w (replies g c bytes told) p l a
+    asked_accepted (words_of g c) (commands.Run budget) bytes (before_of g c) (after_of g c) c.finish.result.cause w (replies g c bytes told) p l a (run_answer (kernel_of p) budget)
+    (λ x e. e)
+
+pub returns-clause-accepted_best : goal.returns-clause-accepted_best
+returns-clause-accepted_best g c workers budget bytes p w told l a =
+    asked_best (words_of g c) workers budget bytes (before_of g c) (after_of g c) c.finish.result.cause w (replies g c bytes told) p l a
+
+pub returns-clause-best : goal.returns-clause-best
+returns-clause-best g c workers budget bytes before p w told o l a f n m =
+    best_written (words_of g c) workers budget bytes (before_of g c) (after_of g c) c.finish.result.cause w (replies g c bytes told) p l a before o f n m
+
+-- the top of a script comes to rest, for the budget is 1 at least
+pub returns-clause-optimum : goal.returns-clause-optimum
+returns-clause-optimum g c workers budget bytes before p script place feature w told o l a cost is =
+    let range : InRange (commands.Best workers budget) = spelled_ranges (words_of g c) (Some (commands.Best workers budget)) w in
+    let rests = top_rests bytes p script budget a cost.script range.2 in
+    optimum_written (words_of g c) workers budget bytes (before_of g c) (after_of g c) c.finish.result.cause w (replies g c bytes told) p l a script place feature cost rests.0 (budget - 1) rests.1 before is o
 
 pub returns-clause-kernel : goal.returns-clause-kernel
 returns-clause-kernel g c bytes before p w told o l a f n m =
     written (words_of g c) commands.Kernel bytes (before_of g c) (after_of g c) c.finish.result.cause w (replies g c bytes told) p l a before (causes.Done, kernel_text p.words (statements_of p))
-    refl o f n m
+    (λ x e. e) o f n m
 
 pub returns-clause-usage : goal.returns-clause-usage
 returns-clause-usage g c u =

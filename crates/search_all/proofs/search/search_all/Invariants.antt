@@ -1,5 +1,5 @@
 use Rattle.search_all.proofs.search.search_all.Given as goal
 
 -- the type that is passed says where this search starts
-abbrev pub ghosts-search_from : goal.ghosts-search_from
-ghosts-search_from g a = record { start = a.frozen.now }
+abbrev pub ghosts-explored : goal.ghosts-explored
+ghosts-explored g a = record { start = a.source.now }

@@ -1,38 +1,72 @@
-use Rattle.std.proofs.Common.{◌≡◌, [], ◌∷◌, ◌++◌, ℕ, List, length, sym, ap, subst, ◌∙◌}
-use Rattle.recompute.specs.Origins.{met_at}
+use Rattle.std.proofs.Common.{◌≡◌, [], ◌∷◌, ◌++◌, ℕ, List, Some, None, length, sym, ap, subst, ◌∙◌}
+use Rattle.recompute.specs.Origins.{Origin, met_by}
 use Rattle.recompute.specs.Places.{StandsAt}
-use Rattle.recompute.specs.Ways.{answer_of}
+use Rattle.recompute.specs.Ways.{answer_of, Opens, MakesNode}
 use Rattle.recompute.specs.declared.explorer.Solved.TheVariants.{NotANode, OutOfFuel}
 use Rattle.recompute.proofs.PlaceLaws.{child_refused, child_short, child_stands, stands_solved}
 use Rattle.recompute.proofs.placed.Placed.solve_child.Goals as goal
 
+pub opened-requires : goal.opened-requires
+opened-requires g c = c.self.invariant.0 ∙ sym (ap (λ (x : g.row.T.Denot). (g.T.Source.origin x).kernel) c.requires.start)
+
+pub solved-requires : goal.solved-requires
+solved-requires g c =
+    let opens = rw c.in-Some.is at c.in_ok-machine.ensures in
+    opens.1 ∙ c.self.invariant.0 ∙ sym (ap (λ (x : g.row.T.Denot). (g.T.Source.origin x).kernel) c.requires.start)
+
 pub returns-in_default : goal.returns-in_default
 returns-in_default g c =
+    let k = g.T.Kind.SearchKind.search in
     let start = g.S.Start.start in
-    let refused = child_refused start c.args.alternative c.self.inside.path c.self.inside.node c.space-space.result.now c.self.invariant (rw c.in_default.is at c.in_ok-machine.ensures) in
-    subst (λ (p : List ℕ). c.without_choice.result.solved ≡ answer_of (met_at start start.budget (p ++ c.args.alternative ∷ []))) c.self.view_is
+    let m = g.T.Source.maker start in
+    let o = g.T.Source.origin start in
+    let opens : Opens k m c.self.inside.node c.args.branch None =
+    subst (λ (x : g.row.T.Denot). Opens k (g.T.Source.maker x) c.self.inside.node c.args.branch None) c.requires.start (rw c.in_default.is at c.in_ok-machine.ensures) in
+    let refused = child_refused k m o c.args.branch c.self.inside.path c.self.inside.node c.self.invariant opens in
+    subst (λ (p : List g.row.T-Kind-Branch.Denot). c.without_choice.result.solved ≡ answer_of (met_by k m o o.budget (p ++ c.args.branch ∷ []))) c.self.view_is
     (c.without_choice.ensures ∙ ap (λ (n : ℕ). NotANode n) (c.len-at.ensures ∙ ap length c.in_ok-path.ensures.child) ∙ refused)
 
 pub found_node-requires : goal.found_node-requires
 found_node-requires g c =
-    subst (λ (p : List ℕ). StandsAt g.S.Start.start p c.in-Some-2.node) (sym c.in_ok-path.ensures.child)
-    (child_stands c.args.frozen.now g.S.Start.start c.budget.result c.args.alternative c.self.inside.path c.self.inside.node c.in-Some-2.node c.in-Some.machine c.space-space.result.now c.requires.start c.budget.ensures.budget c.space-space.ensures c.self.invariant
-    (rw c.in-Some.is at c.in_ok-machine.ensures) (rw c.in-Some-2.is at c.in_ok-solved.ensures))
+    let k = g.T.Kind.SearchKind.search in
+    let start = g.S.Start.start in
+    let m = g.T.Source.maker start in
+    let o = g.T.Source.origin start in
+    let opens : Opens k m c.self.inside.node c.args.branch (Some c.in-Some.machine) =
+    subst (λ (x : g.row.T.Denot). Opens k (g.T.Source.maker x) c.self.inside.node c.args.branch (Some c.in-Some.machine)) c.requires.start (rw c.in-Some.is at c.in_ok-machine.ensures) in
+    let made : MakesNode m c.args.branch c.budget.result c.in-Some.machine (Some c.in-Some-2.node) =
+    subst (λ (x : g.row.T.Denot). MakesNode (g.T.Source.maker x) c.args.branch c.budget.result c.in-Some.machine (Some c.in-Some-2.node)) c.requires.start (rw c.in-Some-2.is at c.in_ok-solved.ensures) in
+    let fuel : c.budget.result ≡ o.budget = c.budget.ensures.budget ∙ ap (λ (q : Origin). q.budget) (c.frozen.ensures ∙ ap g.T.Source.origin c.requires.start) in
+    subst (λ (p : List g.row.T-Kind-Branch.Denot). StandsAt k m o p c.in-Some-2.node) (sym c.in_ok-path.ensures.child)
+    (child_stands k m (g.met.T.Source.makes start) o c.budget.result c.args.branch c.self.inside.path c.self.inside.node c.in-Some-2.node c.in-Some.machine fuel c.self.invariant opens made)
 
 pub returns-in-None : goal.returns-in-None
 returns-in-None g c =
+    let k = g.T.Kind.SearchKind.search in
     let start = g.S.Start.start in
-    let short =
-    child_short c.args.frozen.now start c.budget.result c.args.alternative c.self.inside.path c.self.inside.node c.in-Some.machine c.space-space.result.now c.requires.start c.budget.ensures.budget c.space-space.ensures c.self.invariant
-    (rw c.in-Some.is at c.in_ok-machine.ensures) (rw c.in-None.is at c.in_ok-solved.ensures) in
-    subst (λ (p : List ℕ). c.without_choice-in-None.result.solved ≡ answer_of (met_at start start.budget (p ++ c.args.alternative ∷ []))) c.self.view_is
+    let m = g.T.Source.maker start in
+    let o = g.T.Source.origin start in
+    let opens : Opens k m c.self.inside.node c.args.branch (Some c.in-Some.machine) =
+    subst (λ (x : g.row.T.Denot). Opens k (g.T.Source.maker x) c.self.inside.node c.args.branch (Some c.in-Some.machine)) c.requires.start (rw c.in-Some.is at c.in_ok-machine.ensures) in
+    let made : MakesNode m c.args.branch c.budget.result c.in-Some.machine None =
+    subst (λ (x : g.row.T.Denot). MakesNode (g.T.Source.maker x) c.args.branch c.budget.result c.in-Some.machine None) c.requires.start (rw c.in-None.is at c.in_ok-solved.ensures) in
+    let fuel : c.budget.result ≡ o.budget = c.budget.ensures.budget ∙ ap (λ (q : Origin). q.budget) (c.frozen.ensures ∙ ap g.T.Source.origin c.requires.start) in
+    let short = child_short k m (g.met.T.Source.makes start) o c.budget.result c.args.branch c.self.inside.path c.self.inside.node c.in-Some.machine fuel c.self.invariant opens made in
+    subst (λ (p : List g.row.T-Kind-Branch.Denot). c.without_choice-in-None.result.solved ≡ answer_of (met_by k m o o.budget (p ++ c.args.branch ∷ []))) c.self.view_is
     (c.without_choice-in-None.ensures ∙ ap (λ (n : ℕ). OutOfFuel n) (c.len-at.ensures ∙ ap length c.in_ok-path.ensures.child) ∙ short)
 
 pub returns-in-Some-2 : goal.returns-in-Some-2
 returns-in-Some-2 g c =
+    let k = g.T.Kind.SearchKind.search in
     let start = g.S.Start.start in
+    let m = g.T.Source.maker start in
+    let o = g.T.Source.origin start in
+    let opens : Opens k m c.self.inside.node c.args.branch (Some c.in-Some.machine) =
+    subst (λ (x : g.row.T.Denot). Opens k (g.T.Source.maker x) c.self.inside.node c.args.branch (Some c.in-Some.machine)) c.requires.start (rw c.in-Some.is at c.in_ok-machine.ensures) in
+    let made : MakesNode m c.args.branch c.budget.result c.in-Some.machine (Some c.in-Some-2.node) =
+    subst (λ (x : g.row.T.Denot). MakesNode (g.T.Source.maker x) c.args.branch c.budget.result c.in-Some.machine (Some c.in-Some-2.node)) c.requires.start (rw c.in-Some-2.is at c.in_ok-solved.ensures) in
+    let fuel : c.budget.result ≡ o.budget = c.budget.ensures.budget ∙ ap (λ (q : Origin). q.budget) (c.frozen.ensures ∙ ap g.T.Source.origin c.requires.start) in
     let stands =
-    child_stands c.args.frozen.now start c.budget.result c.args.alternative c.self.inside.path c.self.inside.node c.in-Some-2.node c.in-Some.machine c.space-space.result.now c.requires.start c.budget.ensures.budget c.space-space.ensures c.self.invariant
-    (rw c.in-Some.is at c.in_ok-machine.ensures) (rw c.in-Some-2.is at c.in_ok-solved.ensures) in
-    subst (λ (p : List ℕ). c.found_node.result.solved ≡ answer_of (met_at start start.budget (p ++ c.args.alternative ∷ []))) c.self.view_is
-    (c.found_node.ensures ∙ stands_solved start (c.self.inside.path ++ c.args.alternative ∷ []) c.in-Some-2.node stands)
+    child_stands k m (g.met.T.Source.makes start) o c.budget.result c.args.branch c.self.inside.path c.self.inside.node c.in-Some-2.node c.in-Some.machine fuel c.self.invariant opens made in
+    subst (λ (p : List g.row.T-Kind-Branch.Denot). c.found_node.result.solved ≡ answer_of (met_by k m o o.budget (p ++ c.args.branch ∷ []))) c.self.view_is
+    (c.found_node.ensures ∙ stands_solved k m o (c.self.inside.path ++ c.args.branch ∷ []) c.in-Some-2.node stands)

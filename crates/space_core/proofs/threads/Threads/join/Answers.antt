@@ -22,3 +22,4 @@ invariant_of-self-2 c =
     ∙ ap₂ (λ (k : ℕ) (us : List Thread). map (raised_by k) (map (renamed_thread (renaming_of c.args.by.now)) us)) c.in_ok-raise.ensures
     (c.as_slice.ensures ∙ sym (ap (λ (r : Running). r.list) c.other.view_is))))
     c.in_ok-next.next (c.in_ok-next.ensures ∙ ap (λ (k : ℕ). c.self.inside.next + k) c.in_ok-one_before.ensures)
+    c.with_other-self-inside.result c.with_other-self-inside.ensures

@@ -1,8 +1,8 @@
 use Rattle.std.proofs.Common.{refl}
-use Rattle.space_core.proofs.ThreadLaws.{kept_noted}
+use Rattle.space_core.proofs.ThreadLaws.{kept_seen}
 use Rattle.space_core.proofs.threads.Threads.replace_top.Goals as goal
 
 pub invariant_of-self-2 : goal.invariant_of-self-2
 invariant_of-self-2 c =
-    kept_noted c.self.inside.threads c.self.inside.next c.self.inside.ended c.self.invariant c.args.self.now c.self.view_is c.in-Some.place c.in-Some.ensures.1.within c.get_mut.result.now (record { number = c.get_mut.result.now.number; frames = c.replace_top.new.self }) c.get_mut.ensures.value refl
-    c.get.result.now c.get.ensures c.is_terminated.result c.is_terminated.ensures
+    kept_seen c.self.inside.threads c.self.inside.next c.self.inside.ended c.self.invariant c.args.self.now c.self.view_is c.in-Some.place c.in-Some.ensures.1.within c.get_mut.result.now (record { number = c.get_mut.result.now.number; frames = c.replace_top.new.self }) c.get_mut.ensures.value refl
+    c.get.result.now c.get.ensures c.with_seen-self-inside.result c.with_seen-self-inside.ensures

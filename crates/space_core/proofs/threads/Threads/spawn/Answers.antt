@@ -7,4 +7,4 @@ pub invariant_of-self-2 : goal.invariant_of-self-2
 invariant_of-self-2 c =
     let after : c.in_ok-next.next ≡ c.self.inside.next + 1 = search rules in
     kept_more c.self.inside.threads c.push.new.self c.self.inside.next c.in_ok-next.next c.self.inside.ended c.self.invariant c.in_ok-thread.thread (ap (λ (t : Thread). t.number) c.in_ok-thread.ensures) c.in_ok-push.ensures.ok after
-    c.is_terminated-ends.result c.is_terminated-ends.ensures
+    c.with_seen-ended.result c.with_seen-ended.ensures

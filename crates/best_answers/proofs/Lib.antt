@@ -1,0 +1,2 @@
+mod StartLaws
+mod ToldLaws

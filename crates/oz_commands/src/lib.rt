@@ -1,0 +1,8 @@
+//! The commands: what the words of the command line ask for.
+//!
+//! The definitions are in `Commands`.
+#![tactic(auto)]
+
+mod command;
+
+pub use command::Command;

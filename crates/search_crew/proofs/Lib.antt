@@ -1,0 +1,5 @@
+mod BoardLaws
+mod CrewLaws
+mod EndLaws
+mod NearLaws
+mod PartLaws
