@@ -123,4 +123,4 @@ module _ (optimality : FdOptimality) (finishes : FinishesLaw) (text : List ℕ) 
   }
 
 pub best_answers : FdOptimality → FinishesLaw → BestAnswerLaw
-best_answers optimality finishes text p s place feature budget left top workers a accepts has within ran told = answer_of optimality finishes text p budget workers a accepts s place feature top left has ran told
+best_answers optimality finishes text p s place feature budget left top workers a accepts has ran told = answer_of optimality finishes text p budget workers a accepts s place feature top left has ran told

@@ -1,6 +1,5 @@
 //! What the history of a search for a best solution says at its end.
-ghost use Rattle.std.specs.Prelude.{◌≡◌, ◌∷◌, ◌+◌, ◌≤◌, ◌^◌, ℕ, List, Some, None, IfOk, IfSome, IfNone};
-ghost use Rattle.std.specs.Option.{option_or};
+ghost use Rattle.std.specs.Prelude.{◌≡◌, ◌+◌, ◌≤◌, ◌^◌, ℕ, List, Some, None, IfOk, IfSome, IfNone};
 ghost use Rattle.oz_search.specs.Histories.{Replays, steps_of, total_of, stop_of};
 ghost use Rattle.oz_search.specs.Best as bests;
 ghost use Rattle.oz_search.specs.Best.{best};
@@ -8,8 +7,8 @@ ghost use Rattle.oz_replies.specs.BestReplies.{solved, HasSolution};
 ghost use Rattle.best_search.specs.Found.{IsSolution, IsFoundIn};
 
 use oz_base::{Copies, Sequence};
-use oz_search::{Costed, Entry, Halt, Outcome, StopCause};
-use pool_state::{Best, Ended, Path, SearchKind};
+use oz_search::{Costed, Entry, Outcome, StopCause};
+use pool_state::{Best, Ended, Path, SearchKind, first_stop};
 use std::alloc::{AllocError, Global};
 
 /// What a search for a best solution has found.
@@ -30,32 +29,6 @@ pub enum Found {
 }
 
 type BestEntry = Entry<Path<Best>, Costed>;
-
-/// The stop that an entry is.
-fn stop_in(entry: &BestEntry) -> Option<Halt>
-    ensures { (after : List bests.BestEntry) → option_or result (stop_of after) ≡ stop_of (entry.now ∷ after) }
-{
-    match entry {
-        Entry::Claim { .. } => None,
-        Entry::Split { .. } => None,
-        Entry::Leaf { .. } => None,
-        Entry::Stop(halt) => Some(*halt),
-    }
-}
-
-/// The first stop of a history.
-fn first_stop(entries: &[BestEntry]) -> Option<Halt>
-    ensures { result ≡ stop_of entries.now }
-{
-    let mut rest = entries;
-    'entries: while let Some((entry, further)) = rest.split_first() {
-        if let Some(halt) = stop_in(entry) {
-            return Some(halt);
-        }
-        rest = further;
-    }
-    None
-}
 
 /// The steps that an entry adds.
 fn steps_of(entry: &BestEntry) -> u64

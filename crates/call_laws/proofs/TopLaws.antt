@@ -47,10 +47,6 @@ pub script_planned : (k : Kernel) (c : Configuration) (budget left : ℕ) (x : I
     → shown ≡ shown_lines c → found ≡ leaves_of (found_below k (search_space c) (with_root k.statements x c) left) → ◌≡◌ {A = Answer} (answer_of_leaves shown budget found) (searched k budget c left)
 script_planned k c budget left x shown found has is before e = (λ i. answer_of_leaves (before i) budget (e i)) ∙ script_searched k c budget left x has is
 
--- what is found below equal configurations of equal programs
-pub found_same : (k l : Kernel) (s t : List ℕ) (c d : Configuration) (left : ℕ) → k ≡ l → s ≡ t → c ≡ d → leaves_of (found_below k s c left) ≡ leaves_of (found_below l t d left)
-found_same k l s t c d left p q e = λ i. leaves_of (found_below (p i) (q i) (e i) left)
-
 -- What `all` answers where the budget does not suffice for the top, where an exception ends it, and where it comes to rest
 
 pub all_over : (k : Kernel) (budget : ℕ) (c : Configuration) → run k [] (opening k) budget ≡ Over c → spent (shown_lines c) budget ≡ all_answer k budget

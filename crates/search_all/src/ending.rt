@@ -1,44 +1,16 @@
 //! What the history of a search says at its end.
-ghost use Rattle.std.specs.Prelude.{◌≡◌, ◌∷◌, ℕ, List, Some, IfOk, map};
-ghost use Rattle.std.specs.Option.{option_or};
-ghost use Rattle.oz_search.specs.declared.history.Entry.{Entry};
-ghost use Rattle.oz_search.specs.Histories.{stop_of};
+ghost use Rattle.std.specs.Prelude.{◌≡◌, ℕ, List, Some, IfOk, map};
 ghost use Rattle.oz_search.specs.Leaves.{Names, leaf_of, leaf_at_place};
 ghost use Rattle.oz_search.specs.Plain.{outcomes};
 ghost use Rattle.oz_search.specs.declared.leaf.Outcome.{Outcome as Leaf};
 ghost use Rattle.recompute.specs.Origins.{Origin};
 ghost use Rattle.search_all.specs.Answers.{leaves_in, answer_of, Closes};
 
-use node_pool::{Ended, Path, Plain};
+use node_pool::{Ended, Path, Plain, first_stop};
 use oz_base::{Copies, Sequence};
-use oz_search::{Entry, Halt, Outcome, StopCause};
+use oz_search::{Entry, Outcome, StopCause};
 use std::alloc::{AllocError, Global};
 use std::collections::BTreeMap;
-
-fn stop_in(entry: &Entry<Path<Plain>, Outcome>) -> Option<Halt>
-    ensures { (after : List (Entry (List ℕ) Leaf)) → option_or result (stop_of after) ≡ stop_of (entry.now ∷ after) }
-{
-    match entry {
-        Entry::Claim { .. } => None,
-        Entry::Split { .. } => None,
-        Entry::Leaf { .. } => None,
-        Entry::Stop(halt) => Some(*halt),
-    }
-}
-
-/// The first stop of a history.
-fn first_stop(entries: &[Entry<Path<Plain>, Outcome>]) -> Option<Halt>
-    ensures { result ≡ stop_of entries.now }
-{
-    let mut rest = entries;
-    'entries: while let Some((entry, further)) = rest.split_first() {
-        if let Some(halt) = stop_in(entry) {
-            return Some(halt);
-        }
-        rest = further;
-    }
-    None
-}
 
 fn copy_of(alloc: Global, outcome: &Outcome) -> Result<Outcome, AllocError>
     ensures { IfOk result (λ copy. copy ≡ outcome.now) }

@@ -1,5 +1,5 @@
 -- What there is at a path, by the node before it.
-use Rattle.std.proofs.Common.{◌≡◌, ℕ, List, Result, IfOk, sym, subst}
+use Rattle.std.proofs.Common.{◌≡◌, List, Result, IfOk, sym, subst}
 use Rattle.oz_search.specs.Searches.{Search}
 use Rattle.oz_search.specs.Nodes.{Maker}
 use Rattle.oz_semantics.specs.declared.configuration.Configuration.{Configuration}

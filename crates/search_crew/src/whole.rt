@@ -16,8 +16,10 @@ use std::thread::Threads;
 
 /// The history of a search at its end, and where its leaves stand. So many workers, from 1 to 64, explore the tree of the source,
 /// each node with as many steps as there are for the search, until nothing is open and nothing out, or one of them has stopped: for
-/// want of memory, or of steps. The gate is called round the solving of each node, with the number of the worker, from 1. Of a type, `Start`
-/// says where this search starts: a caller passes `Brand`, and picks it.
+/// want of memory, or of steps. It is refused where memory is refused before they begin.
+///
+/// The gate is called round the solving of each node, with the number of the worker, from 1. Of a type, `Start` says where this search
+/// starts: a caller passes `Brand`, and picks it.
 pub fn explored<
     R: Threads + Wait + Sync,
     G: Gate,

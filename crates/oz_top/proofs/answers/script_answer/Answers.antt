@@ -21,7 +21,7 @@ returns g c =
     let is = c.in_ok-kernel.ensures in
     IfOk-weaker c.best_answer.result _ _ (λ plan told. (
       told.0,
-      c.best_answer_law.ensures read.0 p s.0 c.args.cost.place c.args.cost.feature c.args.budget left r.0 c.args.workers told.0 read.1 s.1 c.requires.budget.0 r.1
+      c.best_answer_law.ensures read.0 p s.0 c.args.cost.place c.args.cost.feature c.args.budget left r.0 c.args.workers told.0 read.1 s.1 r.1
           (subst (λ (k : Kernel). IsToldOf k c.args.cost.feature r.0 c.args.budget left c.args.workers told.0) is told.1),
       told.2,
     ))

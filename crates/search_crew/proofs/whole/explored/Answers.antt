@@ -1,6 +1,5 @@
-use Rattle.std.proofs.Common.{ℕ, Contains, ap, subst, arith, ◌∙◌}
+use Rattle.std.proofs.Common.{Contains, ap, subst, arith, ◌∙◌}
 use Rattle.oz_search.specs.Histories.{History, IsLegal}
-use Rattle.oz_search.specs.Leaves.{Names, leaves_of}
 use Rattle.search_law.specs.Law.{HoldsTree, StopsRightly}
 use Rattle.recompute.specs.Origins.{Origin}
 use Rattle.search_crew.specs.Crews.{IsOver}
