@@ -38,7 +38,7 @@ fn searched<R: Threads + Wait + Sync, G: Gate>(
 
 /// What `best` answers for the kernel of a script whose cost is at this feature, and whose top comes to rest within the budget: a solution
 /// of the least cost, found by so many workers, from 1 to 64, in no more than so many steps with those of the top. The gate is called round
-/// the solving of each node, with the number of the worker, from 1. It refuses where there is no memory, and where the steps pass 64 bits.
+/// the solving of each node, with the number of the worker, from 1. It refuses where there is no memory.
 pub fn best_answer<R: Threads + Wait + Sync, G: Gate>(
     rt: &R,
     alloc: Global,

@@ -38,7 +38,7 @@ fn no_solution(alloc: Global) -> Result<Plan, AllocError>
 fn spent(
     alloc: Global,
     budget: u64,
-    total: u64,
+    total: u128,
     entries: Vec<Entry<Path<Best>, Costed>>,
 ) -> Result<Plan, AllocError>
     ensures { IfOk result (λ plan. (plan.cause, plan.reply.items) ≡ planned budget (answers.Spent total entries.items)) }
@@ -52,11 +52,11 @@ fn spent(
     })
 }
 
-/// The steps of the top and of the search together. It refuses where they pass 64 bits.
-fn in_all(steps: u64, found: u64) -> Result<u64, AllocError>
-    ensures { IfOk result (λ total. total ≡ steps + found) }
+/// The steps of the top and of the search together.
+fn in_all(steps: u64, found: u64) -> u128
+    ensures { result ≡ steps + found }
 {
-    steps.checked_add(found).ok_or(AllocError)
+    u128::from(steps) + u128::from(found)
 }
 
 /// What is written of what a search has found, where the top took so many steps before.
@@ -66,9 +66,6 @@ pub fn plan_found(alloc: Global, found: Found, steps: u64, budget: u64) -> Resul
     match found {
         Found::Best { text, cost } => solution(alloc, text.as_slice(), cost),
         Found::NoSolution => no_solution(alloc),
-        Found::Spent { total, entries } => {
-            let total = in_all(steps, total)?;
-            spent(alloc, budget, total, entries)
-        }
+        Found::Spent { total, entries } => { spent(alloc, budget, in_all(steps, total), entries) }
     }
 }

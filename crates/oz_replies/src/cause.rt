@@ -24,7 +24,7 @@ pub enum Cause {
     },
     /// `best`: the budget is exceeded, by so many steps in all, of which the history of the search tells.
     SpentBest {
-        total: u64,
+        total: u128,
         entries: Sequence<Entry<Path<Best>, Costed>>,
     },
     NoMemory,
