@@ -91,6 +91,9 @@ module _ (cs cs' : List (List Tell)) (ended ended' : Option (List Tell)) (c r r'
   now : with_ended cs' (Some c) ≡ with_ended cs ended ++ c ∷ []
   now = ended_more cs' ended' c filed ∙ ap (λ ds. ds ++ c ∷ []) same
 
+  pub ended_count : length (with_ended cs' (Some c)) ≡ length (with_ended cs ended) + 1
+  ended_count = omega (arith, ap length now, length-append (with_ended cs ended) (c ∷ []))
+
   pub ended_told : flat_map (λ d. d) (with_ended cs' (Some c)) ++ r' ≡ flat_map (λ d. d) (with_ended cs ended) ++ r
   ended_told =
       ap (λ ts. flat_map (λ d. d) (with_ended cs' (Some c)) ++ ts) none

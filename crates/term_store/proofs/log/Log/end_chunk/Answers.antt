@@ -1,7 +1,7 @@
 use Rattle.std.proofs.Common.{◌≡◌, ◌∙◌, ◌++◌, ◌∷◌, ◌<◌, ◌^◌, [], length, Some, subst, sym, arith, ap}
 use Rattle.std.specs.List.{flat_map}
 use Rattle.term_store.specs.Logs.{AllFull, with_ended}
-use Rattle.term_store.proofs.LogLaws.{ended_full, ended_told}
+use Rattle.term_store.proofs.LogLaws.{ended_full, ended_told, ended_count}
 use Rattle.term_store.proofs.log.Log.end_chunk.Goals as goal
 
 pub invariant_of-self-2 : goal.invariant_of-self-2
@@ -16,4 +16,5 @@ invariant_of-self-2 c =
       now,
       omega (arith, ap length c.in_ok-chunk.ensures.ok),
       subst (λ ts. length ts < 2 ^ 64) (sym told) c.self.invariant.2,
+      omega (arith, c.self.invariant.3, ended_count inside.chunks after.chunks inside.ended after.ended c.in_ok-chunk.chunk inside.rest.items c.chunk_of.new.tells.items c.put_ended.ensures.same c.in_ok-put_ended.ensures.filed c.in_ok-chunk.ensures.chunk c.in_ok-chunk.ensures.ok),
     )
