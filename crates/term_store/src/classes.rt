@@ -5,7 +5,7 @@ ghost use Rattle.ident_map.specs.Entries.{entry};
 ghost use Rattle.term_store.specs.Classes.{link_of, link_in, rank_of, first_of, domain_of, kept_of, rank_in, first_in, domain_in, kept_in, root_in, is_free, is_nothing, IsTop, Likewise, Marks, Unites, UnitesOne, UnitesFree, UnitesAny, UnitesWith, Knows};
 
 use crate::cell::{Cell, Kept};
-use crate::class_domain::ClassDomain;
+use crate::class_domain::{ClassDomain, domain_copy};
 use ident_map::IdentMap;
 use oz_base::{Copies, Ident, Shared, same_ident};
 use std::alloc::{AllocError, Global};
@@ -42,7 +42,10 @@ impl<'s, 'r> Found<'s, 'r> {
         Ok(Top {
             root: self.root.copied(alloc)?,
             rank: self.rank,
-            kept: kept_at(alloc, self.first, self.domain)?,
+            kept: Kept {
+                first: self.first,
+                domain: domain_copy(alloc, self.domain)?,
+            },
         })
     }
 }
@@ -112,26 +115,6 @@ fn kept_of(alloc: Global, cell: Option<&Cell>) -> Result<Kept, AllocError>
     match cell {
         Some(Cell::Root { kept, .. }) => kept.copied(alloc),
         _ => Ok(Kept::nothing()),
-    }
-}
-
-/// What is kept of a class with this first value and this domain.
-fn kept_at(
-    alloc: Global,
-    first: Option<u64>,
-    domain: Option<&Shared<ClassDomain>>,
-) -> Result<Kept, AllocError>
-    ensures { IfOk result (λ kept. kept ≡ record { first = first; domain = option_copied domain.entry }) }
-{
-    match domain {
-        None => Ok(Kept {
-            first,
-            domain: None,
-        }),
-        Some(domain) => Ok(Kept {
-            first,
-            domain: Some(domain.copied(alloc)?),
-        }),
     }
 }
 

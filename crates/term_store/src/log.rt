@@ -72,7 +72,6 @@ fn at(tells: &[Tell], place: usize) -> Option<&Tell>
 }
 
 /// Adds a tell to others that have room for it.
-#[inline(always)]
 fn put_behind(tells: &mut Vec<Tell>, tell: Tell)
     requires { length tells.old.items < vec_capacity tells.old }
     ensures { tells.new.items ≡ tells.old.items ++ tell ∷ [] }
@@ -191,7 +190,6 @@ impl Log {
     }
 
     /// Makes a chunk of the rest, which has as many tells.
-    #[inline(never)]
     fn end_chunk(&mut self, alloc: Global) -> Result<(), AllocError>
         requires full { length self.old.rest ≡ 32 }
         ensures told { told_in self.new ≡ told_in self.old }
@@ -220,7 +218,6 @@ impl Log {
     }
 
     /// Adds a tell, for which there is room.
-    #[inline(always)]
     pub fn put(&mut self, tell: Tell)
         requires room { HasRoom self.old }
         requires space { length (told_in self.old) < 2 ^ 64 - 1 }

@@ -18,7 +18,7 @@ ghost use Rattle.term_store.specs.Telling.{IsTold};
 ghost use Rattle.term_store.specs.VariableDomains.{set_of};
 
 use crate::cell::Kept;
-use crate::class_domain::ClassDomain;
+use crate::class_domain::{ClassDomain, domain_copy};
 use crate::classes::{Classes, Top};
 use crate::closing::{Draft, kept_of_two, zipped};
 use crate::log::Log;
@@ -473,18 +473,6 @@ fn has_value(domain: Option<&Shared<ClassDomain>>, value: &Value) -> bool
     }
 }
 
-fn domain_copy(
-    alloc: Global,
-    domain: Option<&Shared<ClassDomain>>,
-) -> Result<Option<Shared<ClassDomain>>, AllocError>
-    ensures { IfOk result (λ copy. copy ≡ option_copied domain.entry) }
-{
-    match domain {
-        None => Ok(None),
-        Some(domain) => Ok(Some(domain.copied(alloc)?)),
-    }
-}
-
 fn confinement(alloc: Global, variable: &Ident, intervals: &[Interval]) -> Result<Tell, AllocError>
     ensures { IfOk result (λ tell. tell ≡ Within variable.now intervals.now) }
 {
@@ -510,7 +498,6 @@ fn kept_besides(
 }
 
 /// Adds a tell, where this is kept from now on of the class that a variable of this rank stands for.
-#[inline(always)]
 fn add_marked(
     log: &mut Log,
     classes: &mut Classes,
@@ -534,7 +521,6 @@ fn add_marked(
 }
 
 /// Adds a tell, and joins two classes, of one of which nothing is kept.
-#[inline(always)]
 fn add_united(
     log: &mut Log,
     classes: &mut Classes,
