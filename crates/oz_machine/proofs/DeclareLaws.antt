@@ -1,22 +1,24 @@
 -- Declarations on top of a stack, and what they answer.
 use Rattle.std.proofs.Common.{◌≡◌, ◌∙◌, ℕ, true, List, Option, Some, None, refl, sym, ap}
-use Rattle.std.specs.Prelude.{IfSome, is_some}
+use Rattle.std.specs.Prelude.{IfSome, is_some, slice_get}
 use Rattle.oz_base.specs.declared.names.Ident.{Ident}
 use Rattle.oz_language.specs.declared.kernel.Identifier.{Identifier}
 use Rattle.oz_language.specs.declared.kernel.Kernel.{Kernel}
 use Rattle.oz_language.specs.declared.kernel.Statement.{Statement}
+use Rattle.oz_language.specs.declared.kernel.Statement.TheVariants.{Local}
 use Rattle.oz_semantics.specs.Answers as answers
 use Rattle.oz_semantics.specs.Configurations.{layer_at, layer_of, stack_of}
 use Rattle.oz_semantics.specs.Changes.{changed_all}
 use Rattle.oz_semantics.specs.Effects.{declared_changes}
 use Rattle.oz_semantics.specs.Spaces.{sight, states_of}
 use Rattle.oz_semantics.specs.Operations.{by_state}
-use Rattle.oz_semantics.specs.Statements.{stack_answer}
+use Rattle.oz_semantics.specs.Statements.{code_answer, numbered_answer, stack_answer}
 use Rattle.oz_semantics.specs.Steps.{after_answer, after_effect, stepped, went_on, without_top}
 use Rattle.oz_semantics.specs.Settling.{Turned}
 use Rattle.oz_semantics.specs.declared.configuration.Configuration.{Configuration}
+use Rattle.oz_semantics.specs.declared.configuration.Frame.{Frame}
 use Rattle.oz_semantics.specs.declared.configuration.Layer.{Layer}
-use Rattle.oz_machine.specs.Quiet.{IsDeclaration}
+use Rattle.oz_machine.specs.Quiet.{AnswersDeclaration, IsDeclaration, IsNumbered}
 use Rattle.oz_machine.proofs.StepEdits.{effect_popped}
 use Rattle.oz_machine.proofs.TurnLaws.{top_answers}
 
@@ -25,13 +27,19 @@ pub some_weaker : {T : Type 0} (o : Option T) (P Q : T → Type 0) → ((x : T) 
 some_weaker None P Q f h = h
 some_weaker (Some x) P Q f h = f x h
 
+-- what the statement with a number answers, where that is a declaration
+pub local_answers : (statements : List Statement) (number : ℕ) (names : List Identifier) (body : List ℕ) → slice_get statements number ≡ Some (Local names body) → (frame : Frame) → IsNumbered frame number
+    → AnswersDeclaration statements frame names body
+local_answers statements number names body e frame numbered s same =
+    ap (code_answer s frame.environment) numbered ∙ ap (λ (sts : List Statement). numbered_answer s frame.environment (slice_get sts number)) same ∙ ap (numbered_answer s frame.environment) e
+
 -- what is on top of a stack that declares
 module _ (statements : List Statement) (layers : List Layer) (id : Ident) (names : List Identifier) (body : List ℕ) (d : IsDeclaration statements (stack_of layers id) names body) where
-  abbrev act : answers.Act
+  abbrev pub act : answers.Act
   act = answers.Declares d.frame.environment names body
 
   -- this is what it answers
-  answers_so : stack_answer (sight statements layers id.space) (stack_of layers id) ≡ answers.Acts act
+  pub answers_so : stack_answer (sight statements layers id.space) (stack_of layers id) ≡ answers.Acts act
   answers_so = top_answers (sight statements layers id.space) (stack_of layers id) d.frame d.top ∙ d.answers (sight statements layers id.space) refl
 
 -- and what its step makes
