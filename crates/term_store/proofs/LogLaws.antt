@@ -1,5 +1,5 @@
 -- Tells in chunks.
-use Rattle.std.proofs.Common.{ℕ, zero, suc, ◌≡◌, ◌∙◌, ◌+◌, ◌*◌, ◌<◌, ◌≤◌, List, [], ◌∷◌, ◌++◌, length, Option, Some, None, slice_get, refl, sym, ap, arith, append_assoc, append-nil, length-append, subst}
+use Rattle.std.proofs.Common.{ℕ, zero, suc, ◌≡◌, ◌∙◌, ◌+◌, ◌*◌, ◌<◌, List, [], ◌∷◌, ◌++◌, length, Option, Some, None, slice_get, refl, sym, ap, arith, append_assoc, append-nil, length-append, subst}
 use Rattle.std.specs.List.{flat_map}
 use Rattle.oz_semantics.specs.declared.value.Tell.{Tell}
 use Rattle.term_store.specs.Logs.{with_ended, AllFull}
@@ -70,10 +70,6 @@ pub before_end : (cs : List (List Tell)) (ended : Option (List Tell)) (n : ℕ) 
 before_end cs None n h = refl
 before_end cs (Some c) n h = elsewhere cs c n h
 
-pub few : (cs : List (List Tell)) (ended : Option (List Tell)) → length cs ≤ length (with_ended cs ended)
-few cs None = omega arith
-few cs (Some c) = omega (arith, length-append cs (c ∷ []))
-
 pub none_at : (cs : List (List Tell)) (k : ℕ) → slice_get cs k ≡ None → k < length cs → ⊥
 none_at [] k e h = omega (arith, h)
 none_at (c ∷ cs) zero e h = cc
@@ -90,6 +86,9 @@ joined_more (d ∷ cs) c = ap (λ ts. d ++ ts) (joined_more cs c) ∙ sym (appen
 module _ (cs cs' : List (List Tell)) (ended ended' : Option (List Tell)) (c r r' : List Tell) (same : with_ended cs' ended' ≡ with_ended cs ended) (filed : ended' ≡ None) (is : c ≡ r) (none : r' ≡ []) where
   now : with_ended cs' (Some c) ≡ with_ended cs ended ++ c ∷ []
   now = ended_more cs' ended' c filed ∙ ap (λ ds. ds ++ c ∷ []) same
+
+  pub ended_count : length (with_ended cs' (Some c)) ≡ length (with_ended cs ended) + 1
+  ended_count = omega (arith, ap length now, length-append (with_ended cs ended) (c ∷ []))
 
   pub ended_told : flat_map (λ d. d) (with_ended cs' (Some c)) ++ r' ≡ flat_map (λ d. d) (with_ended cs ended) ++ r
   ended_told =

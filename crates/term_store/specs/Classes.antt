@@ -10,6 +10,7 @@ use Rattle.oz_semantics.specs.declared.value.Tell.{Tell}
 use Rattle.term_store.specs.declared.cell.Kept.{Kept}
 use Rattle.term_store.specs.declared.cell.Cell.{Cell}
 use Rattle.term_store.specs.declared.cell.Cell.TheVariants.{Below, Root}
+use Rattle.term_store.specs.declared.classes.Top.{Top}
 
 -- what is kept of variables
 abbrev pub Table : Type 0
@@ -88,6 +89,12 @@ root_in t x = climbed 256 t x
 -- a variable that stands for a class
 abbrev pub IsTop : Table → Ident → Type 0
 IsTop t x = link_in t x ≡ None
+
+-- it is a variable that stands for a class, with what is kept of it
+pub record Knows (t : Table) (top : Top) : Type 0 where
+  pub stands : IsTop t top.root
+  pub rank : top.rank ≡ rank_in t top.root
+  pub kept : top.kept ≡ kept_in t top.root
 
 -- the same classes, of which the same is kept
 pub record Likewise (t t' : Table) : Type 0 where

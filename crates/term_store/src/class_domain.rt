@@ -84,6 +84,19 @@ impl ClassDomain {
     }
 }
 
+/// A copy of the domain, if there is one.
+pub fn domain_copy(
+    alloc: Global,
+    domain: Option<&Shared<ClassDomain>>,
+) -> Result<Option<Shared<ClassDomain>>, AllocError>
+    ensures { IfOk result (λ copy. copy ≡ option_copied domain.entry) }
+{
+    match domain {
+        None => Ok(None),
+        Some(domain) => Ok(Some(domain.copied(alloc)?)),
+    }
+}
+
 /// What the domains of two classes have in common.
 #[derive(Drop)]
 pub enum Met {

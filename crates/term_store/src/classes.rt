@@ -2,10 +2,10 @@
 ghost use Rattle.std.specs.Prelude.{◌≡◌, ◌<◌, ◌⊎◌, ◌&&◌, ◌==◌, not, is_some, true, false, None, IfOk, OnOk, OnErr, option_copied};
 ghost use Rattle.oz_base.specs.Names.{ident_eq};
 ghost use Rattle.ident_map.specs.Entries.{entry};
-ghost use Rattle.term_store.specs.Classes.{link_of, link_in, rank_of, first_of, domain_of, kept_of, rank_in, first_in, domain_in, kept_in, root_in, is_free, is_nothing, IsTop, Likewise, Marks, Unites, UnitesOne, UnitesFree, UnitesAny, UnitesWith};
+ghost use Rattle.term_store.specs.Classes.{link_of, link_in, rank_of, first_of, domain_of, kept_of, rank_in, first_in, domain_in, kept_in, root_in, is_free, is_nothing, IsTop, Likewise, Marks, Unites, UnitesOne, UnitesFree, UnitesAny, UnitesWith, Knows};
 
 use crate::cell::{Cell, Kept};
-use crate::class_domain::ClassDomain;
+use crate::class_domain::{ClassDomain, domain_copy};
 use ident_map::IdentMap;
 use oz_base::{Copies, Ident, Shared, same_ident};
 use std::alloc::{AllocError, Global};
@@ -13,21 +13,57 @@ use std::marker::Model;
 
 /// The variable that stands for a class, with what is kept of it.
 #[derive(Clone, Copy)]
-pub struct Found<'a> {
-    pub root: &'a Ident,
+pub struct Found<'s, 'r> {
+    pub root: &'r Ident,
     pub rank: u8,
     /// The place at which the first value of the class was told.
     pub first: Option<u64>,
     /// The integers that all domains have which were told of the class.
-    pub domain: Option<&'a Shared<ClassDomain>>,
+    pub domain: Option<&'s Shared<ClassDomain>>,
 }
 
-impl<'a> Found<'a> {
+impl<'s, 'r> Found<'s, 'r> {
     /// Whether the class has neither a value nor a domain.
     pub fn has_nothing(&self) -> bool
         ensures { result ≡ is_free self.now.first (option_copied self.now.domain) }
     {
         match (self.first, self.domain) {
+            (None, None) => true,
+            _ => false,
+        }
+    }
+
+    /// A copy, which stands apart from the classes.
+    pub fn top(&self, alloc: Global) -> Result<Top, AllocError>
+        ensures root { IfOk result (λ top. top.root ≡ self.now.root.now) }
+        ensures rank { IfOk result (λ top. top.rank ≡ self.now.rank) }
+        ensures kept { IfOk result (λ top. top.kept ≡ record { first = self.now.first; domain = option_copied self.now.domain }) }
+    {
+        Ok(Top {
+            root: self.root.copied(alloc)?,
+            rank: self.rank,
+            kept: Kept {
+                first: self.first,
+                domain: domain_copy(alloc, self.domain)?,
+            },
+        })
+    }
+}
+
+/// A variable that stands for a class, with what is kept of it, apart from the classes.
+#[derive(Drop)]
+pub struct Top {
+    pub root: Ident,
+    pub rank: u8,
+    pub kept: Kept,
+}
+
+impl Top {
+    /// Whether the class has neither a value nor a domain.
+    fn has_nothing(&self) -> bool
+        ensures { result ≡ is_nothing self.now.kept }
+    {
+        match (self.kept.first, &self.kept.domain) {
             (None, None) => true,
             _ => false,
         }
@@ -134,11 +170,18 @@ impl Classes {
         domain_of(self.cells.get(root))
     }
 
-    /// A copy of what is kept of the class that a variable stands for.
-    fn kept(&self, alloc: Global, root: &Ident) -> Result<Kept, AllocError>
-        ensures { IfOk result (λ kept. kept ≡ kept_in self.now root.now) }
+    /// A variable that stands for a class, with what is kept of it. It is looked up once.
+    fn top(&self, alloc: Global, root: &Ident) -> Result<Top, AllocError>
+        requires { IsTop self.now root.now }
+        ensures root { IfOk result (λ top. top.root ≡ root.now) }
+        ensures known { IfOk result (Knows self.now) }
     {
-        kept_of(alloc, self.cells.get(root))
+        let cell = self.cells.get(root);
+        Ok(Top {
+            root: root.copied(alloc)?,
+            rank: rank_of(cell),
+            kept: kept_of(alloc, cell)?,
+        })
     }
 
     /// Whether the class that a variable stands for has neither a value nor a domain.
@@ -152,7 +195,7 @@ impl Classes {
     }
 
     /// The variable that stands for the class of another, and what is kept of it. Each variable on the way is looked up once.
-    pub fn find<'a>(&'a self, variable: &'a Ident) -> Found<'a>
+    pub fn find<'s: 'r, 'r>(&'s self, variable: &'r Ident) -> Found<'s, 'r>
         ensures root { result.root.now ≡ root_in self.now variable.now }
         ensures top { IsTop self.now result.root.now }
         ensures rank { result.rank ≡ rank_in self.now result.root.now }
@@ -214,43 +257,50 @@ impl Classes {
     }
 
     /// Raises the rank of a variable that stands for a class.
-    fn raise(&mut self, alloc: Global, root: &Ident, rank: u8) -> Result<(), AllocError>
-        requires top { IsTop self.old root.now }
-        requires more { rank_in self.old root.now < rank }
+    fn raise(&mut self, alloc: Global, top: &Top, rank: u8) -> Result<(), AllocError>
+        requires known { Knows self.old top.now }
+        requires more { top.now.rank < rank }
         ensures likewise { Likewise self.old self.new }
-        ensures ok { OnOk result (rank_in self.new root.now ≡ rank) }
-        ensures others { (x : Ident) → ident_eq x root.now ≡ false → rank_in self.new x ≡ rank_in self.old x }
+        ensures ok { OnOk result (rank_in self.new top.now.root ≡ rank) }
+        ensures others { (x : Ident) → ident_eq x top.now.root ≡ false → rank_in self.new x ≡ rank_in self.old x }
     {
-        let kept = self.kept(alloc, root)?;
-        self.cells.insert(alloc, root, Cell::Root { rank, kept })?;
+        let kept = top.kept.copied(alloc)?;
+        self.cells
+            .insert(alloc, &top.root, Cell::Root { rank, kept })?;
         Ok(())
     }
 
     /// Raises the rank of a variable that stands for a class above another.
-    fn raise_above(&mut self, alloc: Global, root: &Ident, rank: u8) -> Result<(), AllocError>
-        requires top { IsTop self.old root.now }
+    fn raise_above(&mut self, alloc: Global, top: &Top, rank: u8) -> Result<(), AllocError>
+        requires { Knows self.old top.now }
         ensures likewise { Likewise self.old self.new }
-        ensures ok { OnOk result (rank < rank_in self.new root.now) }
-        ensures others { (x : Ident) → ident_eq x root.now ≡ false → rank_in self.new x ≡ rank_in self.old x }
+        ensures ok { OnOk result (rank < rank_in self.new top.now.root) }
+        ensures others { (x : Ident) → ident_eq x top.now.root ≡ false → rank_in self.new x ≡ rank_in self.old x }
     {
-        if rank < self.rank(root) {
+        if rank < top.rank {
             return Ok(());
         }
         if rank == u8::MAX {
             return Err(AllocError);
         }
-        self.raise(alloc, root, rank + 1)
+        self.raise(alloc, top, rank + 1)
     }
 
-    /// Puts one that stands for a class below another, of a higher rank.
-    fn link(&mut self, alloc: Global, under: &Ident, over: &Ident) -> Result<(), AllocError>
+    /// Puts one of this rank that stands for a class below another, of a higher rank.
+    fn link(
+        &mut self,
+        alloc: Global,
+        under: &Ident,
+        rank: u8,
+        over: &Ident,
+    ) -> Result<(), AllocError>
         requires under { IsTop self.old under.now }
         requires over { IsTop self.old over.now }
+        requires rank { rank ≡ rank_in self.old under.now }
         requires higher { rank_in self.old under.now < rank_in self.old over.now }
         ensures ok { OnOk result (Unites self.old self.new under.now over.now (kept_in self.old over.now)) }
         ensures err { OnErr result (self.new ≡ self.old) }
     {
-        let rank = self.rank(under);
         let parent = over.copied(alloc)?;
         self.cells
             .insert(alloc, under, Cell::Below { parent, rank })?;
@@ -258,30 +308,46 @@ impl Classes {
     }
 
     /// Puts one that stands for a class below another.
-    fn put(&mut self, alloc: Global, under: &Ident, over: &Ident) -> Result<(), AllocError>
-        requires under { IsTop self.old under.now }
-        requires over { IsTop self.old over.now }
-        requires apart { ident_eq under.now over.now ≡ false }
-        ensures ok { OnOk result (Unites self.old self.new under.now over.now (kept_in self.old over.now)) }
+    fn put(&mut self, alloc: Global, under: &Top, over: &Top) -> Result<(), AllocError>
+        requires under { Knows self.old under.now }
+        requires over { Knows self.old over.now }
+        requires apart { ident_eq under.now.root over.now.root ≡ false }
+        ensures ok { OnOk result (Unites self.old self.new under.now.root over.now.root (kept_in self.old over.now.root)) }
         ensures err { OnErr result (Likewise self.old self.new) }
     {
-        let rank = self.rank(under);
-        self.raise_above(alloc, over, rank)?;
-        self.link(alloc, under, over)
+        self.raise_above(alloc, over, under.rank)?;
+        self.link(alloc, &under.root, under.rank, &over.root)
     }
 
     /// Puts the lower tree of two below the other.
-    fn put_lower(&mut self, alloc: Global, left: &Ident, right: &Ident) -> Result<(), AllocError>
-        requires left { IsTop self.old left.now }
-        requires right { IsTop self.old right.now }
-        requires apart { ident_eq left.now right.now ≡ false }
-        ensures ok { OnOk result (UnitesOne self.old self.new left.now right.now) }
+    fn put_lower(&mut self, alloc: Global, left: &Top, right: &Top) -> Result<(), AllocError>
+        requires left { Knows self.old left.now }
+        requires right { Knows self.old right.now }
+        requires apart { ident_eq left.now.root right.now.root ≡ false }
+        ensures ok { OnOk result (UnitesOne self.old self.new left.now.root right.now.root) }
         ensures err { OnErr result (Likewise self.old self.new) }
     {
-        if self.rank(left) < self.rank(right) {
+        if left.rank < right.rank {
             return self.put(alloc, left, right);
         }
         self.put(alloc, right, left)
+    }
+
+    /// Joins two classes, of one of which nothing is kept: one of which something is stands for both. Neither is looked up. An error is for
+    /// lack of memory, and leaves the classes.
+    pub fn unite_tops(&mut self, alloc: Global, left: &Top, right: &Top) -> Result<(), AllocError>
+        requires left { Knows self.old left.now }
+        requires right { Knows self.old right.now }
+        requires apart { ident_eq left.now.root right.now.root ≡ false }
+        requires free { (is_nothing left.now.kept ≡ true) ⊎ (is_nothing right.now.kept ≡ true) }
+        ensures ok { OnOk result (UnitesFree self.old self.new left.now.root right.now.root) }
+        ensures err { OnErr result (Likewise self.old self.new) }
+    {
+        match (left.has_nothing(), right.has_nothing()) {
+            (true, true) => self.put_lower(alloc, left, right),
+            (true, false) => self.put(alloc, left, right),
+            (false, _) => self.put(alloc, right, left),
+        }
     }
 
     /// Joins the classes that two variables stand for, of one of which nothing is kept: one of which something is stands for both. An
@@ -294,29 +360,27 @@ impl Classes {
         ensures ok { OnOk result (UnitesFree self.old self.new left.now right.now) }
         ensures err { OnErr result (Likewise self.old self.new) }
     {
-        match (self.has_nothing(left), self.has_nothing(right)) {
-            (true, true) => self.put_lower(alloc, left, right),
-            (true, false) => self.put(alloc, left, right),
-            (false, _) => self.put(alloc, right, left),
-        }
+        let one = self.top(alloc, left)?;
+        let other = self.top(alloc, right)?;
+        self.unite_tops(alloc, &one, &other)
     }
 
     /// Puts one that stands for a class below another, of which this is kept from now on.
     fn put_with(
         &mut self,
         alloc: Global,
-        under: &Ident,
-        over: &Ident,
+        under: &Top,
+        over: &Top,
         kept: Kept,
     ) -> Result<(), AllocError>
-        requires under { IsTop self.old under.now }
-        requires over { IsTop self.old over.now }
-        requires apart { ident_eq under.now over.now ≡ false }
-        ensures { OnOk result (Unites self.old self.new under.now over.now kept) }
+        requires under { Knows self.old under.now }
+        requires over { Knows self.old over.now }
+        requires apart { ident_eq under.now.root over.now.root ≡ false }
+        ensures { OnOk result (Unites self.old self.new under.now.root over.now.root kept) }
     {
         self.put(alloc, under, over)?;
-        let rank = self.rank(over);
-        self.mark(alloc, over, rank, kept)?;
+        let rank = self.rank(&over.root);
+        self.mark(alloc, &over.root, rank, kept)?;
         Ok(())
     }
 
@@ -324,19 +388,40 @@ impl Classes {
     fn put_lower_with(
         &mut self,
         alloc: Global,
-        left: &Ident,
-        right: &Ident,
+        left: &Top,
+        right: &Top,
         kept: Kept,
     ) -> Result<(), AllocError>
-        requires left { IsTop self.old left.now }
-        requires right { IsTop self.old right.now }
-        requires apart { ident_eq left.now right.now ≡ false }
-        ensures { OnOk result (UnitesAny self.old self.new left.now right.now kept) }
+        requires left { Knows self.old left.now }
+        requires right { Knows self.old right.now }
+        requires apart { ident_eq left.now.root right.now.root ≡ false }
+        ensures { OnOk result (UnitesAny self.old self.new left.now.root right.now.root kept) }
     {
-        if self.rank(left) < self.rank(right) {
+        if left.rank < right.rank {
             return self.put_with(alloc, left, right, kept);
         }
         self.put_with(alloc, right, left, kept)
+    }
+
+    /// Joins two classes, of which this is kept. Where one alone has a value, it stands for both.
+    fn unite_tops_with(
+        &mut self,
+        alloc: Global,
+        left: &Top,
+        right: &Top,
+        kept: Kept,
+    ) -> Result<(), AllocError>
+        requires left { Knows self.old left.now }
+        requires right { Knows self.old right.now }
+        requires apart { ident_eq left.now.root right.now.root ≡ false }
+        ensures { OnOk result (UnitesWith self.old self.new left.now.root right.now.root kept) }
+    {
+        match (left.kept.first, right.kept.first) {
+            (None, Some(_)) => self.put_with(alloc, left, right, kept),
+            (Some(_), None) => self.put_with(alloc, right, left, kept),
+            (None, None) => self.put_lower_with(alloc, left, right, kept),
+            (Some(_), Some(_)) => self.put_lower_with(alloc, left, right, kept),
+        }
     }
 
     /// Joins the classes that two variables stand for, of which this is kept. Where one alone has a value, it stands for both.
@@ -352,12 +437,9 @@ impl Classes {
         requires apart { ident_eq left.now right.now ≡ false }
         ensures { OnOk result (UnitesWith self.old self.new left.now right.now kept) }
     {
-        match (self.first(left), self.first(right)) {
-            (None, Some(_)) => self.put_with(alloc, left, right, kept),
-            (Some(_), None) => self.put_with(alloc, right, left, kept),
-            (None, None) => self.put_lower_with(alloc, left, right, kept),
-            (Some(_), Some(_)) => self.put_lower_with(alloc, left, right, kept),
-        }
+        let one = self.top(alloc, left)?;
+        let other = self.top(alloc, right)?;
+        self.unite_tops_with(alloc, &one, &other, kept)
     }
 }
 

@@ -23,10 +23,12 @@ pub struct Log {
     chunks: SharedList<Chunk>,
     ended: Option<Chunk>,
     rest: Vec<Tell>,
+    /// How many tells stand in chunks.
+    listed: u64,
 }
 
 impl Model for Log {
-    ghost use Rattle.std.specs.Prelude.{◌<◌, ◌≤◌, ◌^◌, length, vec_capacity};
+    ghost use Rattle.std.specs.Prelude.{◌≡◌, ◌<◌, ◌≤◌, ◌*◌, ◌^◌, length, vec_capacity};
     ghost use Rattle.std.specs.Coded.{codes};
     ghost use Rattle.environments.specs.contracts.environment.Environment as environment;
     ghost use Rattle.term_store.specs.Logs.{Written, told_in, with_ended, AllFull};
@@ -37,7 +39,7 @@ impl Model for Log {
 
     ghost view = { λ l. record { chunks = with_ended l.chunks l.ended; rest = l.rest.items; capacity = vec_capacity l.rest } };
 
-    ghost invariant = { λ l. AllFull (with_ended l.chunks l.ended) × (length l.rest.items ≤ 32) × (length (told_in record { chunks = with_ended l.chunks l.ended; rest = l.rest.items; capacity = vec_capacity l.rest }) < 2 ^ 64) };
+    ghost invariant = { λ l. AllFull (with_ended l.chunks l.ended) × (length l.rest.items ≤ 32) × (length (told_in record { chunks = with_ended l.chunks l.ended; rest = l.rest.items; capacity = vec_capacity l.rest }) < 2 ^ 64) × (l.listed ≡ 32 * length (with_ended l.chunks l.ended)) };
 }
 
 /// The value that a tell gives its variable.
@@ -76,17 +78,6 @@ fn put_behind(tells: &mut Vec<Tell>, tell: Tell)
 {
     if tells.push(tell).is_err() {
         unreachable!();
-    }
-}
-
-/// How many chunks there are.
-fn chunk_count(chunks: &SharedList<Chunk>, ended: Option<&Chunk>) -> u64
-    requires { length chunks.now < 2 ^ 64 - 1 }
-    ensures { result ≡ length (with_ended chunks.now (option_copied ended.entry)) }
-{
-    match ended {
-        None => chunks.len(),
-        Some(_) => chunks.len() + 1,
     }
 }
 
@@ -147,6 +138,7 @@ impl Log {
             chunks: SharedList::new(),
             ended: None,
             rest: Vec::new(alloc),
+            listed: 0,
         }
     }
 
@@ -154,7 +146,7 @@ impl Log {
     fn listed(&self) -> u64
         ensures { result ≡ 32 * length self.now.chunks }
     {
-        CHUNK * chunk_count(&self.chunks, self.ended.as_ref())
+        self.listed
     }
 
     /// How much was told.
@@ -206,6 +198,7 @@ impl Log {
         put_ended(alloc, &mut self.chunks, &mut self.ended)?;
         let chunk = chunk_of(alloc, &mut self.rest)?;
         self.ended = Some(chunk);
+        self.listed += CHUNK;
         Ok(())
     }
 
@@ -251,6 +244,7 @@ impl Log {
             chunks: self.chunks.copied(alloc)?,
             ended: copy_of(alloc, self.ended.as_ref())?,
             rest: copies_of(alloc, self.rest.as_slice())?,
+            listed: self.listed,
         })
     }
 }

@@ -10,7 +10,7 @@ ghost use Rattle.oz_semantics.specs.Values.{integer, integer_in};
 ghost use Rattle.oz_semantics.specs.declared.value.Tell.TheVariants.{Equal, Is, Within};
 ghost use Rattle.oz_semantics.specs.declared.value.Value.{Value};
 ghost use Rattle.term_store.specs.Bounds.{admits, Keeps};
-ghost use Rattle.term_store.specs.Classes.{Table, IsTop, IsPartition, Likewise, Marks, UnitesFree, is_nothing, kept_in, rank_in};
+ghost use Rattle.term_store.specs.Classes.{Table, IsTop, IsPartition, Likewise, Marks, UnitesFree, is_nothing, rank_in, Knows};
 ghost use Rattle.term_store.specs.Closing.{Going};
 ghost use Rattle.term_store.specs.Logs.{told_in};
 ghost use Rattle.term_store.specs.Places.{value_place};
@@ -18,8 +18,8 @@ ghost use Rattle.term_store.specs.Telling.{IsTold};
 ghost use Rattle.term_store.specs.VariableDomains.{set_of};
 
 use crate::cell::Kept;
-use crate::class_domain::ClassDomain;
-use crate::classes::Classes;
+use crate::class_domain::{ClassDomain, domain_copy};
+use crate::classes::{Classes, Top};
 use crate::closing::{Draft, kept_of_two, zipped};
 use crate::log::Log;
 use crate::values::{fields_of, is_like};
@@ -127,8 +127,7 @@ impl Store {
     pub fn told_domain(&self, variable: &Ident) -> Option<&Domain>
         ensures { option_copied result ≡ told_domain self.now variable.now }
     {
-        let root = self.classes.root(variable);
-        match self.classes.domain(root) {
+        match self.classes.find(variable).domain {
             None => None,
             Some(domain) => Some(domain.get().domain()),
         }
@@ -140,7 +139,7 @@ impl Store {
     {
         let found = self.classes.find(variable);
         match found.first {
-            None => only_value(self.classes.domain(found.root)),
+            None => only_value(found.domain),
             Some(place) => self.log.value(place),
         }
     }
@@ -243,8 +242,8 @@ impl Store {
             let pending = one_pair(alloc, left, right)?;
             return self.close(alloc, equation(alloc, left, right)?, pending, touched);
         }
-        let a = one.root.copied(alloc)?;
-        let b = other.root.copied(alloc)?;
+        let a = one.top(alloc)?;
+        let b = other.top(alloc)?;
         note_two(alloc, touched, left, right)?;
         let tell = equation(alloc, left, right)?;
         add_united(&mut self.log, &mut self.classes, alloc, &a, &b, tell)?;
@@ -474,18 +473,6 @@ fn has_value(domain: Option<&Shared<ClassDomain>>, value: &Value) -> bool
     }
 }
 
-fn domain_copy(
-    alloc: Global,
-    domain: Option<&Shared<ClassDomain>>,
-) -> Result<Option<Shared<ClassDomain>>, AllocError>
-    ensures { IfOk result (λ copy. copy ≡ option_copied domain.entry) }
-{
-    match domain {
-        None => Ok(None),
-        Some(domain) => Ok(Some(domain.copied(alloc)?)),
-    }
-}
-
 fn confinement(alloc: Global, variable: &Ident, intervals: &[Interval]) -> Result<Tell, AllocError>
     ensures { IfOk result (λ tell. tell ≡ Within variable.now intervals.now) }
 {
@@ -533,26 +520,26 @@ fn add_marked(
     Ok(())
 }
 
-/// Adds a tell, and joins the classes that two variables stand for, of one of which nothing is kept.
+/// Adds a tell, and joins two classes, of one of which nothing is kept.
 fn add_united(
     log: &mut Log,
     classes: &mut Classes,
     alloc: Global,
-    left: &Ident,
-    right: &Ident,
+    left: &Top,
+    right: &Top,
     tell: Tell,
 ) -> Result<(), AllocError>
-    requires left { IsTop classes.old left.now }
-    requires right { IsTop classes.old right.now }
-    requires apart { ident_eq left.now right.now ≡ false }
-    requires free { (is_nothing (kept_in classes.old left.now) ≡ true) ⊎ (is_nothing (kept_in classes.old right.now) ≡ true) }
+    requires left { Knows classes.old left.now }
+    requires right { Knows classes.old right.now }
+    requires apart { ident_eq left.now.root right.now.root ≡ false }
+    requires free { (is_nothing left.now.kept ≡ true) ⊎ (is_nothing right.now.kept ≡ true) }
     ensures told { OnOk result (told_in log.new ≡ told_in log.old ++ tell ∷ []) }
-    ensures ok { OnOk result (UnitesFree classes.old classes.new left.now right.now) }
+    ensures ok { OnOk result (UnitesFree classes.old classes.new left.now.root right.now.root) }
     ensures kept { OnErr result (told_in log.new ≡ told_in log.old) }
     ensures err { OnErr result (Likewise classes.old classes.new) }
 {
     log.make_room(alloc)?;
-    classes.unite(alloc, left, right)?;
+    classes.unite_tops(alloc, left, right)?;
     log.put(tell);
     Ok(())
 }

@@ -3,4 +3,4 @@ use Rattle.oz_base.specs.IdentLaws.{ident_eq-equivalence}
 use Rattle.term_store.proofs.classes.Classes.put_lower.Goals as goal
 
 pub put-requires-2-clause-apart : goal.put-requires-2-clause-apart
-put-requires-2-clause-apart c = ident_eq-equivalence.symm c.args.right.now c.args.left.now ∙ c.requires.apart
+put-requires-2-clause-apart c = ident_eq-equivalence.symm c.args.right.now.root c.args.left.now.root ∙ c.requires.apart

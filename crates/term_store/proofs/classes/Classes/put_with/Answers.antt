@@ -4,4 +4,4 @@ use Rattle.term_store.proofs.classes.Classes.put_with.Goals as goal
 
 pub returns : goal.returns
 returns c =
-    unites_marks c.args.self.now c.put.new.self c.mark.new.self c.args.under.now c.args.over.now (kept_in c.args.self.now c.args.over.now) c.args.kept c.in_ok-put.ensures.ok c.in_ok-mark.ensures.ok
+    unites_marks c.args.self.now c.put.new.self c.mark.new.self c.args.under.now.root c.args.over.now.root (kept_in c.args.self.now c.args.over.now.root) c.args.kept c.in_ok-put.ensures.ok c.in_ok-mark.ensures.ok

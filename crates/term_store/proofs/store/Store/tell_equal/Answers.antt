@@ -33,7 +33,7 @@ pub invariant_of-self-2 : goal.invariant_of-self-2
 invariant_of-self-2 c =
     let told =
     equation_told c.args.self.now c.args.left.now c.args.right.now c.in_ok-tell.tell c.in_ok-tell.ensures (told_in c.add_united.new.log) (c.in_ok-add_united.ensures.told ∙ ap (λ ts. ts ++ c.in_ok-tell.tell ∷ []) c.self.view_is)
-    c.self.inside.classes c.add_united.new.classes (subst (λ ts. Going ts c.self.inside.classes []) c.self.view_is c.self.invariant) c.in_ok-a.a c.in_ok-b.b (c.in_ok-a.ensures ∙ c.find-one.ensures.root) (c.in_ok-b.ensures ∙ c.find-other.ensures.root) (λ e. other_than c.find-one.result.root.now c.find-other.result.root.now (sym c.same_ident.ensures ∙ c.if-same_ident.false) (sym c.in_ok-a.ensures ∙ e ∙ c.in_ok-b.ensures)) c.in_ok-add_united.ensures.ok
+    c.self.inside.classes c.add_united.new.classes (subst (λ ts. Going ts c.self.inside.classes []) c.self.view_is c.self.invariant) c.in_ok-a.a.root c.in_ok-b.b.root (c.in_ok-a.ensures.root ∙ c.find-one.ensures.root) (c.in_ok-b.ensures.root ∙ c.find-other.ensures.root) (λ e. other_than c.find-one.result.root.now c.find-other.result.root.now (sym c.same_ident.ensures ∙ c.if-same_ident.false) (sym c.in_ok-a.ensures.root ∙ e ∙ c.in_ok-b.ensures.root)) c.in_ok-add_united.ensures.ok
     c.args.touched.now.items c.note_two.new.touched.items c.in_ok-note_two.ensures in
     told.0
 
@@ -41,6 +41,6 @@ pub returns-clause-told : goal.returns-clause-told
 returns-clause-told c =
     let told =
     equation_told c.args.self.now c.args.left.now c.args.right.now c.in_ok-tell.tell c.in_ok-tell.ensures (told_in c.add_united.new.log) (c.in_ok-add_united.ensures.told ∙ ap (λ ts. ts ++ c.in_ok-tell.tell ∷ []) c.self.view_is)
-    c.self.inside.classes c.add_united.new.classes (subst (λ ts. Going ts c.self.inside.classes []) c.self.view_is c.self.invariant) c.in_ok-a.a c.in_ok-b.b (c.in_ok-a.ensures ∙ c.find-one.ensures.root) (c.in_ok-b.ensures ∙ c.find-other.ensures.root) (λ e. other_than c.find-one.result.root.now c.find-other.result.root.now (sym c.same_ident.ensures ∙ c.if-same_ident.false) (sym c.in_ok-a.ensures ∙ e ∙ c.in_ok-b.ensures)) c.in_ok-add_united.ensures.ok
+    c.self.inside.classes c.add_united.new.classes (subst (λ ts. Going ts c.self.inside.classes []) c.self.view_is c.self.invariant) c.in_ok-a.a.root c.in_ok-b.b.root (c.in_ok-a.ensures.root ∙ c.find-one.ensures.root) (c.in_ok-b.ensures.root ∙ c.find-other.ensures.root) (λ e. other_than c.find-one.result.root.now c.find-other.result.root.now (sym c.same_ident.ensures ∙ c.if-same_ident.false) (sym c.in_ok-a.ensures.root ∙ e ∙ c.in_ok-b.ensures.root)) c.in_ok-add_united.ensures.ok
     c.args.touched.now.items c.note_two.new.touched.items c.in_ok-note_two.ensures in
     told.1

@@ -9,7 +9,7 @@ pub returns-in-None : goal.returns-in-None
 returns-in-None c =
     c.only_value.ensures
     ∙ value_only c.args.self.now c.self.inside.classes (subst (λ ts. Going ts c.self.inside.classes []) c.self.view_is c.self.invariant) c.args.variable.now c.find-found.result.root.now c.find-found.ensures.root
-    (sym c.find-found.ensures.first ∙ c.in-None.is) (option_copied c.domain.result) c.domain.ensures
+    (sym c.find-found.ensures.first ∙ c.in-None.is) (option_copied c.find-found.result.domain) c.find-found.ensures.domain
 
 pub returns-in-Some : goal.returns-in-Some
 returns-in-Some c =

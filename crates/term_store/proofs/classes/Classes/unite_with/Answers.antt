@@ -1,6 +1,0 @@
-use Rattle.std.proofs.Common.{◌∙◌}
-use Rattle.oz_base.specs.IdentLaws.{ident_eq-equivalence}
-use Rattle.term_store.proofs.classes.Classes.unite_with.Goals as goal
-
-pub put_with-requires-in-Some-None-clause-apart : goal.put_with-requires-in-Some-None-clause-apart
-put_with-requires-in-Some-None-clause-apart c = ident_eq-equivalence.symm c.args.right.now c.args.left.now ∙ c.requires.apart
