@@ -1,10 +1,11 @@
 //! What a statement's act does to the layers.
-ghost use Rattle.std.specs.Prelude.{◌≡◌, true, false, is_some, option_to_list, IfOk, OnErr};
+ghost use Rattle.std.specs.Prelude.{◌≡◌, true, false, ◌∷◌, [], is_some, option_to_list, IfOk, OnOk, OnErr};
 ghost use Rattle.environments.specs.Environments.{Environment};
 ghost use Rattle.oz_semantics.specs.Terms.{list_term, term_tells};
 ghost use Rattle.oz_semantics.specs.Configurations.{layer_of, layer_at};
 ghost use Rattle.oz_raise.specs.Nodes.{term_of};
 ghost use Rattle.oz_semantics.specs.Effects.{act_effect};
+ghost use Rattle.oz_semantics.specs.Changes.{Pushes, Spawns, changed_all};
 ghost use Rattle.oz_semantics.specs.Steps.{without_top};
 ghost use Rattle.oz_semantics.specs.Answers as answers;
 ghost use Rattle.builtins.specs.Answers.{act_of};
@@ -17,7 +18,7 @@ use environments::Environment;
 use oz_base::{Copies, Ident, Sequence, Shared};
 use oz_language::Constant;
 use oz_raise::{Node, list_term, term_tells};
-use oz_semantics::{Procedure, Tell, Value};
+use oz_semantics::{Frame, Procedure, Tell, Value};
 use space_core::{Given, Levels, bind_from};
 use statements::frames_of;
 use std::alloc::{AllocError, Global};
@@ -39,6 +40,72 @@ fn declare(
     bind_from(alloc, &mut environment, names, &id.space, next.variable)?;
     let frames = frames_of(alloc, &environment, declaration.body.as_slice())?;
     levels.declare(id, frames, names.len() as u64)
+}
+
+/// These statements go on. They are taken out of the act.
+fn go_on(
+    alloc: Global,
+    levels: &mut Levels,
+    id: &Ident,
+    frames: &mut Sequence<Frame>,
+) -> Result<(), AllocError>
+    ensures ok { OnOk result (levels.new ≡ changed_all id.now (Pushes frames.old ∷ []) (without_top id.now levels.old)) }
+    ensures err { OnErr result (levels.new ≡ levels.old) }
+{
+    let frames = mem::replace(frames, Sequence::new(alloc));
+    levels.go_on(id, frames.into_vec())
+}
+
+/// A new thread begins with these statements. They are taken out of the act.
+fn start(
+    alloc: Global,
+    levels: &mut Levels,
+    id: &Ident,
+    frames: &mut Sequence<Frame>,
+) -> Result<(), AllocError>
+    ensures ok { OnOk result (levels.new ≡ changed_all id.now (Spawns frames.old ∷ []) (without_top id.now levels.old)) }
+    ensures err { OnErr result (levels.new ≡ levels.old) }
+{
+    let frames = mem::replace(frames, Sequence::new(alloc));
+    levels.start(id, frames.into_vec())
+}
+
+/// The variable has this value.
+fn give_value(
+    alloc: Global,
+    levels: &mut Levels,
+    id: &Ident,
+    variable: &Ident,
+    value: &Value,
+) -> Result<bool, AllocError>
+    requires { is_some (layer_at levels.old id.now.space) ≡ true }
+    ensures ok { IfOk result (IsDone id.now (act_effect (layer_of levels.old id.now.space) (answers.GivesValue variable.now value.now)) levels.old levels.new) }
+    ensures err { OnErr result (levels.new ≡ levels.old) }
+{
+    let tell = Tell::Is {
+        variable: variable.copied(alloc)?,
+        value: value.copied(alloc)?,
+    };
+    levels.tell_by(alloc, id, &[tell], Given::Nothing)
+}
+
+/// The variable is equal to another one.
+fn give_variable(
+    alloc: Global,
+    levels: &mut Levels,
+    id: &Ident,
+    variable: &Ident,
+    other: &Ident,
+) -> Result<bool, AllocError>
+    requires { is_some (layer_at levels.old id.now.space) ≡ true }
+    ensures ok { IfOk result (IsDone id.now (act_effect (layer_of levels.old id.now.space) (answers.GivesVariable variable.now other.now)) levels.old levels.new) }
+    ensures err { OnErr result (levels.new ≡ levels.old) }
+{
+    let equation = Tell::Equal {
+        left: variable.copied(alloc)?,
+        right: other.copied(alloc)?,
+    };
+    levels.tell_by(alloc, id, &[equation], Given::Nothing)
 }
 
 /// The variable is the term of these nodes.
@@ -216,8 +283,7 @@ pub fn act(
             Ok(true)
         }
         Act::GoesOn(frames) => {
-            let frames = mem::replace(frames, Sequence::new(alloc));
-            levels.go_on(id, frames.into_vec())?;
+            go_on(alloc, levels, id, frames)?;
             Ok(true)
         }
         Act::Declares(declaration) => {
@@ -225,27 +291,14 @@ pub fn act(
             Ok(true)
         }
         Act::Starts(frames) => {
-            let frames = mem::replace(frames, Sequence::new(alloc));
-            levels.start(id, frames.into_vec())?;
+            start(alloc, levels, id, frames)?;
             Ok(true)
         }
-        Act::GivesValue { variable, value } => {
-            let tell = Tell::Is {
-                variable: variable.copied(alloc)?,
-                value: value.copied(alloc)?,
-            };
-            levels.tell_by(alloc, id, &[tell], Given::Nothing)
-        }
+        Act::GivesValue { variable, value } => give_value(alloc, levels, id, variable, value),
         Act::GivesList { variable, items } => {
             give_list(alloc, levels, id, variable, items.as_slice())
         }
-        Act::GivesVariable { variable, other } => {
-            let equation = Tell::Equal {
-                left: variable.copied(alloc)?,
-                right: other.copied(alloc)?,
-            };
-            levels.tell_by(alloc, id, &[equation], Given::Nothing)
-        }
+        Act::GivesVariable { variable, other } => give_variable(alloc, levels, id, variable, other),
         Act::MakesProcedure {
             variable,
             procedure,

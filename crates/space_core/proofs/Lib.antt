@@ -43,3 +43,4 @@ pub mod CopyTold
 pub mod MergeLists
 pub mod MergeTold
 pub mod AloneLaws
+pub mod TopLaws

@@ -28,6 +28,7 @@ fn tell_alone(
 }
 
 /// Tells the space at a place, which gives out what comes with that first, so that what is told of new variables leaves it traced.
+#[inline(never)]
 fn tell_giving(
     alloc: Global,
     levels: &mut Vec<Level>,

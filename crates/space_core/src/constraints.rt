@@ -29,6 +29,8 @@ pub struct Constraints {
     propagators: Sequence<Propagator>,
     watch: Watch,
     watched: usize,
+    /// Room for the variables that a tell notes. What it contains is of no use.
+    room: Vec<Ident>,
 }
 
 impl Model for Constraints {
@@ -111,6 +113,15 @@ fn first_from(store: &Store, propagators: &[Propagator], from: usize) -> Option<
     None
 }
 
+/// A vector without items, which has the room of this one.
+fn taken(alloc: Global, room: &mut Vec<Ident>) -> Vec<Ident>
+    ensures { result.items ≡ [] }
+{
+    let mut taken = mem::replace(room, Vec::new(alloc));
+    taken.clear();
+    taken
+}
+
 fn lesser(left: usize, right: usize) -> usize
     ensures left { result ≤ left }
     ensures right { result ≤ right }
@@ -128,6 +139,7 @@ impl Constraints {
             propagators,
             watch: Watch::new(alloc),
             watched: 0,
+            room: Vec::new(alloc),
         }
     }
 
@@ -160,12 +172,13 @@ impl Constraints {
 
     /// Tells the store more. The variables that are touched by that, or None exactly where it is inconsistent with what was told before:
     /// then nothing changes.
+    #[inline(always)]
     pub fn tell(&mut self, alloc: Global, tells: &[Tell]) -> Result<Option<Vec<Ident>>, AllocError>
         ensures told { IfOk result (λ told. MatchOption told (IsStoreClash tells.now self.old self.new) (λ noted. IsStoreTold tells.now noted.items self.old self.new)) }
         ensures err { OnErr result (self.new ≡ self.old) }
     {
         let foresight = self.watch.foresee(alloc, &self.store, tells);
-        let mut noted = Vec::new(alloc);
+        let mut noted = taken(alloc, &mut self.room);
         if !self.store.tell(alloc, tells, &mut noted)? {
             return Ok(None);
         }
@@ -181,6 +194,13 @@ impl Constraints {
         );
         self.watched = self.propagators.len();
         Ok(Some(noted))
+    }
+
+    /// A tell noted these variables, which are of no use any more: the next tell gets their room.
+    pub fn reuse(&mut self, noted: Vec<Ident>)
+        ensures { self.new ≡ self.old }
+    {
+        self.room = noted;
     }
 
     /// Another store takes the place of this one. Which propagators may be due is found anew: it takes the time of all of them.
@@ -271,6 +291,7 @@ impl Copies for Constraints {
             propagators: self.propagators.copied(alloc)?,
             watch: self.watch.copied(alloc)?,
             watched: self.watched,
+            room: Vec::new(alloc),
         })
     }
 }

@@ -22,17 +22,30 @@ fn gave_out(level: &Level, variable: &Ident) -> bool
     variable.number < level.numbers.variable && same_space(&level.space, &variable.space)
 }
 
+/// Whether another space is this one or below it.
+fn is_above(space: &SpaceName, other: &SpaceName) -> bool
+    ensures { result ≡ is_below space.now other.now }
+{
+    if space.is_top() {
+        return true;
+    }
+    space.is_above(other)
+}
+
 /// Whether another space is properly below this one.
 pub fn is_properly_above(space: &SpaceName, other: &SpaceName) -> bool
     ensures { result ≡ is_properly_below space.now other.now }
 {
-    space.is_above(other) && !same_space(space, other)
+    if other.is_top() {
+        return false;
+    }
+    is_above(space, other) && !same_space(space, other)
 }
 
 fn gave_home(level: &Level, space: &SpaceName, variable: &Ident) -> bool
     ensures { result ≡ (gave_out variable.now (shown level.now) && is_below level.now.space space.now) }
 {
-    gave_out(level, variable) && level.space.is_above(space)
+    gave_out(level, variable) && is_above(&level.space, space)
 }
 
 fn gave_outer(level: &Level, space: &SpaceName, variable: &Ident) -> bool

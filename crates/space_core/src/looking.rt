@@ -48,8 +48,8 @@ fn is_at(levels: &[Level], space: &SpaceName, place: usize) -> bool
     }
 }
 
-/// The place of a space. The top, and a space that stands where it is guessed to stand, are found at once. For another one, half of those
-/// that are left fall away with each look, since the spaces stand in the order of their names.
+/// The place of a space. The top is found at once.
+#[inline(always)]
 pub fn level_position(levels: &[Level], space: &SpaceName) -> Option<usize>
     requires { IsSound levels.now }
     ensures { result ≡ position (is_of space.now) (shown_all levels.now) }
@@ -57,6 +57,16 @@ pub fn level_position(levels: &[Level], space: &SpaceName) -> Option<usize>
     if is_first(levels, space) {
         return Some(0);
     }
+    inner_position(levels, space)
+}
+
+/// The same. A space that stands where it is guessed to stand is found at once. For another one, half of those that are left fall away
+/// with each look, since the spaces stand in the order of their names.
+#[inline(never)]
+fn inner_position(levels: &[Level], space: &SpaceName) -> Option<usize>
+    requires { IsSound levels.now }
+    ensures { result ≡ position (is_of space.now) (shown_all levels.now) }
+{
     let place = guess(space);
     if is_at(levels, space, place) {
         return Some(place);
@@ -67,6 +77,7 @@ pub fn level_position(levels: &[Level], space: &SpaceName) -> Option<usize>
 }
 
 /// The place of a space, with what a search of its layer comes to.
+#[inline(always)]
 pub fn level_place(levels: &[Level], space: &SpaceName) -> Option<usize>
     requires { IsSound levels.now }
     ensures { MatchOption result (IsAbsent (is_of space.now) (shown_all levels.now))

@@ -89,6 +89,7 @@ fn fates_or_back(
 
 /// Tells the space at a place, of which it is known whether all variables are those of the space and of spaces above it, and all spaces
 /// below it.
+#[inline(never)]
 fn tell_all(
     alloc: Global,
     levels: &mut Vec<Level>,
@@ -117,6 +118,7 @@ fn tell_all(
 /// Tells the space at a place, of which it is known whether all variables are those of the space and of spaces above it. The spaces
 /// below it see that too, and those that then see what is inconsistent fail. False exactly where it is inconsistent with what the space
 /// itself sees: then nothing changes.
+#[inline(always)]
 pub fn tell_through(
     alloc: Global,
     levels: &mut Vec<Level>,

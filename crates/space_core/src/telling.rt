@@ -1,5 +1,5 @@
 //! Tells of one space.
-ghost use Rattle.std.specs.Prelude.{◌≡◌, filter, IfOk, OnErr};
+ghost use Rattle.std.specs.Prelude.{◌≡◌, ◌++◌, true, filter, IfOk, OnErr};
 ghost use Rattle.std.specs.List.{list_any};
 ghost use Rattle.view_laws.specs.Spaceless.{gives_space};
 ghost use Rattle.space_core.specs.Shown.{is_other};
@@ -41,16 +41,32 @@ fn any_gives_space(tells: &[Tell]) -> bool
 }
 
 /// Notes what the space was told, and these of the variables that are touched by it, of which it is known whether all variables are those
-/// of the space and of spaces above it.
+/// of the space and of spaces above it. The top notes no variables.
 ///
 /// Where there is no memory to note them, the space is not traced any more.
-pub fn note(level: &mut Level, home: bool, tells: &[Tell], mut noted: Vec<Ident>)
+#[inline(always)]
+pub fn note(level: &mut Level, home: bool, tells: &[Tell], noted: Vec<Ident>)
     ensures { IsMarked home tells.now noted.items level.old level.new }
 {
-    drop_own(&level.space, &mut noted);
-    let kept = level.space.is_top() || level.touched.append(noted).is_ok();
-    level.traced = level.traced && home && kept;
+    level.traced = level.traced && home;
     level.knows_space = level.knows_space || any_gives_space(tells);
+    if level.space.is_top() {
+        level.constraints.reuse(noted);
+        return;
+    }
+    note_others(level, noted);
+}
+
+/// Notes those of the variables that are not the space's own. Where there is no memory for that, the space is not traced any more.
+#[inline(never)]
+fn note_others(level: &mut Level, mut noted: Vec<Ident>)
+    ensures left { level.new ≡ record level.old { touched = level.new.touched; traced = level.new.traced } }
+    ensures notes { level.new.traced ≡ true → (level.old.traced ≡ true) × (level.new.touched ≡ level.old.touched ++ filter (is_other level.old.space) noted.items) }
+{
+    drop_own(&level.space, &mut noted);
+    if level.touched.append(noted).is_err() {
+        level.traced = false;
+    }
 }
 
 /// Tells a space more, of which it is known whether all variables are those of the space and of spaces above it. False exactly where

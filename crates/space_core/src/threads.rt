@@ -74,9 +74,23 @@ impl Threads {
         self.next
     }
 
-    /// The place of a thread. One that stands where it would if none between it and the first or the last thread had ended is found at
-    /// once. For another one it takes time logarithmic in the number of threads.
+    /// The place of a thread. The first one is found at once.
+    #[inline(always)]
     fn place(&self, number: u64) -> Option<usize>
+        ensures { MatchOption result (IsAbsent (is_numbered number) self.now.list)
+            (λ place. (t : Thread) × IsFirst (is_numbered number) self.now.list place t) }
+    {
+        let threads = self.threads.as_slice();
+        if is_at(threads, number, 0) {
+            return Some(0);
+        }
+        self.later_place(number)
+    }
+
+    /// The same. One that stands where it would if none between it and the first or the last thread had ended is found at once. For
+    /// another one it takes time logarithmic in the number of threads.
+    #[inline(never)]
+    fn later_place(&self, number: u64) -> Option<usize>
         ensures { MatchOption result (IsAbsent (is_numbered number) self.now.list)
             (λ place. (t : Thread) × IsFirst (is_numbered number) self.now.list place t) }
     {
@@ -103,6 +117,7 @@ impl Threads {
     }
 
     /// Takes the statement off the top of the stack of the thread at a place.
+    #[inline(always)]
     fn pop_at(&mut self, place: usize) -> Option<Frame>
         requires { place < length self.old.list }
         ensures { IsPopped place self.old self.new result }

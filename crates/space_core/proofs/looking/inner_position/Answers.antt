@@ -4,7 +4,7 @@ use Rattle.std.specs.Cmp.Lexicographic.{slice_cmp}
 use Rattle.std.proofs.lemmas.Fn.{always_returns_same}
 use Rattle.space_core.specs.declared.level.Level.{Level}
 use Rattle.space_core.proofs.HalvingLaws.{halves}
-use Rattle.space_core.proofs.looking.level_position.Goals as goal
+use Rattle.space_core.proofs.looking.inner_position.Goals as goal
 
 pub returns : goal.returns
 returns c =

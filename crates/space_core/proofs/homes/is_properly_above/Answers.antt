@@ -1,0 +1,6 @@
+use Rattle.std.proofs.Common.{◌∙◌, sym}
+use Rattle.space_core.proofs.TopLaws.{none_above_top}
+use Rattle.space_core.proofs.homes.is_properly_above.Goals as goal
+
+pub returns-then-is_top : goal.returns-then-is_top
+returns-then-is_top c = sym (none_above_top c.args.space.now c.args.other.now (sym c.is_top.ensures ∙ c.if-is_top.true))
