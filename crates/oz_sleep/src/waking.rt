@@ -1,5 +1,6 @@
 //! Who may wake by what a thread is about to tell its space.
-ghost use Rattle.std.specs.Prelude.{ℕ, ◌≡◌, ◌<◌, ◌∷◌, [], false, Some, length, option_copied, position, IfOk, IfSome};
+ghost use Rattle.std.specs.Prelude.{ℕ, ◌≡◌, ◌&&◌, ◌<◌, ◌∷◌, [], true, false, Some, length, option_copied, position, IfOk, IfSome};
+ghost use Rattle.oz_base.specs.Lists.{list_eq};
 ghost use Rattle.oz_base.specs.declared.names.Ident.{Ident};
 ghost use Rattle.oz_semantics.specs.Answers as answers;
 ghost use Rattle.oz_semantics.specs.Configurations.{is_of, view};
@@ -124,7 +125,7 @@ fn touched(
     }
 }
 
-/// Takes those out of the sleepers who may wake by what is touched. None where that is not known.
+/// Takes those out of the sleepers of the thread's space who may wake by what is touched.
 fn wake(
     alloc: Global,
     levels: &Levels,
@@ -135,21 +136,19 @@ fn wake(
 ) -> Result<Option<Sequence<u64>>, AllocError>
     requires within { place < length levels.now }
     requires place { Some place ≡ position (is_of id.now.space) levels.now }
+    requires awaits { (sleeping.old.pending && list_eq sleeping.old.space id.now.space) ≡ true }
     ensures known { sleeping.new.known ≡ sleeping.old.known }
     ensures foretold { (act : answers.Act) → OfLayer levels.now place (λ l. TouchesBy (view levels.now l.space) l act touched.now)
         → IfOk result (Foretells levels.now id.now act sleeping.old sleeping.new) }
 {
-    if !sleeping.awaits(&id.space) {
-        sleeping.want();
-        return Ok(None);
-    }
     let woken = sleeping
         .sleepers
         .wake(alloc, levels.store_at(place), touched)?;
     Ok(Some(woken))
 }
 
-/// The numbers of the threads of its space that may wake by what an act tells alone. None where that is not known.
+/// The numbers of the threads of its space that may wake by what an act tells alone. None where that is not known. Where the sleepers of
+/// the space are not known, it is of no use to look at what the act touches.
 pub fn woken(
     alloc: Global,
     levels: &Levels,
@@ -160,6 +159,10 @@ pub fn woken(
     ensures known { sleeping.new.known ≡ sleeping.old.known }
     ensures foretold { IfOk result (Foretells levels.now id.now (act_of what.now) sleeping.old sleeping.new) }
 {
+    if !sleeping.awaits(&id.space) {
+        sleeping.want();
+        return Ok(None);
+    }
     let Some(place) = levels.place(&id.space) else {
         sleeping.drop_pending();
         return Ok(None);

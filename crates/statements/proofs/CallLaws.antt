@@ -1,7 +1,12 @@
 -- Calls, by their arguments.
-use Rattle.std.proofs.Common.{◌≡◌, ◌<◌, ℕ, refl, sym, ap, ◌∙◌, List, length, subst, if◌then◌else◌, eq-eqb}
+use Rattle.std.proofs.Common.{◌≡◌, ◌∙◌, ℕ, refl, sym, ap, List, Option, length, slice_get, if◌then◌else◌, eq-eqb}
 use Rattle.oz_base.specs.declared.names.Ident.{Ident}
+use Rattle.environments.specs.Environments.{Environment}
+use Rattle.oz_language.specs.declared.kernel.Statement.{Statement}
 use Rattle.oz_semantics.specs.Sights.{Sight}
+use Rattle.oz_semantics.specs.Statements.{numbered_answer, code_answer}
+use Rattle.oz_semantics.specs.declared.configuration.Code.{Code}
+use Rattle.oz_semantics.specs.declared.configuration.Code.TheVariants as codes
 use Rattle.oz_semantics.specs.Answers as answers
 use Rattle.oz_semantics.specs.Answers.{argument}
 use Rattle.oz_semantics.specs.Builtins.{arguments_of, answer, call_answer}
@@ -38,10 +43,10 @@ is_answer a r e = cc
 pub call_is : (s : Sight) (b : Builtin) (xs : List Ident) → length xs ≡ arguments_of b → call_answer s b xs ≡ answer s b (argument xs)
 call_is s b xs e = ap (λ t. if t then answer s b (argument xs) else answers.RaisesKind raise.Arity) (eq-eqb (length xs) (arguments_of b) e)
 
--- the arguments at these places
-pub given_at : (b : Builtin) (xs : List Ident) (x y z : Ident) (count i j : ℕ) → count ≡ arguments_of b → x ≡ argument xs 0 → (1 < count → i ≡ 1) → y ≡ argument xs i → (2 < count → j ≡ 2) → z ≡ argument xs j → Given b x y z (argument xs)
-given_at b xs x y z count i j e f h g l k = record {
-  first = sym f;
-  second = λ m. sym (g ∙ ap (argument xs) (h (subst (λ n. 1 < n) (sym e) m)));
-  third = λ m. sym (k ∙ ap (argument xs) (l (subst (λ n. 2 < n) (sym e) m)));
-}
+-- these are the first three arguments
+pub given_at : (b : Builtin) (xs : List Ident) (x y z : Ident) → x ≡ argument xs 0 → y ≡ argument xs 1 → z ≡ argument xs 2 → Given b x y z (argument xs)
+given_at b xs x y z f g k = record { first = sym f; second = λ m. sym g; third = λ m. sym k }
+
+-- a statement with a number answers what that says
+pub numbered_so : (s : Sight) (e : Environment) (k : Code) (n : ℕ) (o : Option Statement) → o ≡ slice_get s.statements n → k ≡ codes.Statement n → erased (numbered_answer s e o) ≡ erased (code_answer s e k)
+numbered_so s e k n o found is = ap (λ (p : Option Statement). erased (numbered_answer s e p)) found ∙ ap (λ (c : Code). erased (code_answer s e c)) (sym is)

@@ -1,5 +1,5 @@
 -- What calls, tests and matches wait for.
-use Rattle.std.proofs.Common.{◌≡◌, ◌<◌, [], ℕ, refl, sym, ap, ◌∙◌, Bool, true, false, Option, Some, None, List, length, map, subst, if◌then◌else◌}
+use Rattle.std.proofs.Common.{◌≡◌, [], ℕ, refl, sym, ap, ◌∙◌, Bool, true, false, Option, Some, None, List, length, map, subst, if◌then◌else◌}
 use Rattle.std.specs.Prelude.{◌==◌}
 use Rattle.std.specs.List.{list_any}
 use Rattle.std.proofs.lemmas.List.{length-map}
@@ -10,7 +10,6 @@ use Rattle.oz_language.specs.declared.kernel.Constant.TheVariants as constant
 use Rattle.oz_semantics.specs.Store.{View, value_of, same}
 use Rattle.oz_semantics.specs.Sights.{Readiness, Steps, Offers, Bodies}
 use Rattle.oz_semantics.specs.Answers.{Answer, RaisesKind, argument, given, with_value}
-use Rattle.oz_semantics.specs.Builtins.{arguments_of}
 use Rattle.oz_semantics.specs.Configurations.{frames_of}
 use Rattle.oz_semantics.specs.Matching.{Match, Matches, Differs, MatchWaits}
 use Rattle.oz_semantics.specs.Statements.{goes_on_with, procedure_called, branch, clause}
@@ -62,12 +61,9 @@ match_waits e accepted otherwise (Matches extended) = refl
 match_waits e accepted otherwise Differs = refl
 match_waits e accepted otherwise (MatchWaits x) = refl
 
--- the inputs of a call are the arguments at these places
-pub inputs_at : (b : Builtin) (xs : List Ident) (x y : Ident) (count i : ℕ) → count ≡ arguments_of b → x ≡ argument xs 0 → (1 < count → i ≡ 1) → y ≡ argument xs i → Inputs b x y (argument xs)
-inputs_at b xs x y count i e f h g = record {
-  first = sym f;
-  second = λ m. sym (g ∙ ap (argument xs) (h (subst (λ n. 1 < n) (sym e) m)));
-}
+-- the inputs of a call are among its first two arguments
+pub inputs_at : (b : Builtin) (xs : List Ident) (x y : Ident) → x ≡ argument xs 0 → y ≡ argument xs 1 → Inputs b x y (argument xs)
+inputs_at b xs x y f g = record { first = sym f; second = λ m. sym g }
 
 -- a thread can do this, by another word for it
 pub ready_along : (view : View) (p q : Readiness) (r : said.Readiness) → p ≡ q → IsReady view p r → IsReady view q r

@@ -11,7 +11,7 @@ ghost use Rattle.statements.specs.Variables.{variables_of};
 
 use crate::frames::frames_of;
 use crate::statement::statement_at;
-use crate::variables::{Arguments, look};
+use crate::variables::{Arguments, look, nowhere};
 use builtins::{choice_of, part_of};
 use environments::Environment;
 use oz_base::{Ident, Sequence};
@@ -111,8 +111,8 @@ fn alternative_chosen(
     if arguments.len() != 2 {
         return Ok(nothing(alloc));
     }
-    let number = arguments.at(alloc, 0)?;
-    match choice_of(store, number.variable()) {
+    let missing = nowhere(alloc)?;
+    match choice_of(store, arguments.at(0, &missing)) {
         None => Ok(nothing(alloc)),
         Some(_) => {
             let frames = frames_of_number(alloc, arguments.copy_at(alloc, 1)?, index)?;
@@ -133,9 +133,10 @@ fn alternative_part(
     if arguments.len() != 2 {
         return Ok(nothing(alloc));
     }
-    let rule = arguments.at(alloc, 0)?;
-    let elements = arguments.at(alloc, 1)?;
-    match part_of(alloc, store, index, rule.variable(), elements.variable())? {
+    let missing = nowhere(alloc)?;
+    let rule = arguments.at(0, &missing);
+    let elements = arguments.at(1, &missing);
+    match part_of(alloc, store, index, rule, elements)? {
         None => Ok(nothing(alloc)),
         Some(part) => Ok(Chosen::Tells(part)),
     }
@@ -172,9 +173,10 @@ fn alternative_of_call(
 ) -> Result<Chosen, AllocError>
     ensures { IfOk result (λ a. of_chosen a ≡ alternative_in index (called_offer store.now (bound environment.now procedure) (map (bound environment.now) names.now))) }
 {
-    let procedure = look(alloc, environment, procedure)?;
+    let missing = nowhere(alloc)?;
+    let procedure = look(environment, procedure, &missing);
     let arguments = Arguments::Names { environment, names };
-    alternative_called(alloc, store, procedure.variable(), &arguments, index)
+    alternative_called(alloc, store, procedure, &arguments, index)
 }
 
 /// An alternative of a statement. All but choices and calls have none.

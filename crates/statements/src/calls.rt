@@ -1,5 +1,5 @@
 //! What calls answer.
-ghost use Rattle.std.specs.Prelude.{◌≡◌, ◌<◌, List, length, IfOk, option_copied};
+ghost use Rattle.std.specs.Prelude.{◌≡◌, List, length, IfOk, option_copied};
 ghost use Rattle.environments.specs.Environments.{binding_all};
 ghost use Rattle.oz_language.specs.declared.kernel.Statement.{Statement};
 ghost use Rattle.oz_semantics.specs.Answers.{given};
@@ -9,7 +9,7 @@ ghost use Rattle.builtins.specs.Exact.{answer_of, erased};
 ghost use Rattle.statements.specs.Variables.{variables_of};
 
 use crate::frames::go_on;
-use crate::variables::Arguments;
+use crate::variables::{Arguments, nowhere};
 use builtins::{Answer, answer_given, arguments_of};
 use environments::Environment;
 use oz_base::{Copies, Ident, SpaceName};
@@ -51,13 +51,6 @@ fn procedure_called(
     go_on(alloc, &inside, &procedure.body)
 }
 
-/// A place where there is one, and else the first.
-pub fn place_within(place: usize, count: usize) -> usize
-    ensures { place < count → result ≡ place }
-{
-    if place < count { place } else { 0 }
-}
-
 /// A built-in is called.
 pub fn builtin_called(
     alloc: Global,
@@ -72,18 +65,11 @@ pub fn builtin_called(
     if arguments.len() != count {
         return Ok(Answer::RaisesKind(RaiseKind::Arity));
     }
-    let first = arguments.at(alloc, 0)?;
-    let second = arguments.at(alloc, place_within(1, count))?;
-    let third = arguments.at(alloc, place_within(2, count))?;
-    answer_given(
-        alloc,
-        store,
-        space,
-        builtin,
-        first.variable(),
-        second.variable(),
-        third.variable(),
-    )
+    let missing = nowhere(alloc)?;
+    let first = arguments.at(0, &missing);
+    let second = arguments.at(1, &missing);
+    let third = arguments.at(2, &missing);
+    answer_given(alloc, store, space, builtin, first, second, third)
 }
 
 /// A value is called, if there is one.

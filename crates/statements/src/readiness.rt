@@ -11,9 +11,8 @@ ghost use Rattle.oz_semantics.specs.Readiness.{answer_ready};
 ghost use Rattle.builtins.specs.Answers.{IsReady};
 ghost use Rattle.statements.specs.Variables.{variables_of};
 
-use crate::calls::place_within;
 use crate::statement::statement_at;
-use crate::variables::{Arguments, look};
+use crate::variables::{Arguments, look, nowhere};
 use builtins::{Readiness, arguments_of, ready_by, ready_one};
 use environments::Environment;
 use matching::waits;
@@ -37,16 +36,10 @@ fn ready_builtin(
     if arguments.len() != count {
         return Ok(Readiness::Steps);
     }
-    let first = arguments.at(alloc, 0)?;
-    let second = arguments.at(alloc, place_within(1, count))?;
-    builtins::ready_given(
-        alloc,
-        store,
-        space,
-        builtin,
-        first.variable(),
-        second.variable(),
-    )
+    let missing = nowhere(alloc)?;
+    let first = arguments.at(0, &missing);
+    let second = arguments.at(1, &missing);
+    builtins::ready_given(alloc, store, space, builtin, first, second)
 }
 
 /// The call of a value.
@@ -114,12 +107,13 @@ fn ready_call(
 ) -> Result<Readiness, AllocError>
     ensures { IfOk result (λ r. (statements : List Statement) → IsReady store.now (answer_ready (called (record { statements = statements; space = space.now; view = store.now }) (bound environment.now procedure) (map (bound environment.now) names.now))) r) }
 {
-    let procedure = look(alloc, environment, procedure)?;
+    let missing = nowhere(alloc)?;
+    let procedure = look(environment, procedure, &missing);
     let arguments = Arguments::Names {
         environment,
         names: names.as_slice(),
     };
-    ready_called(alloc, store, space, procedure.variable(), &arguments)
+    ready_called(alloc, store, space, procedure, &arguments)
 }
 
 /// `{'op' X Y ..}`
@@ -155,8 +149,9 @@ fn ready_test(
 ) -> Result<Readiness, AllocError>
     ensures { IfOk result (λ r. (accepted otherwise : List ℕ) → IsReady store.now (answer_ready (with_value store.now (bound environment.now condition) (branch environment.now accepted otherwise))) r) }
 {
-    let condition = look(alloc, environment, condition)?;
-    ready_one(alloc, store, condition.variable())
+    let missing = nowhere(alloc)?;
+    let condition = look(environment, condition, &missing);
+    ready_one(alloc, store, condition)
 }
 
 /// `case X of P then S .. else S .. end`
@@ -169,8 +164,9 @@ fn ready_match(
 ) -> Result<Readiness, AllocError>
     ensures { IfOk result (λ r. (accepted otherwise : List ℕ) → IsReady store.now (answer_ready (clause environment.now accepted otherwise (matched store.now pattern.now (bound environment.now subject ∷ []) environment.now))) r) }
 {
-    let subject = look(alloc, environment, subject)?;
-    let awaited = waits(alloc, store, pattern.as_slice(), subject.variable())?;
+    let missing = nowhere(alloc)?;
+    let subject = look(environment, subject, &missing);
+    let awaited = waits(alloc, store, pattern.as_slice(), subject)?;
     ready_by(alloc, awaited.as_ref())
 }
 

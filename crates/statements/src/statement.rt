@@ -7,7 +7,7 @@ ghost use Rattle.oz_semantics.specs.Answers.{gives_constant, with_value};
 ghost use Rattle.oz_semantics.specs.Builtins.{call_answer};
 ghost use Rattle.oz_semantics.specs.Configurations.{frames_of};
 ghost use Rattle.oz_semantics.specs.Matching.{matched};
-ghost use Rattle.oz_semantics.specs.Statements.{called, branch, clause, record_of, statement_answer, numbered_answer, code_answer};
+ghost use Rattle.oz_semantics.specs.Statements.{called, branch, clause, record_of, statement_answer, code_answer};
 ghost use Rattle.builtins.specs.Answers.{IsAnswer};
 ghost use Rattle.builtins.specs.Exact.{answer_of, erased};
 
@@ -15,7 +15,7 @@ use crate::branches::{match_pattern, test};
 use crate::calls::{builtin_called, called};
 use crate::frames::{frames_of, guard};
 use crate::posting::{posts_sum, posts_times};
-use crate::variables::{Arguments, all_bound, bound, look};
+use crate::variables::{Arguments, all_bound, bound, look, nowhere};
 use builtins::{Act, Answer, Closure, Declaration};
 use environments::Environment;
 use oz_base::{Copies, Ident, Sequence, Shared, SpaceName};
@@ -121,9 +121,10 @@ fn calls(
 ) -> Result<Answer, AllocError>
     ensures { IfOk result (λ a. (statements : List Statement) → answer_of a ≡ erased (called (record { statements = statements; space = space.now; view = store.now }) (bound environment.now procedure) (map (bound environment.now) names.now))) }
 {
-    let procedure = look(alloc, environment, procedure)?;
+    let missing = nowhere(alloc)?;
+    let procedure = look(environment, procedure, &missing);
     let arguments = Arguments::Names { environment, names };
-    called(alloc, store, space, procedure.variable(), &arguments)
+    called(alloc, store, space, procedure, &arguments)
 }
 
 /// `{'op' X Y ..}`
@@ -158,15 +159,9 @@ fn tests(
 ) -> Result<Answer, AllocError>
     ensures { IfOk result (λ a. answer_of a ≡ erased (with_value store.now (bound environment.now condition) (branch environment.now accepted.now otherwise.now))) }
 {
-    let condition = look(alloc, environment, condition)?;
-    test(
-        alloc,
-        store,
-        environment,
-        condition.variable(),
-        accepted,
-        otherwise,
-    )
+    let missing = nowhere(alloc)?;
+    let condition = look(environment, condition, &missing);
+    test(alloc, store, environment, condition, accepted, otherwise)
 }
 
 /// `case X of P then S .. else S .. end`
@@ -181,12 +176,13 @@ fn matches(
 ) -> Result<Answer, AllocError>
     ensures { IfOk result (λ a. answer_of a ≡ erased (clause environment.now accepted.now otherwise.now (matched store.now pattern.now (bound environment.now subject ∷ []) environment.now))) }
 {
-    let subject = look(alloc, environment, subject)?;
+    let missing = nowhere(alloc)?;
+    let subject = look(environment, subject, &missing);
     match_pattern(
         alloc,
         store,
         environment,
-        subject.variable(),
+        subject,
         pattern,
         accepted,
         otherwise,
@@ -313,22 +309,6 @@ fn answer_statement(
     }
 }
 
-/// A statement with a number. One that the program does not have rests.
-fn answer_numbered(
-    alloc: Global,
-    space: &SpaceName,
-    store: &Store,
-    environment: &Environment,
-    statement: Option<&Statement>,
-) -> Result<Answer, AllocError>
-    ensures { IfOk result (λ a. (statements : List Statement) → answer_of a ≡ erased (numbered_answer (record { statements = statements; space = space.now; view = store.now }) environment.now (option_copied statement.entry))) }
-{
-    match statement {
-        None => Ok(Answer::Rests),
-        Some(statement) => answer_statement(alloc, space, store, environment, statement),
-    }
-}
-
 /// The statement with a number, if the program has it.
 pub fn statement_at(statements: &[Statement], number: u32) -> Option<&Statement>
     ensures { option_copied result ≡ slice_get statements.now number }
@@ -346,30 +326,6 @@ fn gives_number(alloc: Global, variable: &Ident, number: u64) -> Result<Answer, 
     }))
 }
 
-fn answer_code(
-    alloc: Global,
-    statements: &[Statement],
-    space: &SpaceName,
-    store: &Store,
-    frame: &Frame,
-) -> Result<Answer, AllocError>
-    ensures { IfOk result (λ a. answer_of a ≡ erased (code_answer (record { statements = statements.now; space = space.now; view = store.now }) frame.now.environment frame.now.code)) }
-{
-    match &frame.code {
-        Code::Statement(number) => {
-            let statement = statement_at(statements, *number);
-            answer_numbered(alloc, space, store, &frame.environment, statement)
-        }
-        Code::Call {
-            procedure,
-            argument,
-        } => { called(alloc, store, space, procedure, &Arguments::One(argument)) }
-        Code::Bind { variable, number } => gives_number(alloc, variable, *number),
-        // A mark that no exception has reached does nothing.
-        Code::Mark { .. } => Ok(Answer::Acts(Act::Passes)),
-    }
-}
-
 /// What the statement on top of a thread's stack answers, in a space that sees this. It refuses where there is no memory.
 #[tactic(auto, using(crate::proofs::CallLaws::is_answer))]
 pub fn answer(
@@ -381,5 +337,20 @@ pub fn answer(
 ) -> Result<Answer, AllocError>
     ensures { IfOk result (IsAnswer (code_answer (record { statements = statements.now; space = space.now; view = store.now }) frame.now.environment frame.now.code)) }
 {
-    answer_code(alloc, statements, space, store, frame)
+    match &frame.code {
+        Code::Statement(number) => match statement_at(statements, *number) {
+            // One that the program does not have rests.
+            None => Ok(Answer::Rests),
+            Some(statement) => {
+                answer_statement(alloc, space, store, &frame.environment, statement)
+            }
+        },
+        Code::Call {
+            procedure,
+            argument,
+        } => called(alloc, store, space, procedure, &Arguments::One(argument)),
+        Code::Bind { variable, number } => gives_number(alloc, variable, *number),
+        // A mark that no exception has reached does nothing.
+        Code::Mark { .. } => Ok(Answer::Acts(Act::Passes)),
+    }
 }

@@ -2,15 +2,15 @@
 ghost use Rattle.std.specs.Prelude.{◌≡◌, ◌∷◌, [], length, map, IfOk};
 ghost use Rattle.environments.specs.Environments.{nowhere, bound};
 ghost use Rattle.oz_semantics.specs.Answers.{argument};
-ghost use Rattle.statements.specs.Variables.{variable_of, variables_of};
+ghost use Rattle.statements.specs.Variables.{variables_of};
 
 use environments::Environment;
 use oz_base::{Copies, Ident, SpaceName};
 use oz_language::Identifier;
 use std::alloc::{AllocError, Global};
 
-/// The variable that an identifier without a variable stands for.
-fn nowhere(alloc: Global) -> Result<Ident, AllocError>
+/// The variable that an identifier without a variable stands for. It takes no memory.
+pub fn nowhere(alloc: Global) -> Result<Ident, AllocError>
     ensures { IfOk result (λ variable. variable ≡ nowhere) }
 {
     Ok(Ident {
@@ -19,7 +19,7 @@ fn nowhere(alloc: Global) -> Result<Ident, AllocError>
     })
 }
 
-/// The variable of an identifier. It refuses where there is no memory, which it needs for one that has no variable alone.
+/// A copy of the variable of an identifier.
 pub fn bound(
     alloc: Global,
     environment: &Environment,
@@ -48,36 +48,14 @@ pub fn all_bound(
     Ok(variables)
 }
 
-/// The variable of an identifier, without a copy of it.
-#[derive(Drop)]
-pub enum Found<'a> {
-    To(&'a Ident),
-    /// The identifier has no variable.
-    Nowhere(Ident),
-}
-
-impl<'a> Found<'a> {
-    pub fn variable(&self) -> &Ident
-        ensures { result.now ≡ variable_of self.now }
-    {
-        match self {
-            Found::To(variable) => variable,
-            Found::Nowhere(variable) => variable,
-        }
-    }
-}
-
-/// The variable of an identifier.
-pub fn look<'a>(
-    alloc: Global,
-    environment: &'a Environment,
-    name: Identifier,
-) -> Result<Found<'a>, AllocError>
-    ensures { IfOk result (λ b. variable_of b ≡ bound environment.now name) }
+/// The variable of an identifier, without a copy of it. The other stands for one that has none.
+pub fn look<'a>(environment: &'a Environment, name: Identifier, missing: &'a Ident) -> &'a Ident
+    requires { missing.now ≡ nowhere }
+    ensures { result.now ≡ bound environment.now name }
 {
     match environment.bound(name) {
-        Some(variable) => Ok(Found::To(variable)),
-        None => Ok(Found::Nowhere(nowhere(alloc)?)),
+        Some(variable) => variable,
+        None => missing,
     }
 }
 
@@ -102,13 +80,16 @@ impl<'a> Arguments<'a> {
         }
     }
 
-    /// The argument at a place, from 0.
-    pub fn at(&self, alloc: Global, place: usize) -> Result<Found<'a>, AllocError>
-        ensures { IfOk result (λ b. variable_of b ≡ argument (variables_of self.now) place) }
+    /// The argument at a place, from 0. The other stands for one that is not there, or has no variable.
+    pub fn at<'b>(&'b self, place: usize, missing: &'b Ident) -> &'b Ident
+        requires { missing.now ≡ nowhere }
+        ensures { result.now ≡ argument (variables_of self.now) place }
     {
         match self {
-            Arguments::Names { environment, names } => name_at(alloc, environment, names, place),
-            Arguments::One(variable) => one_at(alloc, variable, place),
+            Arguments::Names { environment, names } => {
+                name_at(environment, names, place, missing)
+            }
+            Arguments::One(variable) => one_at(variable, place, missing),
         }
     }
 
@@ -116,31 +97,29 @@ impl<'a> Arguments<'a> {
     pub fn copy_at(&self, alloc: Global, place: usize) -> Result<Ident, AllocError>
         ensures { IfOk result (λ x. x ≡ argument (variables_of self.now) place) }
     {
-        let argument = self.at(alloc, place)?;
-        argument.variable().copied(alloc)
+        let missing = nowhere(alloc)?;
+        self.at(place, &missing).copied(alloc)
     }
 }
 
 fn name_at<'a>(
-    alloc: Global,
     environment: &'a Environment,
     names: &[Identifier],
     place: usize,
-) -> Result<Found<'a>, AllocError>
-    ensures { IfOk result (λ b. variable_of b ≡ argument (map (bound environment.now) names.now) place) }
+    missing: &'a Ident,
+) -> &'a Ident
+    requires { missing.now ≡ nowhere }
+    ensures { result.now ≡ argument (map (bound environment.now) names.now) place }
 {
     match names.get(place) {
-        Some(name) => look(alloc, environment, *name),
-        None => Ok(Found::Nowhere(nowhere(alloc)?)),
+        Some(name) => look(environment, *name, missing),
+        None => missing,
     }
 }
 
-fn one_at<'a>(alloc: Global, variable: &'a Ident, place: usize) -> Result<Found<'a>, AllocError>
-    ensures { IfOk result (λ b. variable_of b ≡ argument (variable.now ∷ []) place) }
+fn one_at<'a>(variable: &'a Ident, place: usize, missing: &'a Ident) -> &'a Ident
+    requires { missing.now ≡ nowhere }
+    ensures { result.now ≡ argument (variable.now ∷ []) place }
 {
-    if place == 0 {
-        Ok(Found::To(variable))
-    } else {
-        Ok(Found::Nowhere(nowhere(alloc)?))
-    }
+    if place == 0 { variable } else { missing }
 }

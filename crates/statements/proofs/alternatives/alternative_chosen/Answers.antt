@@ -11,6 +11,6 @@ returns c =
     let xs = variables_of c.args.arguments.now in
     let e : length xs ≡ 2 = sym c.len.ensures ∙ c.if-len-ne2.false in
     let h : Some c.in-Some.field-0 ≡ choice_of view (argument xs 0) =
-    sym c.in-Some.is ∙ c.choice_of.ensures ∙ ap (choice_of view) (c.variable.ensures ∙ c.in_ok-number.ensures)
+    sym c.in-Some.is ∙ c.choice_of.ensures ∙ ap (choice_of view) c.at.ensures
     in
     number_taken view c.args.index xs c.in-Some.field-0 c.in_ok-copy_at-in-Some.field-0 c.in_ok-frames-in-Some.frames.items e h c.in_ok-copy_at-in-Some.ensures c.in_ok-frames-in-Some.ensures

@@ -8,5 +8,5 @@ pub returns : goal.returns
 returns c =
     let xs = map (bound c.args.environment.now) c.args.names.now in
     IfOk-weaker c.alternative_called.result _ _
-    (λ frames h. h ∙ ap (λ x. alternative_in c.args.index (called_offer c.args.store.now x xs)) (c.variable.ensures ∙ c.in_ok-procedure.ensures))
+    (λ frames h. h ∙ ap (λ x. alternative_in c.args.index (called_offer c.args.store.now x xs)) c.look-procedure.ensures)
     c.alternative_called.ensures

@@ -11,8 +11,8 @@ returns-in-None c =
     let xs = variables_of c.args.arguments.now in
     let e : length xs ≡ 2 = sym c.len.ensures ∙ c.if-len-ne2.false in
     let h : None ≡ part_of view c.args.index (argument xs 0) (argument xs 1) =
-    sym c.in-None.is ∙ c.in_ok-part_of.ensures ∙ ap (λ x. part_of view c.args.index x c.variable-2.result.now) (c.variable.ensures ∙ c.in_ok-rule.ensures)
-    ∙ ap (part_of view c.args.index (argument xs 0)) (c.variable-2.ensures ∙ c.in_ok-elements.ensures)
+    sym c.in-None.is ∙ c.in_ok-part_of.ensures ∙ ap (λ x. part_of view c.args.index x c.at-elements.result.now) c.at-rule.ensures
+    ∙ ap (part_of view c.args.index (argument xs 0)) c.at-elements.ensures
     in
     c.nothing-in-None.ensures ∙ no_part view c.args.index xs e h
 
@@ -22,7 +22,7 @@ returns c =
     let xs = variables_of c.args.arguments.now in
     let e : length xs ≡ 2 = sym c.len.ensures ∙ c.if-len-ne2.false in
     let h : Some c.in-Some.part ≡ part_of view c.args.index (argument xs 0) (argument xs 1) =
-    sym c.in-Some.is ∙ c.in_ok-part_of.ensures ∙ ap (λ x. part_of view c.args.index x c.variable-2.result.now) (c.variable.ensures ∙ c.in_ok-rule.ensures)
-    ∙ ap (part_of view c.args.index (argument xs 0)) (c.variable-2.ensures ∙ c.in_ok-elements.ensures)
+    sym c.in-Some.is ∙ c.in_ok-part_of.ensures ∙ ap (λ x. part_of view c.args.index x c.at-elements.result.now) c.at-rule.ensures
+    ∙ ap (part_of view c.args.index (argument xs 0)) c.at-elements.ensures
     in
     part_taken view c.args.index xs c.in-Some.part e h

@@ -19,6 +19,5 @@ returns c =
     said_as (call_answer s b xs) a
     (subst (λ w. IsAnswer w a) (sym (call_is s b xs e))
     (h statements (argument xs)
-    (given_at b xs c.variable.result.now c.variable-2.result.now c.variable-3.result.now c.arguments_of-count.result c.place_within.result c.place_within-2.result c.arguments_of-count.ensures
-    (c.variable.ensures ∙ c.in_ok-first.ensures) c.place_within.ensures (c.variable-2.ensures ∙ c.in_ok-second.ensures) c.place_within-2.ensures (c.variable-3.ensures ∙ c.in_ok-third.ensures)))))
+    (given_at b xs c.at-first.result.now c.at-second.result.now c.at-third.result.now c.at-first.ensures c.at-second.ensures c.at-third.ensures))))
     c.answer_given.ensures

@@ -19,6 +19,5 @@ returns c =
     let s : Sight = record { statements = statements; space = c.args.space.now; view = c.args.store.now } in
     ready_along c.args.store.now _ _ r (sym (ap answer_ready (call_is s b xs e)))
     (h statements (argument xs)
-    (inputs_at b xs c.variable.result.now c.variable-2.result.now c.arguments_of-count.result c.place_within.result c.arguments_of-count.ensures (c.variable.ensures ∙ c.in_ok-first.ensures) c.place_within.ensures
-    (c.variable-2.ensures ∙ c.in_ok-second.ensures))))
+    (inputs_at b xs c.at-first.result.now c.at-second.result.now c.at-first.ensures c.at-second.ensures)))
     c.ready_given.ensures

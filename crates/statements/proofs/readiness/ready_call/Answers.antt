@@ -15,7 +15,7 @@ returns c =
     (λ r h statements.
     let s : Sight = record { statements = statements; space = c.args.space.now; view = c.args.store.now } in
     ready_along c.args.store.now _ _ r
-    (ap (λ x. answer_ready (called s x (map (bound e) c.as_slice.result.now))) (c.variable.ensures ∙ c.in_ok-procedure.ensures)
+    (ap (λ x. answer_ready (called s x (map (bound e) c.as_slice.result.now))) c.look-procedure.ensures
     ∙ ap (λ (ns : List Identifier). answer_ready (called s (bound e c.args.procedure) (map (bound e) ns))) c.as_slice.ensures)
     (h statements))
     c.ready_called.ensures

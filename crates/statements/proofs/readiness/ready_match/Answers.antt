@@ -16,8 +16,8 @@ returns c =
     let e = c.args.environment.now in
     let awaited : option_copied c.as_ref.result ≡ waits_in (matched view c.args.pattern.now (bound e c.args.subject ∷ []) e) =
     c.as_ref.ensures.value ∙ c.in_ok-awaited.ensures e
-    ∙ ap (λ (ps : List Piece). waits_in (matched view ps (c.variable.result.now ∷ []) e)) c.as_slice.ensures
-    ∙ ap (λ x. waits_in (matched view c.args.pattern.now (x ∷ []) e)) (c.variable.ensures ∙ c.in_ok-subject.ensures)
+    ∙ ap (λ (ps : List Piece). waits_in (matched view ps (c.look-subject.result.now ∷ []) e)) c.as_slice.ensures
+    ∙ ap (λ x. waits_in (matched view c.args.pattern.now (x ∷ []) e)) c.look-subject.ensures
     in
     IfOk-weaker c.ready_by.result _ _
     (λ r h accepted otherwise.

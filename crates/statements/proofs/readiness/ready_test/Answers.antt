@@ -13,6 +13,6 @@ returns c =
     let e = c.args.environment.now in
     IfOk-weaker c.ready_one.result _ _
     (λ r h accepted otherwise. ready_along view _ _ r
-    (ap (λ x. awaiting x (value_of view x) Steps) (c.variable.ensures ∙ c.in_ok-condition.ensures) ∙ sym (test_waits view (bound e c.args.condition) e accepted otherwise))
+    (ap (λ x. awaiting x (value_of view x) Steps) c.look-condition.ensures ∙ sym (test_waits view (bound e c.args.condition) e accepted otherwise))
     h)
     c.ready_one.ensures

@@ -10,5 +10,5 @@ returns c =
     let xs = map (bound c.args.environment.now) c.args.names.now in
     IfOk-weaker c.called.result _ _
     (λ a h statements. h statements
-    ∙ ap (λ x. erased (called (record { statements = statements; space = c.args.space.now; view = c.args.store.now }) x xs)) (c.variable.ensures ∙ c.in_ok-procedure.ensures))
+    ∙ ap (λ x. erased (called (record { statements = statements; space = c.args.space.now; view = c.args.store.now }) x xs)) c.look-procedure.ensures)
     c.called.ensures

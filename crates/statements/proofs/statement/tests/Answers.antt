@@ -8,5 +8,5 @@ use Rattle.statements.proofs.statement.tests.Goals as goal
 pub returns : goal.returns
 returns c =
     IfOk-weaker c.test.result _ _
-    (λ a h. h ∙ ap (λ x. erased (with_value c.args.store.now x (branch c.args.environment.now c.args.accepted.now c.args.otherwise.now))) (c.variable.ensures ∙ c.in_ok-condition.ensures))
+    (λ a h. h ∙ ap (λ x. erased (with_value c.args.store.now x (branch c.args.environment.now c.args.accepted.now c.args.otherwise.now))) c.look-condition.ensures)
     c.test.ensures
