@@ -1,6 +1,5 @@
 -- A space that is committed to an alternative and told a bound.
-use Rattle.std.proofs.Common.{◌≡◌, ◌<◌, ℕ, ℤ, ◌<ℤ◌, int_le, Bool, true, false, not, ◌&&◌, ◌||◌, if◌then◌else◌, List, [], ◌∷◌, ◌++◌, length, inl, inr, refl, sym, ap, subst, ◌∙◌, Option, Some, None, Result, Ok, Err, option_to_list, is_some, arith}
-use Rattle.std.specs.Prelude.{OnOk, OnErr}
+use Rattle.std.proofs.Common.{◌≡◌, ◌<◌, ℕ, ℤ, ◌<ℤ◌, int_le, Bool, true, false, not, ◌&&◌, ◌||◌, if◌then◌else◌, List, [], ◌∷◌, ◌++◌, length, inl, inr, refl, sym, ap, subst, ◌∙◌, Option, Some, None, option_to_list, is_some, arith}
 use Rattle.std.proofs.lemmas.Bool.{false≢true}
 use Rattle.std.proofs.lemmas.Int.{ints, clamps}
 use Rattle.std.proofs.lemmas.List.{append-nil}
@@ -196,9 +195,3 @@ kept_below statements space feature b c lower kept =
     let settles =
     top_settles told (without_inconsistent told) (told_top space ts made lower (committed_top statements space b.alternative c.layers (sound_top c.layers kept.sound))) refl in
     subst (IsKept statements) (sym (followed_settles statements c [] told (without_inconsistent told) settles)) (left_kept statements c told good kept.once)
-
--- also where it may be refused
-pub below_kept : {T E : Type 0} (r : Result T E) (statements : List Statement) (space : List ℕ) (feature : Constant) (b : Bounded) (old new : Configuration) → OnOk r (new ≡ chosen_below statements space feature b old)
-    → OnOk r (is_top space ≡ false) → OnErr r (new ≡ old) → IsKept statements old → IsKept statements new
-below_kept (Ok a) statements space feature b old new made lower same kept = subst (IsKept statements) (sym made) (kept_below statements space feature b old lower kept)
-below_kept (Err e) statements space feature b old new made lower same kept = subst (IsKept statements) (sym same) kept

@@ -27,11 +27,11 @@ some_weaker (Some x) P Q f h = f x h
 
 -- what is on top of a stack that declares
 module _ (statements : List Statement) (layers : List Layer) (id : Ident) (names : List Identifier) (body : List ℕ) (d : IsDeclaration statements (stack_of layers id) names body) where
-  abbrev act : answers.Act
+  abbrev pub act : answers.Act
   act = answers.Declares d.frame.environment names body
 
   -- this is what it answers
-  answers_so : stack_answer (sight statements layers id.space) (stack_of layers id) ≡ answers.Acts act
+  pub answers_so : stack_answer (sight statements layers id.space) (stack_of layers id) ≡ answers.Acts act
   answers_so = top_answers (sight statements layers id.space) (stack_of layers id) d.frame d.top ∙ d.answers (sight statements layers id.space) refl
 
 -- and what its step makes

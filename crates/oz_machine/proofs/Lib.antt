@@ -4,6 +4,7 @@ pub mod NeedLaws
 pub mod RestLaws
 pub mod TurnLaws
 pub mod DeclareLaws
+pub mod HeadLaws
 pub mod SearchLaws
 pub mod BoundLaws
 pub mod QuietLaws

@@ -1,6 +1,6 @@
 -- What a thread answers, and turns within a fuel.
 use Rattle.std.proofs.Common.{◌≡◌, ◌∙◌, ◌<◌, ◌≤◌, ℕ, Bool, true, false, List, [], ◌∷◌, drop, Option, Some, None, refl, sym, ap, subst, arith}
-use Rattle.std.specs.Prelude.{Result, Ok, Err, IfOk, if◌then◌else◌, unwrap_or}
+use Rattle.std.specs.Prelude.{Result, Ok, Err, IfOk, if◌then◌else◌}
 use Rattle.std.specs.declared.alloc.AllocError.{AllocError}
 use Rattle.oz_base.specs.Lists.{first}
 use Rattle.oz_semantics.specs.Sights.{Sight, States, Readiness, can_step}
@@ -31,10 +31,10 @@ use Rattle.settle_laws.proofs.TurnLaws.{cost_law}
 use Rattle.oz_machine.specs.declared.course.Due.TheVariants.{Nobody}
 use Rattle.oz_machine.specs.declared.course.Course.{Course}
 use Rattle.oz_machine.specs.Courses.{config_of, stepping}
-use Rattle.oz_semantics.specs.Configurations.{frames_in, in_layer, layer_at, new_layer, stack_of, thread_at, view}
+use Rattle.oz_semantics.specs.Configurations.{in_layer, stack_of, view}
 use Rattle.oz_semantics.specs.Spaces.{sight, states_of, answer_in}
 use Rattle.oz_semantics.specs.declared.configuration.Layer.{Layer}
-use Rattle.oz_machine.specs.Quiet.{able_in, operates, waits, IsHeadAnswer}
+use Rattle.oz_machine.specs.Quiet.{able_in, operates, waits}
 use Rattle.oz_machine.specs.Turns.{cost_of, IsTurn}
 use Rattle.oz_machine.proofs.DoingLaws.{course_view, headed}
 use Rattle.oz_machine.proofs.RestLaws.{rest_stays}
@@ -139,19 +139,6 @@ answer_steps a (Widens ts) h other = ap (λ (b : answers.Answer). can_step (answ
 answer_steps a (Edits edit) h other = ap (λ (b : answers.Answer). can_step (answer_ready b)) h
 answer_steps a (Operates op space x) h other = absurd (cc)
 answer_steps a Rests h other = absurd (cc)
-
--- a thread of a space that is not there rests
-pub nowhere_answers : (statements : List Statement) (layers : List Layer) (id : Ident) → layer_at layers id.space ≡ None
-    → (r : Readiness) × (stack_answer (sight statements layers id.space) (stack_of layers id) ≡ answers.Rests r)
-nowhere_answers statements layers id e =
-    (_, ap (λ (o : Option Layer). stack_answer (sight statements layers id.space) (frames_in (thread_at (unwrap_or o (new_layer id.space)).threads id.number))) e)
-
--- the answer of the one thread in a queue is that of its head
-pub alone_answer : (statements : List Statement) (layers : List Layer) (queue : List Ident) (id : Ident) (answer : Answer) → queue ≡ id ∷ []
-    → IsAnswer (stack_answer (sight statements layers id.space) (stack_of layers id)) answer → IsHeadAnswer statements layers queue (Some answer)
-alone_answer statements layers queue id answer e h other head =
-    let same : id ≡ other = (let said : Some id ≡ Some other = sym (ap first e) ∙ head in cc) in
-    subst (λ (i : Ident). IsAnswer (stack_answer (sight statements layers i.space) (stack_of layers i)) answer) same h
 
 -- by an answer that waits, none can step
 waiting_stays : (s : Sight) (frames : List Frame) (answer : Answer) → IsAnswer (stack_answer s frames) answer → waits answer ≡ true → can_step (answer_ready (stack_answer s frames)) ≡ false

@@ -1,18 +1,19 @@
 -- Steps that told nothing, and the queue after them.
-use Rattle.std.specs.Prelude.{ℕ, ◌≡◌, ◌⊎◌, Bool, true, false, ◌&&◌, if◌then◌else◌, List, [], ◌∷◌, Option, Some, None, map, drop}
+use Rattle.std.specs.Prelude.{ℕ, ◌≡◌, ◌⊎◌, Bool, true, false, ◌&&◌, if◌then◌else◌, List, [], ◌∷◌, Option, Some, None, is_some, map, drop, position}
 use Rattle.std.specs.List.{list_any, list_all}
 use Rattle.oz_base.specs.Lists.{first}
 use Rattle.oz_base.specs.declared.names.Ident.{Ident}
 use Rattle.oz_language.specs.declared.kernel.Identifier.{Identifier}
 use Rattle.oz_language.specs.declared.kernel.Statement.{Statement}
 use Rattle.oz_semantics.specs.Names.{named}
-use Rattle.oz_semantics.specs.Configurations.{is_numbered, layer_of, stack_of}
+use Rattle.oz_semantics.specs.Configurations.{is_of, is_numbered, layer_at, layer_of, stack_of}
 use Rattle.oz_semantics.specs.Sights.{Sight, can_step}
 use Rattle.oz_semantics.specs.Answers as answers
 use Rattle.oz_semantics.specs.Statements.{code_answer, stack_answer}
 use Rattle.oz_semantics.specs.Readiness.{answer_ready}
 use Rattle.oz_semantics.specs.Spaces.{sight}
 use Rattle.oz_semantics.specs.Changes.{Change}
+use Rattle.oz_semantics.specs.declared.configuration.Code.TheVariants as codes
 use Rattle.oz_semantics.specs.declared.configuration.Frame.{Frame}
 use Rattle.oz_semantics.specs.declared.configuration.Thread.{Thread}
 use Rattle.oz_semantics.specs.declared.configuration.Layer.{Layer}
@@ -27,6 +28,8 @@ use Rattle.unneeded_laws.specs.Unneeded.{is_waiting}
 use Rattle.turn_laws.specs.Kept.{IsKept}
 use Rattle.oz_acts.specs.Doings.{is_shown}
 use Rattle.oz_machine.specs.declared.course.Course.{Course}
+use Rattle.oz_machine.specs.declared.head.Head.{Head}
+use Rattle.oz_machine.specs.declared.head.Head.TheVariants.{Unknown, Declares, Answers}
 
 -- whether the statement on top of a thread's stack can step
 abbrev pub top_steps : List Statement → List Layer → Ident → Bool
@@ -49,12 +52,6 @@ IsHead statements id layers queue shown = IsKept statements (record { layers = l
 abbrev pub KeepsHead : List Statement → Ident → Bool → Course → Type 0
 KeepsHead statements id kept c = kept ≡ true → IsHead statements id c.levels (drop 1 c.queue) c.shown
 
--- an answer that was made already is that of the thread at the head
-abbrev pub IsHeadAnswer : List Statement → List Layer → List Ident → Option Answer → Type 0
-IsHeadAnswer statements layers queue None = Unit {0}
-IsHeadAnswer statements layers queue (Some answer) =
-    (id : Ident) → first queue ≡ Some id → IsAnswer (stack_answer (sight statements layers id.space) (stack_of layers id)) answer
-
 -- whatever is seen, a statement on a stack answers that it declares these for the body
 abbrev pub AnswersDeclaration : List Statement → Frame → List Identifier → List ℕ → Type 0
 AnswersDeclaration statements frame names body =
@@ -65,6 +62,31 @@ pub record IsDeclaration (statements : List Statement) (stack : List Frame) (nam
   pub frame : Frame
   pub top : Some frame ≡ first stack
   pub answers : AnswersDeclaration statements frame names body
+
+-- a statement on a stack is the one with this number
+abbrev pub IsNumbered : Frame → ℕ → Type 0
+IsNumbered frame number = frame.code ≡ codes.Statement number
+
+-- and a declaration
+pub record IsDeclaring (statements : List Statement) (frame : Frame) (number : ℕ) : Type 0 where
+  pub numbered : IsNumbered frame number
+  pub names : List Identifier
+  pub body : List ℕ
+  pub answers : AnswersDeclaration statements frame names body
+
+-- the one with this number is on top of a stack
+pub record Stands (stack : List Frame) (number : ℕ) : Type 0 where
+  pub frame : Frame
+  pub top : Some frame ≡ first stack
+  pub numbered : IsNumbered frame number
+
+-- what was found of the thread at the head is so: which statement is on top of its stack, or what that answers; its space is there, at this place
+abbrev pub IsHeadAnswer : List Statement → List Layer → List Ident → Head → Type 0
+IsHeadAnswer statements layers queue Unknown = Unit {0}
+IsHeadAnswer statements layers queue (Declares number) =
+    (id : Ident) → first queue ≡ Some id → (is_some (layer_at layers id.space) ≡ true) × Stands (stack_of layers id) number
+IsHeadAnswer statements layers queue (Answers place answer) =
+    (id : Ident) → first queue ≡ Some id → (Some place ≡ position (is_of id.space) layers) × IsAnswer (stack_answer (sight statements layers id.space) (stack_of layers id)) answer
 
 -- no space is a value, and where a by-need computation has not begun none of these threads waits for a variable
 pub record AreSpaceless (statements : List Statement) (layers : List Layer) (ids : List Ident) : Type 0 where

@@ -182,15 +182,15 @@ fn committed_below(
     space: &SpaceName,
     feature: Constant,
     branch: Bounded,
-    levels: &Levels,
+    levels: Levels,
 ) -> Result<Levels, AllocError>
-    ensures settles { IfOk result (λ left. Settles [] (told_below space.now feature branch.bound (committed statements.now space.now branch.alternative levels.now)) left) }
+    ensures settles { IfOk result (λ left. Settles [] (told_below space.now feature branch.bound (committed statements.now space.now branch.alternative levels)) left) }
     ensures lower { OnOk result (is_top space.now ≡ false) }
 {
     if space.is_top() {
         return Err(AllocError);
     }
-    let mut left = levels.copied(alloc)?;
+    let mut left = levels;
     commit_in(
         alloc,
         statements,
@@ -202,26 +202,36 @@ fn committed_below(
     Ok(left)
 }
 
-/// Commits a space that offers alternatives to the one of a branch, and tells it that its cost is below the bound, if there is one: where
-/// no value is left, the space fails. It refuses for want of memory, and a space that is the top or has ended.
+/// The course, where a space that offers alternatives was committed to the one of a branch, and told that its cost is below the bound, if
+/// there is one: where no value is left, the space fails. It refuses for want of memory, and a space that is the top or has ended.
 pub fn commit_below(
     alloc: Global,
     statements: &[Statement],
     space: &SpaceName,
     feature: Constant,
     branch: Bounded,
-    course: &mut Course,
+    mut course: Course,
     sleeping: &mut Sleeping,
-) -> Result<(), AllocError>
-    requires asleep { Sleeps statements.now sleeping.old course.old }
-    ensures commit { OnOk result (config_of statements.now course.new ≡ chosen_below statements.now space.now feature branch (config_of statements.now course.old)) }
+) -> Result<Course, AllocError>
+    requires asleep { Sleeps statements.now sleeping.old course }
+    ensures commit { IfOk result (λ after. config_of statements.now after ≡ chosen_below statements.now space.now feature branch (config_of statements.now course)) }
     ensures lower { OnOk result (is_top space.now ≡ false) }
-    ensures err { OnErr result (config_of statements.now course.new ≡ config_of statements.now course.old) }
-    ensures asleep { Sleeps statements.now sleeping.new course.new }
+    ensures asleep { IfOk result (Sleeps statements.now sleeping.new) }
 {
-    settle_only(alloc, statements, course, sleeping)?;
-    let left = committed_below(alloc, statements, space, feature, branch, &course.levels)?;
-    course.levels = left;
-    follow_edit(course);
-    Ok(())
+    settle_only(alloc, statements, &mut course, sleeping)?;
+    let Course {
+        levels,
+        queue,
+        due,
+        shown,
+    } = course;
+    let levels = committed_below(alloc, statements, space, feature, branch, levels)?;
+    let mut after = Course {
+        levels,
+        queue,
+        due,
+        shown,
+    };
+    follow_edit(&mut after);
+    Ok(after)
 }

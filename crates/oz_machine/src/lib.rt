@@ -8,6 +8,7 @@ mod declarations;
 mod editing;
 mod following;
 mod foreseeing;
+mod head;
 mod machine;
 mod opening;
 mod propagating;

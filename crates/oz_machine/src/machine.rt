@@ -182,28 +182,42 @@ impl Machine {
         searching::commit(alloc, statements, space, index, course, sleeping)
     }
 
-    /// Commits a space that offers alternatives to the one of a branch, and tells it that its cost, the field of its root variable at the
-    /// feature, is below the bound, if there is one: where no value is left, the space fails. It refuses for want of memory, and a space
-    /// that is the top, has ended or is not there: then nothing changes.
+    /// The machine, where a space that offers alternatives was committed to the one of a branch, and told that its cost, the field of its
+    /// root variable at the feature, is below the bound, if there is one: where no value is left, the space fails. It refuses for want of
+    /// memory, and a space that is the top, has ended or is not there: then the machine is gone, so that nothing has to be copied to go
+    /// back to.
     pub fn commit_below(
-        &mut self,
+        self,
         alloc: Global,
         space: &SpaceName,
         feature: Constant,
         branch: Bounded,
-    ) -> Result<(), AllocError>
-        ensures commit { OnOk result (self.new.config ≡ chosen_below self.old.kernel.statements space.now feature branch self.old.config) }
-        ensures kernel { OnOk result (self.new.kernel ≡ self.old.kernel) }
-        ensures err { OnErr result (self.new ≡ self.old) }
+    ) -> Result<Machine, AllocError>
+        ensures commit { IfOk result (λ after. after.config ≡ chosen_below self.kernel.statements space.now feature branch self.config) }
+        ensures kernel { IfOk result (λ after. after.kernel ≡ self.kernel) }
     {
         let Machine {
             kernel,
             course,
-            sleeping,
-            ..
+            kept,
+            mut sleeping,
         } = self;
         let statements = kernel.get().statements.as_slice();
-        bounding::commit_below(alloc, statements, space, feature, branch, course, sleeping)
+        let course = bounding::commit_below(
+            alloc,
+            statements,
+            space,
+            feature,
+            branch,
+            course,
+            &mut sleeping,
+        )?;
+        Ok(Machine {
+            kernel,
+            course,
+            kept,
+            sleeping,
+        })
     }
 
     /// The integer at a feature of the space's root variable, as the space sees it, if there is one. It refuses for want of memory, and

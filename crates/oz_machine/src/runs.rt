@@ -11,13 +11,14 @@ ghost use Rattle.oz_machine.specs.declared.course.Due.TheVariants.{Nobody};
 ghost use Rattle.oz_machine.specs.Asleep.{Sleeps};
 
 use crate::course::Course;
+use crate::head::Head;
 use crate::settling::settle;
 use crate::turn::turn;
-use builtins::Answer;
 use oz_base::{Ident, SpaceName};
 use oz_language::{Kernel, Statement};
 use oz_semantics::{State, Stepped};
 use oz_sleep::Sleeping;
+use oz_threads::Queue;
 use stability::{is_due_below, space_state};
 use std::alloc::{AllocError, Global};
 
@@ -51,11 +52,21 @@ fn ended(
     Ok(Ran::Ended { state, steps })
 }
 
+/// Whether a thread of the space or below it is in the queue. Below the top they all are.
+fn is_queued_below(queue: &Queue, space: &SpaceName) -> bool
+    ensures { result ≡ list_any (λ id. is_below space.now id.space) queue.now }
+{
+    if space.is_top() {
+        return queue.len() != 0;
+    }
+    queue.any_below(space)
+}
+
 /// Whether a thread of the space or below it is in the queue, or a propagator there is due.
 fn is_moving(course: &Course, space: &SpaceName) -> bool
     ensures { result ≡ (list_any (λ id. is_below space.now id.space) course.now.queue || is_due_below course.now.levels space.now) }
 {
-    if course.queue.any_below(space) {
+    if is_queued_below(&course.queue, space) {
         return true;
     }
     is_due_below(&course.levels, space)
@@ -82,7 +93,7 @@ fn goes_on(
 fn run_turns(
     alloc: Global,
     kernel: &Kernel,
-    answered: &mut Option<Answer>,
+    answered: &mut Head,
     course: &mut Course,
     kept: &mut bool,
     sleeping: &mut Sleeping,
@@ -139,7 +150,7 @@ pub fn run(
     ensures err { OnErr result (IsLeftOff kernel.now space.now fuel (config_of kernel.now.statements course.old) (config_of kernel.now.statements course.new)) }
     ensures asleep { Sleeps kernel.now.statements sleeping.new course.new }
 {
-    let mut answered = None;
+    let mut answered = Head::Unknown;
     run_turns(
         alloc,
         kernel,

@@ -1,11 +1,14 @@
 //! What comes before each step: those who are due are asked whether they can step.
-ghost use Rattle.std.specs.Prelude.{◌≡◌, ◌<◌, ◌++◌, ◌∷◌, [], true, map, None, Some, length, position, option_copied, option_to_list, IfOk, OnOk, OnErr};
+ghost use Rattle.std.specs.Prelude.{◌≡◌, ◌<◌, ◌++◌, ◌∷◌, [], true, map, Some, length, position, option_copied, option_to_list, IfOk, OnOk, OnErr};
 ghost use Rattle.oz_semantics.specs.Configurations.{is_of, stack_of};
 ghost use Rattle.oz_semantics.specs.Settling.{runnable, queue_after};
 ghost use Rattle.oz_semantics.specs.Spaces.{sight};
 ghost use Rattle.oz_semantics.specs.Statements.{stack_answer};
 ghost use Rattle.builtins.specs.Answers.{IsAnswer};
 ghost use Rattle.oz_machine.specs.declared.course.Due.TheVariants.{Nobody};
+ghost use Rattle.oz_machine.specs.declared.head.Head.TheVariants.{Answers, Unknown};
+ghost use Rattle.builtins.specs.declared.answer.Answer as builtin;
+ghost use Rattle.oz_base.specs.Lists.{first};
 ghost use Rattle.oz_semantics.specs.Names.{named};
 ghost use Rattle.sleep_laws.specs.Woken.{told_queue};
 ghost use Rattle.oz_machine.specs.Asleep.{AreLaidBut, Sleeps};
@@ -15,10 +18,12 @@ ghost use Rattle.oz_machine.specs.Courses.{asked, config_of, layers_after};
 ghost use Rattle.oz_machine.specs.Quiet.{top_steps, able_in, waits, IsHeadAnswer};
 
 use crate::course::{Course, Due};
-use crate::declarations::declares;
+use crate::declarations::declaring;
+use crate::head::{Head, note};
 use builtins::Answer;
 use oz_base::{Copies, Ident};
 use oz_language::Statement;
+use oz_semantics::Frame;
 use oz_sleep::{Sleeping, ask_told};
 use oz_threads::{Queue, is_step};
 use space_core::Levels;
@@ -42,21 +47,6 @@ pub fn top_answer(
         None => Ok(Answer::Rests),
         Some(frame) => answer(alloc, statements, &id.space, levels.store_at(place), frame),
     }
-}
-
-/// What the statement on top of a thread's stack answers.
-fn thread_answer(
-    alloc: Global,
-    statements: &[Statement],
-    levels: &Levels,
-    id: &Ident,
-) -> Result<Answer, AllocError>
-    ensures { IfOk result (IsAnswer (stack_answer (sight statements.now levels.now id.now.space) (stack_of levels.now id.now))) }
-{
-    let Some(place) = levels.place(&id.space) else {
-        return Ok(Answer::Rests);
-    };
-    top_answer(alloc, statements, levels, place, id)
 }
 
 /// Whether the statement on top of the stack of a thread can step, of the space at a place.
@@ -157,26 +147,55 @@ fn waits(answer: &Answer) -> bool
     }
 }
 
-/// A thread joins the queue, in which no other is, if it can step. Its answer is left in `answered`, but that of a declaration.
+/// What the statement on top of a thread's stack answers is left in `answered`. Whether the thread can't step by that alone.
+fn note_answer(
+    alloc: Global,
+    statements: &[Statement],
+    levels: &Levels,
+    place: usize,
+    id: &Ident,
+    frame: &Frame,
+    answered: &mut Head,
+) -> Result<bool, AllocError>
+    requires within { place < length levels.now }
+    requires place { Some place ≡ position (is_of id.now.space) levels.now }
+    requires top { Some frame.now ≡ first (stack_of levels.now id.now) }
+    ensures { IfOk result (λ waiting. (a : builtin.Answer) × (answered.new ≡ Answers place a)
+        × IsAnswer (stack_answer (sight statements.now levels.now id.now.space) (stack_of levels.now id.now)) a × (waiting ≡ waits a)) }
+{
+    let answer = answer(alloc, statements, &id.space, levels.store_at(place), frame)?;
+    let waiting = waits(&answer);
+    note(answered, Head::Answers { place, answer });
+    Ok(waiting)
+}
+
+/// A thread joins the queue, in which no other is, if it can step. What its statement does is left in `answered`.
 fn join_alone(
     alloc: Global,
     statements: &[Statement],
     levels: &Levels,
     id: &Ident,
     queue: &mut Queue,
-    answered: &mut Option<Answer>,
+    answered: &mut Head,
 ) -> Result<(), AllocError>
     requires queue { queue.old ≡ [] }
-    requires answered { answered.old ≡ None }
+    requires answered { answered.old ≡ Unknown }
     ensures ok { OnOk result (queue.new ≡ queue.old ++ able_in statements.now levels.now id.now) }
     ensures answer { OnOk result (IsHeadAnswer statements.now levels.now queue.new answered.new) }
     ensures err { OnErr result (queue.new ≡ queue.old) }
 {
-    if declares(statements, levels, id) {
-        return queue.push(id.copied(alloc)?);
+    let Some(place) = levels.place(&id.space) else {
+        return Ok(());
+    };
+    let Some(frame) = levels.top_frame(id) else {
+        return Ok(());
+    };
+    if let Some(number) = declaring(statements, frame) {
+        note(answered, Head::Declares { number });
+        queue.push(id.copied(alloc)?)?;
+        return Ok(());
     }
-    let answer = answered.insert(thread_answer(alloc, statements, levels, id)?);
-    if waits(answer) {
+    if note_answer(alloc, statements, levels, place, id, frame, answered)? {
         return Ok(());
     }
     queue.push(id.copied(alloc)?)?;
@@ -198,17 +217,17 @@ fn requeue(
     queue.requeue(alloc, &ids, mover)
 }
 
-/// A thread joins the end of the queue, if it can step. Its answer is left in `answered`, where no other was in the queue and it is a
-/// step.
+/// A thread joins the end of the queue, if it can step. What its statement does is left in
+/// `answered`, where no other was in the queue and it joins.
 fn join_mover(
     alloc: Global,
     statements: &[Statement],
     levels: &Levels,
     id: &Ident,
     queue: &mut Queue,
-    answered: &mut Option<Answer>,
+    answered: &mut Head,
 ) -> Result<(), AllocError>
-    requires { answered.old ≡ None }
+    requires { answered.old ≡ Unknown }
     ensures ok { OnOk result (queue.new ≡ queue.old ++ able_in statements.now levels.now id.now) }
     ensures answer { OnOk result (IsHeadAnswer statements.now levels.now queue.new answered.new) }
     ensures err { OnErr result (queue.new ≡ queue.old) }
@@ -227,10 +246,10 @@ fn join_or_sleep(
     levels: &Levels,
     id: &Ident,
     queue: &mut Queue,
-    answered: &mut Option<Answer>,
+    answered: &mut Head,
     sleeping: &mut Sleeping,
 ) -> Result<(), AllocError>
-    requires answered { answered.old ≡ None }
+    requires answered { answered.old ≡ Unknown }
     requires asleep { Lays statements.now levels.now sleeping.old (queue.old ++ id.now ∷ []) }
     ensures ok { OnOk result (queue.new ≡ queue.old ++ able_in statements.now levels.now id.now) }
     ensures answer { OnOk result (IsHeadAnswer statements.now levels.now queue.new answered.new) }
@@ -282,10 +301,10 @@ fn join_told(
     mover: &Ident,
     woken: &[u64],
     queue: &mut Queue,
-    answered: &mut Option<Answer>,
+    answered: &mut Head,
     sleeping: &mut Sleeping,
 ) -> Result<(), AllocError>
-    requires answered { answered.old ≡ None }
+    requires answered { answered.old ≡ Unknown }
     requires asleep { Lays statements.now levels.now sleeping.old (queue.old ++ mover.now ∷ map (named mover.now.space) woken.now) }
     ensures ok { OnOk result (queue.new ≡ told_queue statements.now levels.now mover.now woken.now queue.old) }
     ensures answer { OnOk result (IsHeadAnswer statements.now levels.now queue.new answered.new) }
@@ -329,10 +348,10 @@ fn ask(
     levels: &Levels,
     due: &Due,
     queue: &mut Queue,
-    answered: &mut Option<Answer>,
+    answered: &mut Head,
     sleeping: &mut Sleeping,
 ) -> Result<(), AllocError>
-    requires answered { answered.old ≡ None }
+    requires answered { answered.old ≡ Unknown }
     requires begun { layers_after statements.now levels.now due.now ≡ levels.now }
     requires asleep { sleeping.old.known ≡ true → AreLaidBut statements.now levels.now sleeping.old due.now queue.old }
     ensures ok { OnOk result (queue.new ≡ asked statements.now levels.now due.now queue.old) }
@@ -402,7 +421,7 @@ pub fn settle(
     alloc: Global,
     statements: &[Statement],
     course: &mut Course,
-    answered: &mut Option<Answer>,
+    answered: &mut Head,
     sleeping: &mut Sleeping,
 ) -> Result<(), AllocError>
     requires asleep { Sleeps statements.now sleeping.old course.old }
@@ -411,7 +430,7 @@ pub fn settle(
     ensures asleep { Sleeps statements.now sleeping.new course.new }
     ensures answer { OnOk result (IsHeadAnswer statements.now course.new.levels course.new.queue answered.new) }
 {
-    *answered = None;
+    *answered = Head::Unknown;
     begin_needed(alloc, statements, course)?;
     ask(
         alloc,
@@ -438,6 +457,6 @@ pub fn settle_only(
     ensures due { OnOk result (course.new.due ≡ Nobody) }
     ensures asleep { Sleeps statements.now sleeping.new course.new }
 {
-    let mut answered = None;
+    let mut answered = Head::Unknown;
     settle(alloc, statements, course, &mut answered, sleeping)
 }

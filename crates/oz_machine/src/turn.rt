@@ -18,15 +18,16 @@ ghost use Rattle.builtins.specs.declared.answer.Answer;
 ghost use Rattle.oz_machine.specs.declared.course.Due.TheVariants.{Nobody};
 ghost use Rattle.oz_machine.specs.Courses.{config_of, stepping, Keeps};
 ghost use Rattle.oz_acts.specs.Doings.{is_shown};
-ghost use Rattle.oz_machine.specs.Quiet.{IsDeclaration, IsHeadAnswer, KeepsHead, operates, shows};
+ghost use Rattle.oz_machine.specs.Quiet.{IsDeclaration, IsHeadAnswer, KeepsHead, Stands, operates, shows};
 ghost use Rattle.oz_machine.specs.Turns.{cost_of, CostsWithin, HasNotEnded, IsTurn};
 ghost use Rattle.oz_machine.specs.Asleep.{Pends, Sleeps};
 
 use crate::course::Course;
-use crate::declarations::declaration;
+use crate::declarations::{declaration, declaration_at};
 use crate::editing::edit;
 use crate::following::{follow, go_on};
 use crate::foreseeing::{foreseen, gives_out, is_known_lowest, is_known_quiet, is_known_still};
+use crate::head::Head;
 use crate::propagating::propagate;
 use crate::quiet::go_on_quietly;
 use crate::raising::{clash, raise, raise_kind};
@@ -557,13 +558,69 @@ fn step_answered(
     )
 }
 
-/// A step of the thread at the head of the queue. Its answer was made already, or it is made now. None exactly where the step costs more
-/// than the fuel: it is not made, and nothing changes.
+/// A step of the thread at the head of the queue, of which nothing is known. It can't step where its space is not there.
+fn step_unknown(
+    alloc: Global,
+    kernel: &Kernel,
+    id: &Ident,
+    kept: bool,
+    sleeping: &mut Sleeping,
+    course: &mut Course,
+    fuel: u64,
+) -> Result<Option<Stepped>, AllocError>
+    requires head { first course.old.queue ≡ Some id.now }
+    requires kept { KeepsHead kernel.now.statements id.now kept course.old }
+    requires fuel { 1 ≤ fuel }
+    requires asleep { Pends kernel.now.statements sleeping.old course.old }
+    ensures turn { IfOk result (IsTurn (stepped kernel.now id.now (stepping course.old)) fuel (config_of kernel.now.statements course.old) (config_of kernel.now.statements course.new)) }
+    ensures cost { IfOk result (λ turned. IfSome turned (CostsWithin fuel)) }
+    ensures err { OnErr result (course.new ≡ course.old) }
+    ensures asleep { Sleeps kernel.now.statements sleeping.new course.new }
+{
+    let Some(place) = course.levels.place(&id.space) else {
+        course.levels.consistent();
+        return Ok(Some(follow(1, course)));
+    };
+    step_anew(alloc, kernel, place, id, kept, sleeping, course, fuel)
+}
+
+/// A step of the thread at the head of the queue, on top of whose stack stands the declaration with a number.
+fn step_declaring(
+    alloc: Global,
+    kernel: &Kernel,
+    number: u32,
+    id: &Ident,
+    kept: bool,
+    sleeping: &mut Sleeping,
+    course: &mut Course,
+    fuel: u64,
+) -> Result<Option<Stepped>, AllocError>
+    requires head { first course.old.queue ≡ Some id.now }
+    requires there { is_some (layer_at course.old.levels id.now.space) ≡ true }
+    requires stands { Stands (stack_of course.old.levels id.now) number }
+    requires kept { KeepsHead kernel.now.statements id.now kept course.old }
+    requires fuel { 1 ≤ fuel }
+    requires asleep { Pends kernel.now.statements sleeping.old course.old }
+    ensures turn { IfOk result (IsTurn (stepped kernel.now id.now (stepping course.old)) fuel (config_of kernel.now.statements course.old) (config_of kernel.now.statements course.new)) }
+    ensures cost { IfOk result (λ turned. IfSome turned (CostsWithin fuel)) }
+    ensures err { OnErr result (course.new ≡ course.old) }
+    ensures asleep { Sleeps kernel.now.statements sleeping.new course.new }
+{
+    match declaration_at(kernel.statements.as_slice(), number) {
+        None => step_unknown(alloc, kernel, id, kept, sleeping, course, fuel),
+        Some((names, body)) => Ok(Some(declare(
+            alloc, kernel, id, names, body, kept, sleeping, course,
+        )?)),
+    }
+}
+
+/// A step of the thread at the head of the queue. What its statement does was found already, or it is found now. None exactly where the
+/// step costs more than the fuel: it is not made, and nothing changes.
 fn step_of(
     alloc: Global,
     kernel: &Kernel,
     id: &Ident,
-    answered: &mut Option<Answer>,
+    answered: &mut Head,
     kept: bool,
     sleeping: &mut Sleeping,
     course: &mut Course,
@@ -579,15 +636,14 @@ fn step_of(
     ensures err { OnErr result (course.new ≡ course.old) }
     ensures asleep { Sleeps kernel.now.statements sleeping.new course.new }
 {
-    let Some(place) = course.levels.place(&id.space) else {
-        course.levels.consistent();
-        return Ok(Some(follow(1, course)));
-    };
     match answered {
-        Some(answer) => step_answered(
-            alloc, kernel, place, id, answer, kept, sleeping, course, fuel,
+        Head::Unknown => step_unknown(alloc, kernel, id, kept, sleeping, course, fuel),
+        Head::Declares { number } => {
+            step_declaring(alloc, kernel, *number, id, kept, sleeping, course, fuel)
+        }
+        Head::Answers { place, answer } => step_answered(
+            alloc, kernel, *place, id, answer, kept, sleeping, course, fuel,
         ),
-        None => step_anew(alloc, kernel, place, id, kept, sleeping, course, fuel),
     }
 }
 
@@ -595,7 +651,7 @@ fn step_of(
 fn take_step(
     alloc: Global,
     kernel: &Kernel,
-    answered: &mut Option<Answer>,
+    answered: &mut Head,
     kept: bool,
     sleeping: &mut Sleeping,
     course: &mut Course,
@@ -645,7 +701,7 @@ fn take_run(
 fn take_turn(
     alloc: Global,
     kernel: &Kernel,
-    answered: &mut Option<Answer>,
+    answered: &mut Head,
     kept: bool,
     sleeping: &mut Sleeping,
     course: &mut Course,
@@ -683,7 +739,7 @@ fn is_still_kept(was: bool, turned: &Option<Stepped>) -> bool
 pub fn turn(
     alloc: Global,
     kernel: &Kernel,
-    answered: &mut Option<Answer>,
+    answered: &mut Head,
     course: &mut Course,
     kept: &mut bool,
     sleeping: &mut Sleeping,
@@ -724,7 +780,7 @@ fn turn_anew(
     ensures err { OnErr result (course.new ≡ course.old) }
     ensures asleep { Sleeps kernel.now.statements sleeping.new course.new }
 {
-    let mut answered = None;
+    let mut answered = Head::Unknown;
     turn(alloc, kernel, &mut answered, course, kept, sleeping, fuel)
 }
 

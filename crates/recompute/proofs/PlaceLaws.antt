@@ -1,5 +1,6 @@
 -- Nodes at their paths, and what is at the paths that go on from them.
-use Rattle.std.proofs.Common.{◌≡◌, ℕ, suc, ◌+◌, Bool, true, false, cond, List, [], ◌∷◌, ◌++◌, length, length-append, Option, Some, None, refl, sym, ap, subst, arith, ◌∙◌}
+use Rattle.std.proofs.Common.{◌≡◌, ℕ, suc, ◌+◌, Bool, true, false, cond, List, [], ◌∷◌, ◌++◌, length, length-append, Option, Some, None, Result, IfOk, refl, sym, ap, subst, arith, ◌∙◌}
+use Rattle.std.proofs.lemmas.Result.{IfOk-weaker}
 use Rattle.oz_machine.specs.Courses.{Loaded}
 use Rattle.oz_search.specs.Searches.{Search}
 use Rattle.oz_search.specs.Nodes.{Reached, Maker, IsMaker, Met, Node, NotANode, met_last, met_by_kind, met_next}
@@ -8,7 +9,7 @@ use Rattle.oz_search.specs.declared.tree.Kind.{Kind}
 use Rattle.oz_search.specs.declared.tree.Kind.TheVariants.{Alternatives, End}
 use Rattle.oz_semantics.specs.declared.configuration.Configuration.{Configuration}
 use Rattle.recompute.specs.Origins.{Origin, met_by}
-use Rattle.recompute.specs.Places.{StandsAt}
+use Rattle.recompute.specs.Places.{StandsAt, OpensAt}
 use Rattle.recompute.specs.Ways.{reached, offers, MakesNode, Opens, met_behind, answer_of}
 use Rattle.recompute.specs.declared.explorer.Solved.TheVariants as solved
 use Rattle.recompute.specs.declared.waypoint.Waypoint.{Waypoint}
@@ -105,3 +106,14 @@ module _ {B L : Type 0} (k : Search B L) (m : Maker B L Configuration) where
   child_refused o b p x stands opens =
       ap (λ (n : ℕ). solved.NotANode n) (sym (length_child p b))
       ∙ sym (ap answer_of (behind_standing o p (b ∷ []) x stands ∙ refused k m o.budget (length p) x b [] opens))
+
+-- what was opened of a node that stands at a path was opened there
+pub opens_there : {T B L E : Type 0} (k : Search B L) (maker : T → Maker B L Configuration) (o : Origin) (p q : List B) (x : Waypoint B L) (b : B) (source start : T) (r : Result (Option Loaded) E)
+    → source ≡ start → p ≡ q → StandsAt k (maker start) o p x → IfOk r (Opens k (maker source) x b) → IfOk r (OpensAt k (maker start) o q b)
+opens_there {T} {B} k maker o p q x b source start r same view stands =
+    IfOk-weaker r (Opens k (maker source) x b) (OpensAt k (maker start) o q b)
+    (λ d opens. record {
+      node = x;
+      stands = subst (λ (y : List B). StandsAt k (maker start) o y x) view stands;
+      opens = subst (λ (s : T). Opens k (maker s) x b d) same opens;
+    })

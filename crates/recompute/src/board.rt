@@ -3,17 +3,16 @@ ghost use Rattle.std.specs.Prelude.{◌≡◌, ◌<◌, Some, length, slice_get,
 ghost use Rattle.std.specs.List.Sorted.{IsSearchInRange};
 ghost use Rattle.oz_search.specs.Paths.{path_cmp};
 
-use crate::placed::{Placed, Start};
+use crate::placed::{Choice, Start};
 use crate::source::Source;
 use node_pool::SearchKind;
-use oz_base::{Copies, Shared};
 use std::alloc::{AllocError, Global};
 use std::cmp::Ordering;
 
 /// A choice, and how many of its alternatives are still to be taken.
 #[derive(Drop)]
 struct Entry<T: Source, S: Start<T>> {
-    choice: Shared<Placed<T, S>>,
+    choice: Choice<T, S>,
     left: u32,
 }
 
@@ -30,7 +29,7 @@ fn order<T: Source, S: Start<T>>(
 ) -> Ordering
     ensures { result ≡ path_cmp T.Kind.search entry.now.choice path.now }
 {
-    entry.choice.get().path().compared(path)
+    entry.choice.path().compared(path)
 }
 
 /// Where the choice at this path stands, or where it would.
@@ -69,9 +68,9 @@ impl<T: Source, S: Start<T>> Board<T, S> {
     }
 
     /// Puts a choice there, all of whose alternatives are to be taken.
-    pub fn put(&mut self, choice: Shared<Placed<T, S>>) -> Result<(), AllocError> {
-        let left = choice.get().count();
-        let at = match place(self.entries.as_slice(), choice.get().path().as_slice()) {
+    pub fn put(&mut self, choice: Choice<T, S>) -> Result<(), AllocError> {
+        let left = choice.count();
+        let at = match place(self.entries.as_slice(), choice.path().as_slice()) {
             Ok(at) => at,
             Err(at) => at,
         };
@@ -84,9 +83,8 @@ impl<T: Source, S: Start<T>> Board<T, S> {
     /// The choice at this path, for one of its alternatives, if it is there.
     pub fn take(
         &mut self,
-        alloc: Global,
         path: &[<T::Kind as SearchKind>::Branch],
-    ) -> Result<Option<Shared<Placed<T, S>>>, AllocError>
+    ) -> Result<Option<Choice<T, S>>, AllocError>
         ensures { IfOk result (λ found. IfSome found (λ choice. choice ≡ path.now)) }
     {
         let Some(at) = place_of(self.entries.as_slice(), path) else {
@@ -97,7 +95,7 @@ impl<T: Source, S: Start<T>> Board<T, S> {
             return Ok(Some(choice));
         }
         self.entries[at].left -= 1;
-        let choice = self.entries[at].choice.copied(alloc)?;
+        let choice = self.entries[at].choice.again()?;
         Ok(Some(choice))
     }
 }

@@ -93,8 +93,8 @@ impl Source for FrozenBest {
         &self,
         alloc: Global,
         branch: Bounded,
-        machine: &mut Machine,
-    ) -> Result<(), AllocError> {
+        machine: Machine,
+    ) -> Result<Machine, AllocError> {
         machine.commit_below(alloc, self.frozen.space(), self.feature, branch)
     }
 

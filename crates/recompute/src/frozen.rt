@@ -66,8 +66,14 @@ impl Source for Frozen {
         self
     }
 
-    fn commit(&self, alloc: Global, branch: u32, machine: &mut Machine) -> Result<(), AllocError> {
-        machine.commit(alloc, &self.space, branch as u64)
+    fn commit(
+        &self,
+        alloc: Global,
+        branch: u32,
+        mut machine: Machine,
+    ) -> Result<Machine, AllocError> {
+        machine.commit(alloc, &self.space, branch as u64)?;
+        Ok(machine)
     }
 
     fn run(

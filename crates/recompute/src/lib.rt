@@ -13,5 +13,5 @@ pub use board::Board;
 pub use bounded::FrozenBest;
 pub use explorer::{Explorer, Solved};
 pub use frozen::Frozen;
-pub use placed::{Found, Placed, Start, solve_root};
+pub use placed::{Choice, Found, Start, solve_root};
 pub use source::Source;

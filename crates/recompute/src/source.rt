@@ -1,5 +1,5 @@
 //! Where a search starts, and how its nodes are made.
-ghost use Rattle.std.specs.Prelude.{◌≡◌, ℕ, IfOk, OnOk};
+ghost use Rattle.std.specs.Prelude.{◌≡◌, ℕ, IfOk};
 ghost use Rattle.oz_search.specs.Nodes.{Maker, IsMaker, tree};
 ghost use Rattle.oz_semantics.specs.declared.configuration.Configuration.{Configuration};
 ghost use Rattle.recompute.specs.Origins.{Origin};
@@ -28,16 +28,16 @@ pub trait Source: Tree {
     fn frozen(&self) -> &Frozen
         ensures { result.now ≡ origin self.now };
 
-    /// Commits the space that is searched to a branch that the node offers.
+    /// The machine of a node, whose space that is searched was committed to a branch that the node offers.
     fn commit(
         &self,
         alloc: Global,
         branch: <Self::Kind as SearchKind>::Branch,
-        machine: &mut Machine,
-    ) -> Result<(), AllocError>
-        requires { machine.old.kernel ≡ (origin self.now).kernel }
-        ensures commit { OnOk result (machine.new.config ≡ (maker self.now).commit branch machine.old.config) }
-        ensures kernel { OnOk result (machine.new.kernel ≡ machine.old.kernel) };
+        machine: Machine,
+    ) -> Result<Machine, AllocError>
+        requires { machine.kernel ≡ (origin self.now).kernel }
+        ensures commit { IfOk result (λ after. after.config ≡ (maker self.now).commit branch machine.config) }
+        ensures kernel { IfOk result (λ after. after.kernel ≡ machine.kernel) };
 
     /// Runs the space, which was just made or committed, until it rests, and says what its node is. None exactly where the node has more
     /// own steps than the fuel.

@@ -151,7 +151,27 @@ pub fn opened<T: Source>(
     if !offers::<T::Kind>(&node.report.kind, branch) {
         return Ok(None);
     }
-    let mut machine = node.machine.copy(alloc)?;
-    source.commit(alloc, branch, &mut machine)?;
-    Ok(Some(machine))
+    let machine = node.machine.copy(alloc)?;
+    Ok(Some(source.commit(alloc, branch, machine)?))
+}
+
+/// The machine of a node that is of no use afterwards, committed to a branch. None exactly where the node does not offer it.
+pub fn opened_last<T: Source>(
+    alloc: Global,
+    source: &T,
+    node: Waypoint<<T::Kind as SearchKind>::Branch, <T::Kind as SearchKind>::Leaf>,
+    branch: <T::Kind as SearchKind>::Branch,
+) -> Result<Option<Machine>, AllocError>
+    requires { node.machine.kernel ≡ (T.origin source.now).kernel }
+    ensures { IfOk result (Opens T.Kind.search (T.maker source.now) node branch) }
+{
+    if !offers::<T::Kind>(&node.report.kind, branch) {
+        return Ok(None);
+    }
+    let Waypoint {
+        branch: _,
+        machine,
+        report: _,
+    } = node;
+    Ok(Some(source.commit(alloc, branch, machine)?))
 }

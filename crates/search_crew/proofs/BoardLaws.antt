@@ -7,7 +7,6 @@ use Rattle.std.proofs.Crossing.{Vec-send, Vec-sync, Arc-send}
 use Rattle.pool_state.specs.contracts.path.Path as path
 use Rattle.pool_state.specs.declared.kind.SearchKind as search_kind
 use Rattle.node_pool.specs.declared.tree.Tree as searched
-use Rattle.oz_base.specs.contracts.shared.Shared as shared
 use Rattle.oz_search.specs.contracts.tree.Kind as kind
 use Rattle.oz_search.specs.contracts.tree.Report as report
 use Rattle.oz_machine.specs.contracts.machine.Machine as machine
@@ -15,6 +14,7 @@ use Rattle.recompute.specs.declared.source.Source as source
 use Rattle.recompute.specs.declared.placed.Start as start
 use Rattle.recompute.specs.contracts.waypoint.Waypoint as waypoint
 use Rattle.recompute.specs.contracts.placed.Placed as placed
+use Rattle.recompute.specs.contracts.placed.Choice as choice
 use Rattle.recompute.specs.contracts.board.Entry as entry
 use Rattle.recompute.specs.contracts.board.Board as board
 
@@ -46,6 +46,9 @@ module _ (T S K B L F : RattleType) (its_source : source.Ghosts T.Denot K.Denot 
   abbrev placed_row : RattleType
   placed_row = placed.the_row T S K B L F its_source its_tree its_kind its
 
+  abbrev choice_row : RattleType
+  choice_row = choice.the_row T S K B L F its_source its_tree its_kind its
+
   abbrev entry_row : RattleType
   entry_row = entry.the_row T S K B L F its_source its_tree its_kind its
 
@@ -58,6 +61,7 @@ module _ (T S K B L F : RattleType) (its_source : source.Ghosts T.Denot K.Denot 
   -- where machines, branches and leaves may cross
   pub board_send : IsSend machine.the_row → IsSync machine.the_row → IsSend B → IsSync B → IsSend L → IsSync L → IsSend (board.the_row T S K B L F its_source its_tree its_kind its)
   board_send m n b c l o =
-      let choice : IsSend (shared.the_row placed_row) = view_send _ _ _ _ _ (declared_send (shared.TheInside.the_type placed_row) (Arc-send placed_row (placed_send m b l) (placed_sync n c o), tt)) in
+      let shared : IsSend choice_row =
+      view_send _ _ _ _ _ (declared_send (choice.TheInside.the_type T S K B L F its_source its_tree its_kind its) (Arc-send placed_row (placed_send m b l) (placed_sync n c o), tt)) in
       declared_send (board.the_type T S K B L F its_source its_tree its_kind its)
-      (Vec-send entry_row (declared_send (entry.the_type T S K B L F its_source its_tree its_kind its) (choice, (search sendable, tt))), tt)
+      (Vec-send entry_row (declared_send (entry.the_type T S K B L F its_source its_tree its_kind its) (shared, (search sendable, tt))), tt)

@@ -113,13 +113,13 @@ log_send : IsSend told.the_row → IsSync told.the_row → IsSend log.the_row
 log_send s y =
     let one : IsSend chunk.the_row = chunk_send s y in
     view_send _ _ _ _ _
-    (declared_send log.TheInside.the_type (list_send chunk.the_row one (chunk_sync s y), (variants_send (option.enum chunk.the_row) (tt, ((one, tt), tt)), (Vec-send told.the_row s, tt))))
+    (declared_send log.TheInside.the_type (list_send chunk.the_row one (chunk_sync s y), (variants_send (option.enum chunk.the_row) (tt, ((one, tt), tt)), (Vec-send told.the_row s, (search sendable, tt)))))
 
 log_sync : IsSend told.the_row → IsSync told.the_row → IsSync log.the_row
 log_sync s y =
     let one : IsSync chunk.the_row = chunk_sync s y in
     view_sync _ _ _ _ _
-    (declared_sync log.TheInside.the_type (list_sync chunk.the_row (chunk_send s y) one, (variants_sync (option.enum chunk.the_row) (tt, ((one, tt), tt)), (Vec-sync told.the_row y, tt))))
+    (declared_sync log.TheInside.the_type (list_sync chunk.the_row (chunk_send s y) one, (variants_sync (option.enum chunk.the_row) (tt, ((one, tt), tt)), (Vec-sync told.the_row y, (search sendable, tt)))))
 
 pub store_send : IsSend told.the_row → IsSync told.the_row → IsSend classes.the_row → IsSend store.the_row
 store_send s y c = view_send _ _ _ _ _ (declared_send store.TheInside.the_type (log_send s y, (c, tt)))
@@ -190,11 +190,11 @@ sleeping_send n s = declared_send sleeping.the_type (n, (s, (search sendable, (s
 pub sleeping_sync : IsSync name.the_row → IsSync sleepers.the_row → IsSync sleeping.the_row
 sleeping_sync n s = declared_sync sleeping.the_type (n, (s, (search sendable, (search sendable, (search sendable, tt)))))
 
-pub constraints_send : IsSend store.the_row → IsSend (sequence.the_row propagator.the_row) → IsSend watch.the_row → IsSend constraints.the_row
-constraints_send s p w = view_send _ _ _ _ _ (declared_send constraints.TheInside.the_type (s, (p, (w, (search sendable, tt)))))
+pub constraints_send : IsSend ident.the_row → IsSend store.the_row → IsSend (sequence.the_row propagator.the_row) → IsSend watch.the_row → IsSend constraints.the_row
+constraints_send i s p w = view_send _ _ _ _ _ (declared_send constraints.TheInside.the_type (s, (p, (w, (search sendable, (Vec-send ident.the_row i, tt))))))
 
-pub constraints_sync : IsSync store.the_row → IsSync (sequence.the_row propagator.the_row) → IsSync watch.the_row → IsSync constraints.the_row
-constraints_sync s p w = view_sync _ _ _ _ _ (declared_sync constraints.TheInside.the_type (s, (p, (w, (search sendable, tt)))))
+pub constraints_sync : IsSync ident.the_row → IsSync store.the_row → IsSync (sequence.the_row propagator.the_row) → IsSync watch.the_row → IsSync constraints.the_row
+constraints_sync i s p w = view_sync _ _ _ _ _ (declared_sync constraints.TheInside.the_type (s, (p, (w, (search sendable, (Vec-sync ident.the_row i, tt))))))
 
 level_send : IsSend name.the_row → IsSend status.the_row → IsSend constraints.the_row → IsSend (sequence.the_row ident.the_row) → IsSend thread.the_row → IsSend (sequence.the_row trigger.the_row) → IsSend objects.the_row → IsSend level.the_row
 level_send s t c i h q o = declared_send level.the_type (s, (t, (c, (search sendable, (i, (threads_send h, (q, (o, (numbers_send, (search sendable, (search sendable, (search sendable, tt))))))))))))

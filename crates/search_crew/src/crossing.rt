@@ -321,6 +321,7 @@ fn constraints_cross()
     ensures send { IsSend constraints.the_row }
     ensures sync { IsSync constraints.the_row }
 {
+    ident_crosses();
     store_crosses();
     propagators_cross();
     watch_crosses();

@@ -150,11 +150,11 @@ fn solve_near<R: Wait, T: Source, S: Start<T>>(
     let Some((branch, before)) = path.as_slice().split_last() else {
         return solve_root(alloc, source);
     };
-    let found = board.lock(rt).take(alloc, before)?;
+    let found = board.lock(rt).take(before)?;
     let Some(choice) = found else {
         return solve_from_root(alloc, source, path);
     };
-    choice.get().solve_child(alloc, source, *branch)
+    choice.solve_child(alloc, source, *branch)
 }
 
 /// What there is at a path. A choice is put on the board, before anybody can be told of its alternatives. Where memory is refused

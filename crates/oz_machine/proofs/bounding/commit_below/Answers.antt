@@ -11,8 +11,8 @@ returns-clause-commit c =
     let settled = c.settle_only.new.course in
     let space = c.args.space.now in
     let b = c.args.branch in
-    below_by st space c.args.feature b c.args.course.now settled (config_of st c.follow_edit.new.course) c.settle_only.ensures.same c.in_ok-settle_only.ensures.due
-    (c.follow_edit.ensures.follows st [] settled.levels (told_below space c.args.feature b.bound (committed st space b.alternative settled.levels)) c.in_ok-left.ensures.settles)
+    below_by st space c.args.feature b c.args.course settled (config_of st c.follow_edit.new.course) c.settle_only.ensures.same c.in_ok-settle_only.ensures.due
+    (c.follow_edit.ensures.follows st [] settled.levels (told_below space c.args.feature b.bound (committed st space b.alternative settled.levels)) c.in_ok-levels.ensures.settles)
 
 pub returns-clause-asleep : goal.returns-clause-asleep
 returns-clause-asleep c = c.follow_edit.ensures.asleep c.args.statements.now c.settle_only.new.sleeping

@@ -1,7 +1,6 @@
-use Rattle.std.proofs.Common.{◌≡◌, ◌∙◌, ℕ, List, false, sym, subst}
+use Rattle.std.proofs.Common.{◌≡◌, ◌∙◌, ℕ, false, sym, subst}
 use Rattle.oz_semantics.specs.Names.{is_top}
 use Rattle.oz_semantics.specs.Edits.{committed}
-use Rattle.oz_semantics.specs.declared.configuration.Layer.{Layer}
 use Rattle.settle_laws.specs.Settles.{Settles}
 use Rattle.oz_machine.proofs.BoundLaws.{bound_settles}
 use Rattle.oz_machine.proofs.StepEdits.{empty_top}
@@ -14,7 +13,6 @@ returns-clause-settles c =
     let b = c.args.branch in
     let left = c.commit_in.new.levels in
     let lower : is_top space ≡ false = sym (empty_top space) ∙ sym c.is_top.ensures ∙ c.if-is_top.false in
-    let settles : Settles space (committed st space b.alternative c.args.levels.now) left =
-    subst (λ (ls : List Layer). Settles space (committed st space b.alternative ls) left) c.in_ok-left.ensures
-    (subst (λ (i : ℕ). Settles space (committed st space i c.in_ok-left.left) left) c.from.ensures c.in_ok-commit_in.ensures.ok) in
-    bound_settles space c.args.feature b.bound (committed st space b.alternative c.args.levels.now) left c.tell_below.new.levels lower settles c.in_ok-tell_below.ensures.ok
+    let settles : Settles space (committed st space b.alternative c.args.levels) left =
+    subst (λ (i : ℕ). Settles space (committed st space i c.args.levels) left) c.from.ensures c.in_ok-commit_in.ensures.ok in
+    bound_settles space c.args.feature b.bound (committed st space b.alternative c.args.levels) left c.tell_below.new.levels lower settles c.in_ok-tell_below.ensures.ok
