@@ -110,9 +110,11 @@ impl<K: SearchKind> Path<K> {
     pub fn child(&self, branch: K::Branch) -> Result<Path<K>, AllocError>
         ensures child { IfOk result (λ child. child ≡ self.now ++ branch ∷ []) }
     {
-        let mut child = self.copy()?;
-        child.branches.push(branch)?;
-        Ok(child)
+        let room = self.branches.len().saturating_add(1);
+        let mut branches = Vec::with_capacity(*self.branches.allocator(), room)?;
+        branches.extend_from_slice(self.branches.as_slice())?;
+        branches.push(branch)?;
+        Ok(Path { branches })
     }
 
     /// The path of the child by the free branch to this alternative.
