@@ -21,7 +21,7 @@ ghost use Rattle.oz_machine.specs.Turns.{cost_of};
 
 use crate::course::{Course, Due};
 use crate::raising::raised_term;
-use oz_base::{Copies, Ident, Interval, Sequence, SpaceName};
+use oz_base::{Copies, Ident, Interval, Sequence, Shared, SpaceName};
 use oz_language::Kernel;
 use oz_semantics::{RaiseKind, Status, Stepped, Tell};
 use propagation::{Run, run_of, seen};
@@ -45,7 +45,7 @@ fn seen_at(
     alloc: Global,
     levels: &Levels,
     due: DuePropagator,
-) -> Result<Sequence<Sequence<Interval>>, AllocError>
+) -> Result<Shared<Sequence<Sequence<Interval>>>, AllocError>
     requires { IsLeastDue levels.now due }
     ensures { (l : Layer) (p : relations.Propagator) → least_due levels.now ≡ Some (l, p) → IfOk result (λ domains. domains ≡ noted (view levels.now l.space) p.variables) }
 {
@@ -56,7 +56,12 @@ fn seen_at(
 }
 
 /// The last run of a propagator of a space saw these domains. It takes no memory.
-fn note(levels: &mut Levels, space: &SpaceName, index: usize, seen: Sequence<Sequence<Interval>>)
+fn note(
+    levels: &mut Levels,
+    space: &SpaceName,
+    index: usize,
+    seen: Shared<Sequence<Sequence<Interval>>>,
+)
     ensures { (view : View) (l : Layer) → layer_at levels.old space.now ≡ Some l → position (is_due view) l.propagators ≡ Some index → levels.new ≡ in_layer space.now (noting view seen) levels.old }
 {
     match levels.place(space) {

@@ -5,7 +5,7 @@ ghost use Rattle.oz_domains.specs.Domains.{intervals_eq, intervals_of};
 ghost use Rattle.oz_semantics.specs.Propagation.{all_eq, domain_in, is_due, is_undecided, noted};
 
 use crate::intervals::{are_of, intervals_of};
-use oz_base::{Ident, Interval, Sequence};
+use oz_base::{Ident, Interval, Sequence, Shared};
 use oz_semantics::{LastRun, Propagator};
 use std::alloc::{AllocError, Global};
 use term_store::Store;
@@ -43,7 +43,11 @@ pub fn is_due(store: &Store, propagator: &Propagator) -> bool
     match &propagator.last {
         LastRun::Never => true,
         LastRun::Saw(domains) => {
-            !are_as_seen(store, domains.as_slice(), propagator.variables.as_slice())
+            !are_as_seen(
+                store,
+                domains.get().as_slice(),
+                propagator.variables.as_slice(),
+            )
         }
     }
 }
@@ -105,12 +109,12 @@ pub fn seen(
     alloc: Global,
     store: &Store,
     variables: &[Ident],
-) -> Result<Sequence<Sequence<Interval>>, AllocError>
+) -> Result<Shared<Sequence<Sequence<Interval>>>, AllocError>
     ensures { IfOk result (λ domains. domains ≡ noted store.now variables.now) }
 {
-    let mut domains = Sequence::new(alloc);
+    let mut domains = Vec::with_capacity(alloc, variables.len())?;
     for variable in variables {
         domains.push(intervals_in(alloc, store, variable)?)?;
     }
-    Ok(domains)
+    Shared::new(alloc, Sequence::from_vec(domains))
 }

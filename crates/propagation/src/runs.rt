@@ -68,7 +68,7 @@ fn domain_of(alloc: Global, store: &Store, variable: &Ident) -> Result<Domain, A
 fn domains_of(alloc: Global, store: &Store, variables: &[Ident]) -> Result<Vec<Domain>, AllocError>
     ensures { IfOk result (λ domains. AreDomainsOf store.now variables.now domains.items) }
 {
-    let mut domains = Vec::new(alloc);
+    let mut domains = Vec::with_capacity(alloc, variables.len())?;
     for variable in variables {
         domains.push(domain_of(alloc, store, variable)?)?;
     }
@@ -84,7 +84,7 @@ fn confinements(
     requires { length domains.now ≡ length variables.now }
     ensures { IfOk result (λ tells. tells.items ≡ narrowed variables.now domains.now) }
 {
-    let mut tells = Vec::new(alloc);
+    let mut tells = Vec::with_capacity(alloc, variables.len())?;
     for i in 0..variables.len() {
         tells.push(confinement(alloc, &variables[i], &domains[i])?)?;
     }

@@ -9,7 +9,7 @@ ghost use Rattle.space_core.specs.Constraints.{IsStoreTold, IsStoreClash, noting
 ghost use Rattle.space_core.specs.Firing.{at_place};
 ghost use Rattle.watching.specs.Watching.{Foretells, Knows};
 
-use oz_base::{Copies, Ident, Interval, Sequence};
+use oz_base::{Copies, Ident, Interval, Sequence, Shared};
 use oz_semantics::{LastRun, Propagator, Tell};
 use propagation::is_due;
 use std::alloc::{AllocError, Global};
@@ -86,13 +86,17 @@ fn follow(
 }
 
 /// The propagator saw these domains in its last run.
-fn note_last(propagator: &mut Propagator, seen: Sequence<Sequence<Interval>>)
+fn note_last(propagator: &mut Propagator, seen: Shared<Sequence<Sequence<Interval>>>)
     ensures { propagator.new ≡ noting_last seen propagator.old }
 {
     propagator.last = LastRun::Saw(seen);
 }
 
-fn note_at(propagators: &mut Sequence<Propagator>, index: usize, seen: Sequence<Sequence<Interval>>)
+fn note_at(
+    propagators: &mut Sequence<Propagator>,
+    index: usize,
+    seen: Shared<Sequence<Sequence<Interval>>>,
+)
     ensures { propagators.new ≡ at_place index (noting_last seen) propagators.old }
 {
     if index < propagators.len() {
@@ -261,7 +265,7 @@ impl Constraints {
     }
 
     /// The propagator at an index saw these domains in its last run. It takes no memory.
-    pub fn note_run(&mut self, index: usize, seen: Sequence<Sequence<Interval>>)
+    pub fn note_run(&mut self, index: usize, seen: Shared<Sequence<Sequence<Interval>>>)
         ensures { self.new ≡ record self.old { propagators = at_place index (noting_last seen) self.old.propagators } }
     {
         note_at(&mut self.propagators, index, seen);

@@ -41,7 +41,7 @@ use crate::spaces::space_tell;
 use crate::stacks::Landing;
 use crate::tree::{self, add_level, child_count, child_of, drop_below, is_child};
 use crate::{edits, silence};
-use oz_base::{Copies, Ident, Interval, Sequence, SpaceName, copies_of};
+use oz_base::{Copies, Ident, Interval, Sequence, Shared, SpaceName, copies_of};
 use oz_language::Identifier;
 use oz_semantics::{Frame, Next, Propagator, Status, Tell, Thread, Trigger};
 use renamings::Renaming;
@@ -493,7 +493,12 @@ impl Levels {
     }
 
     /// The last run of the propagator at an index of the space at a place saw these domains. It takes no memory.
-    pub fn note_run(&mut self, place: usize, index: usize, seen: Sequence<Sequence<Interval>>)
+    pub fn note_run(
+        &mut self,
+        place: usize,
+        index: usize,
+        seen: Shared<Sequence<Sequence<Interval>>>,
+    )
         requires { place < length self.old }
         ensures noted { self.new ≡ at_place place (noting_at index seen) self.old }
         ensures first { (view : View) → OfLayer self.old place (λ l. position (is_due view) l.propagators ≡ Some index → self.new ≡ in_layer l.space (noting view seen) self.old) }

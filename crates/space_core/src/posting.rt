@@ -11,7 +11,7 @@ ghost use Rattle.space_core.specs.declared.level.Level.{Level};
 use crate::constraints::Constraints;
 use crate::given::Given;
 use crate::level::Level;
-use oz_base::{Copies, Interval, Sequence};
+use oz_base::{Copies, Interval, Sequence, Shared};
 use oz_semantics::{LastRun, Propagator};
 use std::alloc::{AllocError, Global};
 
@@ -61,7 +61,7 @@ pub fn post(alloc: Global, constraints: &mut Constraints, given: &Given) -> Resu
 }
 
 /// The propagator at an index saw these domains in its last run.
-pub fn note_run(level: &mut Level, index: usize, seen: Sequence<Sequence<Interval>>)
+pub fn note_run(level: &mut Level, index: usize, seen: Shared<Sequence<Sequence<Interval>>>)
     ensures { IsQuiet (noting_at index seen) level.old level.new }
 {
     level.constraints.note_run(index, seen);
