@@ -6,3 +6,4 @@ pub mod SpineLaws
 pub mod PlaceLaws
 pub mod PartLaws
 pub mod SplitLaws
+pub mod OfferLaws

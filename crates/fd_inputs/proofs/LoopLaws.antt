@@ -1,5 +1,5 @@
 -- Lists that loops make, one item after another.
-use Rattle.std.proofs.Common.{◌≡◌, ℕ, ◌+◌, ◌<◌, Bool, true, false, cond, List, [], ◌∷◌, ◌++◌, map, filter, refl, sym, ap, ◌∙◌, length, get_or, take}
+use Rattle.std.proofs.Common.{◌≡◌, ℕ, ◌+◌, ◌<◌, Bool, true, false, cond, List, [], ◌∷◌, ◌++◌, map, filter, sym, ap, ◌∙◌, length, get_or, take}
 use Rattle.std.proofs.lemmas.List.{take_more, map-append, append-nil}
 use Rattle.std.proofs.lemmas.List.Elements.{filter-append}
 

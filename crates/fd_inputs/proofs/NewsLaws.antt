@@ -1,16 +1,14 @@
 -- What is news of an interval that some variables were told already: it makes no variables equal, and gives none a value.
-use Rattle.std.proofs.Common.{◌≡◌, ◌⊎◌, inl, inr, ℕ, ◌+◌, ◌<◌, ◌==◌, ℤ, Bool, true, false, not, ◌&&◌, ◌||◌, if◌then◌else◌, List, [], ◌∷◌, ◌++◌, map, Contains, Option, Some, None, is_some, option_map, refl, sym, ap, subst, ◌∙◌, length, get_or, drop, append_assoc, ◌≤◌}
+use Rattle.std.proofs.Common.{◌≡◌, inl, inr, ℕ, ◌+◌, ◌<◌, Bool, true, false, not, ◌&&◌, ◌||◌, if◌then◌else◌, List, [], ◌∷◌, ◌++◌, Contains, Option, Some, None, is_some, refl, sym, ap, subst, ◌∙◌, length, get_or, drop, append_assoc, ◌≤◌}
 use Rattle.std.proofs.lemmas.List.{append-nil, drop_more, drop_all, map-append}
 use Rattle.std.proofs.lemmas.List.Elements.{Contains-append_cases, Contains-append_left, filter_map-append}
 use Rattle.std.specs.List.{list_any, filter_map, cons_option}
-use Rattle.std.specs.FinSet as set
 use Rattle.oz_base.specs.Lists.{first_given, given_or, holds_of}
 use Rattle.oz_base.specs.declared.names.Ident.{Ident}
 use Rattle.oz_base.specs.declared.interval.Interval.{Interval}
-use Rattle.oz_domains.specs.Domains.{IntSet, Has, union, among, is_within, single}
+use Rattle.oz_domains.specs.Domains.{IntSet, union, is_within}
 use Rattle.oz_semantics.specs.Constraints.{confined}
-use Rattle.oz_semantics.specs.Store.{View, Same, told, itself, reversed, joined, field, same, value_given, told_value, set_given, common, told_domain, domain_by, domain_of, is_news, news}
-use Rattle.oz_semantics.specs.Values.{integer_in}
+use Rattle.oz_semantics.specs.Store.{View, Same, told, itself, reversed, joined, field, same, value_given, told_value, set_given, common, told_domain, domain_by, is_news, news}
 use Rattle.oz_semantics.specs.declared.value.Value.{Value}
 use Rattle.oz_semantics.specs.declared.value.Tell.{Tell}
 use Rattle.oz_semantics.specs.declared.value.Tell.TheVariants.{Equal, Is, Within}

@@ -1,11 +1,11 @@
 -- The parts of a domain by cuts.
-use Rattle.std.proofs.Common.{◌≡◌, ℤ, pos, ◌+ℤ◌, ◌≤ℤ◌, ◌<ℤ◌, int_le, Bool, true, false, not, refl, sym, ap, subst, ◌∙◌, arith}
+use Rattle.std.proofs.Common.{◌≡◌, ℤ, pos, ◌+ℤ◌, ◌<ℤ◌, int_le, Bool, true, false, not, refl, sym, ap, subst, ◌∙◌, arith}
 use Rattle.std.proofs.lemmas.Int.{ints}
 use Rattle.std.specs.FinSet as set
 use Rattle.std.specs.Ordering.{int_eq}
 use Rattle.oz_base.specs.declared.distribution.Test.TheVariants.{Is, AtMost}
 use Rattle.oz_base.specs.declared.interval.TheConstants.{GREATEST_VALUE}
-use Rattle.oz_domains.specs.Domains.{IntSet, Has, IsDomain, greatest}
+use Rattle.oz_domains.specs.Domains.{IntSet, Has, IsDomain}
 use Rattle.oz_domains.specs.Splits.{passes, first_part, second_part, AreHalves}
 use Rattle.fd_domain.specs.Cuts.{Keeps, is_other}
 use Rattle.fd_domain.specs.declared.domain.Cut.{Cut}

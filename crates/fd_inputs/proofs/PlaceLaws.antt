@@ -1,5 +1,5 @@
 -- The place that a distributor splits, among all elements and among those that are not determined.
-use Rattle.std.proofs.Common.{◌≡◌, ℕ, zero, suc, ◌+◌, ◌<◌, nat_lt, ℤ, pos, ◌+ℤ◌, ◌≤ℤ◌, Bool, true, false, not, ◌||◌, if◌then◌else◌, List, [], ◌∷◌, map, filter, Option, Some, None, is_some, option_map, unwrap_or, slice_get, refl, sym, ap, subst, ◌∙◌, inl, inr, arith}
+use Rattle.std.proofs.Common.{◌≡◌, ℕ, zero, suc, nat_lt, ℤ, Bool, true, false, not, ◌||◌, if◌then◌else◌, List, [], ◌∷◌, map, filter, Option, Some, None, is_some, option_map, unwrap_or, slice_get, refl, sym, ap, subst, ◌∙◌, inl, inr, arith}
 use Rattle.std.proofs.lemmas.Int.{ints}
 use Rattle.std.specs.List.{list_any}
 use Rattle.std.specs.Option.{option_and_then}
@@ -15,7 +15,7 @@ use Rattle.oz_domains.specs.Positions.{domain}
 use Rattle.oz_domains.specs.Splits.{first_place, smaller_place, smallest_place, place_of, test_of, split_of}
 use Rattle.fd_domain.proofs.SetLaws.{with_run-cases, with_run-new, has-empty, least_is, greatest_is, ties}
 use Rattle.oz_semantics.specs.Values.{integer, integer_in}
-use Rattle.oz_semantics.specs.Store.{View, told_value, told_domain, domain_by, domain_of, value_of, is_determined}
+use Rattle.oz_semantics.specs.Store.{View, told_value, told_domain, domain_by, is_determined}
 use Rattle.oz_semantics.specs.Propagation.{domain_in}
 use Rattle.oz_semantics.specs.Distributors.{Distribution, Finished, is_foreign, is_bare, undetermined, parts_of, splits_at, splits}
 use Rattle.oz_semantics.specs.declared.value.Value.{Value}
@@ -58,7 +58,7 @@ determined_by None (Some d) f b = by (is_single d)
     by true = refl
     by false = refl
 
-determined_is : (view : View) (x : Ident) → IsInDomain view x → is_determined view x ≡ is_single (domain_in view x)
+pub determined_is : (view : View) (x : Ident) → IsInDomain view x → is_determined view x ≡ is_single (domain_in view x)
 determined_is view x i = determined_by (told_value view x) (told_domain view x) i.integer i.domain
 
 abbrev pub AllInDomain : View → List Ident → Type 0
@@ -77,7 +77,7 @@ all_in_domain view (x ∷ xs) e f = by (is_foreign view x) (is_bare view x) refl
 
 -- One place in two lists
 
-abbrev domains : View → List Ident → List IntSet
+abbrev pub domains : View → List Ident → List IntSet
 domains view xs = map (domain_in view) xs
 
 -- the same element stands at both, or there is none
@@ -166,11 +166,11 @@ place_one view Halve xs a = smallest_one view xs a
 -- What is split
 
 -- by the place among these elements alone
-abbrev split_among : View → List Ident → Option Split → Distribution
+abbrev pub split_among : View → List Ident → Option Split → Distribution
 split_among view ys None = Finished
 split_among view ys (Some s) = unwrap_or (option_map (parts_of ys s.test (domain (domains view ys) s.var)) (slice_get ys s.var)) Finished
 
-abbrev split_at : Rule → List IntSet → Option ℕ → Option Split
+abbrev pub split_at : Rule → List IntSet → Option ℕ → Option Split
 split_at rule ds o = option_map (λ i. record { var = i; test = test_of rule (domain ds i) }) o
 
 one_split : (view : View) (rule : Rule) (xs : List Ident) (o p : Option ℕ) → OnePlace xs (undetermined view xs) o p
@@ -182,7 +182,7 @@ one_split view rule xs (Some i) (Some j) h =
 one_split view rule xs None (Some j) h = absurd h
 one_split view rule xs (Some i) None h = absurd h
 
-splits_are : (view : View) (rule : Rule) (xs : List Ident) → AllInDomain view xs → splits view rule xs ≡ split_among view (undetermined view xs) (split_of rule (domains view (undetermined view xs)))
+pub splits_are : (view : View) (rule : Rule) (xs : List Ident) → AllInDomain view xs → splits view rule xs ≡ split_among view (undetermined view xs) (split_of rule (domains view (undetermined view xs)))
 splits_are view rule xs a = one_split view rule xs (place_of rule (domains view xs)) (place_of rule (domains view (undetermined view xs))) (place_one view rule xs a)
 
 pub none_split : (view : View) (rule : Rule) (xs waits : List Ident) (ds : List IntSet) → AllInDomain view xs → waits ≡ undetermined view xs → ds ≡ map (domain_in view) waits → None ≡ split_of rule ds → splits view rule xs ≡ Finished

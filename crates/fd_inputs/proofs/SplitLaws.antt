@@ -1,5 +1,5 @@
 -- The two parts that are told stand for what is split among all elements.
-use Rattle.std.proofs.Common.{◌≡◌, ℕ, ◌<◌, Bool, false, List, [], map, filter, Some, refl, sym, ap, subst, ◌∙◌, length, get_or, slice_get}
+use Rattle.std.proofs.Common.{◌≡◌, ℕ, ◌<◌, false, List, [], map, filter, Some, refl, sym, ap, subst, ◌∙◌, length, get_or, slice_get}
 use Rattle.std.proofs.lemmas.List.{get_or_default, length-map}
 use Rattle.std.proofs.lemmas.Option.{slice_get_read}
 use Rattle.std.specs.List.{list_any}
@@ -13,7 +13,7 @@ use Rattle.oz_domains.specs.Positions.{domain}
 use Rattle.oz_domains.specs.Splits.{split_of, first_part, second_part, IsTaken}
 use Rattle.oz_semantics.specs.Store.{View}
 use Rattle.oz_semantics.specs.Propagation.{domain_in}
-use Rattle.oz_semantics.specs.Distributors.{Distribution, Splits, is_foreign, is_bare, undetermined, splits}
+use Rattle.oz_semantics.specs.Distributors.{Splits, is_foreign, is_bare, undetermined, splits}
 use Rattle.oz_semantics.specs.declared.value.Tell.{Tell}
 use Rattle.oz_semantics.specs.declared.value.Tell.TheVariants.{Within}
 use Rattle.fd_inputs.proofs.PlaceLaws.{all_in_domain, some_split}

@@ -1,5 +1,5 @@
 -- What the code's answers say.
-use Rattle.std.specs.Prelude.{◌≡◌, ◌⊎◌, ℤ, Option, Some, None, option_map}
+use Rattle.std.specs.Prelude.{◌≡◌, ◌⊎◌, ℤ, List, Option, Some, None, option_map}
 use Rattle.std.specs.Borrow.{Bor}
 use Rattle.oz_base.specs.declared.names.Ident.{Ident}
 use Rattle.oz_domains.specs.Domains.{single}
@@ -43,6 +43,17 @@ abbrev pub distribution_of : distributions.Distribution → Distribution
 distribution_of (distribution.Widens xs) = Widens xs.items
 distribution_of distribution.Finished = Finished
 distribution_of (distribution.Splits one other xs) = Splits one other xs.items
+
+-- the elements that a distributor waits for besides, where it offers two parts
+abbrev pub offered : Distribution → Option (List Ident)
+offered (Widens xs) = None
+offered Finished = None
+offered (Splits one other xs) = Some xs
+
+abbrev pub offered_in : Input Distribution → Input (Option (List Ident))
+offered_in (Known d) = Known (offered d)
+offered_in (Unknown x) = Unknown x
+offered_in OtherKind = OtherKind
 
 -- two fields of a record
 abbrev pub pair_seen : Option (Bor Ident × Bor Ident) → Option (Ident × Ident)

@@ -1,9 +1,11 @@
 //! What a distributor does.
-ghost use Rattle.std.specs.Prelude.{◌≡◌, false, [], IfOk, MatchOption, filter, map};
+ghost use Rattle.std.specs.Prelude.{◌≡◌, false, [], IfOk, MatchOption, filter, map, option_map};
+ghost use Rattle.std.specs.Vec.{vec_items};
 ghost use Rattle.std.specs.List.{list_any};
 ghost use Rattle.oz_semantics.specs.Distributors.{distribution, distribution_of as distributed, is_bare, is_foreign, rule_in, rule_input, splits, undetermined};
+ghost use Rattle.oz_base.specs.declared.distribution.Rule as rules;
 ghost use Rattle.oz_semantics.specs.Propagation.{domain_in};
-ghost use Rattle.fd_inputs.specs.Answers.{as_it_is, distribution_of, input_of, IsUntold};
+ghost use Rattle.fd_inputs.specs.Answers.{as_it_is, distribution_of, input_of, offered, offered_in, IsUntold};
 
 use crate::input::{Input, both};
 use crate::parts::{confinement, first_part, second_part};
@@ -185,6 +187,56 @@ fn distributed(
         return Ok(Input::Known(Distribution::Widens(bare)));
     }
     Ok(Input::Known(splits(alloc, store, rule, xs)?))
+}
+
+/// The elements that a distributor waits for besides, where all have domains. None where it steps.
+fn waited_for(alloc: Global, store: &Store, xs: &[Ident]) -> Result<Option<Vec<Ident>>, AllocError>
+    requires integers { list_any (is_foreign store.now) xs.now ≡ false }
+    requires domains { filter (is_bare store.now) xs.now ≡ [] }
+    ensures { (rule : rules.Rule) → IfOk result (λ waits. option_map vec_items waits ≡ offered (splits store.now rule xs.now)) }
+{
+    let waits = undetermined(alloc, store, xs)?;
+    if waits.is_empty() {
+        return Ok(None);
+    }
+    Ok(Some(waits))
+}
+
+/// The elements that a distributor with these elements waits for besides.
+fn offered(
+    alloc: Global,
+    store: &Store,
+    xs: &[Ident],
+) -> Result<Input<Option<Vec<Ident>>>, AllocError>
+    ensures { (rule : rules.Rule) → IfOk result (λ input. input_of (option_map vec_items) input ≡ offered_in (distributed store.now rule xs.now)) }
+{
+    if has_foreign(store, xs) {
+        return Ok(Input::OtherKind);
+    }
+    let bare = bare_ones(alloc, store, xs)?;
+    if !bare.is_empty() {
+        return Ok(Input::Known(None));
+    }
+    Ok(Input::Known(waited_for(alloc, store, xs)?))
+}
+
+/// The elements that a distributor with this rule and this vector waits for besides, where it offers two parts of a domain. None where
+/// it steps. It makes no part, and refuses where there is no memory.
+pub fn distributor_waits(
+    alloc: Global,
+    store: &Store,
+    rule: &Ident,
+    vector: &Ident,
+) -> Result<Input<Option<Vec<Ident>>>, AllocError>
+    ensures { IfOk result (λ input. input_of (option_map vec_items) input ≡ offered_in (distribution store.now rule.now vector.now)) }
+{
+    let rule = rule_input(alloc, store, rule)?;
+    let elements = elements_of(alloc, store, vector)?;
+    match both(rule, elements) {
+        Input::Known((_, elements)) => offered(alloc, store, elements.as_slice()),
+        Input::Unknown(x) => Ok(Input::Unknown(x)),
+        Input::OtherKind => Ok(Input::OtherKind),
+    }
 }
 
 /// What a distributor with this rule and this vector does. It refuses where there is no memory.

@@ -12,7 +12,7 @@ mod vectors;
 mod words;
 
 pub use descriptions::{Range, WHOLE, bounds, interval_of, refusal_of};
-pub use distribution::{Distribution, distribute};
+pub use distribution::{Distribution, distribute, distributor_waits};
 pub use input::{Input, both};
 pub use news::interval_news;
 pub use values::integer_in;

@@ -1,4 +1,4 @@
-use Rattle.std.proofs.Common.{arith, rules, w64, to_z-of_z, FitsSigned}
+use Rattle.std.proofs.Common.{arith}
 use Rattle.std.proofs.lemmas.Int.{ints}
 use Rattle.fd_inputs.proofs.PartLaws.{below_greatest}
 use Rattle.fd_inputs.proofs.parts.next_above.Goals as goal

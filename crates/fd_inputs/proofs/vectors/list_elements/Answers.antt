@@ -1,4 +1,4 @@
-use Rattle.std.proofs.Common.{◌≡◌, ◌∙◌, ◌+◌, ◌-◌, ◌++◌, ◌∷◌, ap, sym, refl, inl, arith, suc, length, []}
+use Rattle.std.proofs.Common.{◌∙◌, ◌-◌, ◌++◌, ◌∷◌, ap, sym, refl, inl, arith, suc, length, []}
 use Rattle.oz_semantics.specs.Inputs.{Unknown}
 use Rattle.oz_semantics.specs.Vectors.{list_elements}
 use Rattle.fd_inputs.proofs.SpineLaws.{walked, after_all, at_unknown, at_other, at_end, at_limit, at_return, at_cell, still_passed, from_start}

@@ -19,5 +19,5 @@ one_more view xs i x ds new d h at was e n =
 
 pub loop-variable-preserved : goal.loop-variable-preserved
 loop-variable-preserved c =
-    one_more c.args.store.now c.args.variables.now c.loop-variable.variable-index c.variable-item.result c.loop-variable.domains c.push.new.self c.in_ok-intervals_in.field-0 c.loop-variable-test.true
-    c.variable-item.is c.loop-variable.invariant c.in_ok-intervals_in.ensures c.in_ok-push.ensures.ok
+    one_more c.args.store.now c.args.variables.now c.loop-variable.variable-index c.variable-item.result c.loop-variable.domains.items c.push.new.self.items c.in_ok-intervals_in.field-0 c.loop-variable-test.true
+    c.variable-item.is c.loop-variable.invariant c.in_ok-intervals_in.ensures c.in_ok-push.ensures.items
