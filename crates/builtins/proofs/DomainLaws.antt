@@ -8,13 +8,13 @@ use Rattle.oz_semantics.specs.Inputs.{Input, Known, Unknown, OtherKind, both}
 use Rattle.oz_semantics.specs.Vectors.{vector}
 use Rattle.oz_semantics.specs.Constraints.{bounds, refusal_of}
 use Rattle.oz_semantics.specs.Distributors.{Distribution, Widens, Finished, Splits, distribution}
-use Rattle.oz_semantics.specs.Sights.{Sight, Steps}
+use Rattle.oz_semantics.specs.Sights.{Sight, Offer, Parts, Steps, Waits, Offers, count_of}
 use Rattle.oz_semantics.specs.Answers.{Answer, Acts, Confines}
 use Rattle.oz_semantics.specs.Builtins.{of_input, unless_refused, interval_news, confines, posts, distributes, of_operation, answer}
 use Rattle.oz_semantics.specs.Readiness.{answer_ready}
 use Rattle.oz_semantics.specs.declared.outcome.RaiseKind.{RaiseKind}
 use Rattle.oz_semantics.specs.declared.value.Builtin.TheVariants as builtin
-use Rattle.fd_inputs.specs.Answers.{input_of, both_of}
+use Rattle.fd_inputs.specs.Answers.{input_of, both_of, offered_in}
 use Rattle.fd_inputs.specs.declared.input.Input as inputs
 use Rattle.fd_inputs.specs.declared.input.Input.TheVariants as input
 use Rattle.builtins.specs.Looks.{ready_by, awaited_by, input_ready, distributing}
@@ -79,3 +79,29 @@ distribution_waits view OtherKind = refl
 
 pub distribute_waits : (s : Sight) (f : ℕ → Ident) → answer_ready (answer s builtin.Distribute f) ≡ distributing (distribution s.view (f 0) (f 1))
 distribute_waits s f = distribution_waits s.view (distribution s.view (f 0) (f 1))
+
+-- ---- what a distributor waits for
+
+pub none_waited : (i : Input Distribution) → Known None ≡ offered_in i → distributing i ≡ Steps
+none_waited (Known (Widens xs)) e = refl
+none_waited (Known Finished) e = refl
+none_waited (Known (Splits one other xs)) e = absurd (cc (e))
+none_waited (Unknown x) e = absurd (cc (e))
+none_waited OtherKind e = absurd (cc (e))
+
+pub some_waited : (i : Input Distribution) (xs : List Ident) → Known (Some xs) ≡ offered_in i → (offer : Offer) × (distributing i ≡ Offers offer xs) × (2 ≡ count_of offer)
+some_waited (Known (Widens ys)) xs e = absurd (cc (e))
+some_waited (Known Finished) xs e = absurd (cc (e))
+some_waited (Known (Splits one other ys)) xs e = (Parts one other, ap (Offers (Parts one other)) (cc (e)), refl)
+some_waited (Unknown x) xs e = absurd (cc (e))
+some_waited OtherKind xs e = absurd (cc (e))
+
+pub unknown_waited : (i : Input Distribution) (x : Ident) → Unknown x ≡ offered_in i → Waits (x ∷ []) ≡ distributing i
+unknown_waited (Known d) x e = absurd (cc (e))
+unknown_waited (Unknown y) x e = ap (λ z. Waits (z ∷ [])) (cc (e))
+unknown_waited OtherKind x e = absurd (cc (e))
+
+pub other_waited : (i : Input Distribution) → OtherKind ≡ offered_in i → distributing i ≡ Steps
+other_waited (Known d) e = absurd (cc (e))
+other_waited (Unknown y) e = absurd (cc (e))
+other_waited OtherKind e = refl

@@ -1,17 +1,19 @@
 //! Whether calls of the built-ins of finite domains can step: they wait for their inputs, and build no answer.
-ghost use Rattle.std.specs.Prelude.{◌≡◌, IfOk};
+ghost use Rattle.std.specs.Prelude.{◌≡◌, IfOk, option_map};
+ghost use Rattle.std.specs.Vec.{vec_items};
 ghost use Rattle.oz_semantics.specs.Store.{View};
+ghost use Rattle.oz_semantics.specs.Inputs as inputs;
 ghost use Rattle.oz_semantics.specs.Inputs.{Known, both};
 ghost use Rattle.oz_semantics.specs.Vectors.{vector};
 ghost use Rattle.oz_semantics.specs.Constraints.{bounds};
-ghost use Rattle.oz_semantics.specs.Distributors.{distribution};
-ghost use Rattle.fd_inputs.specs.Answers.{distribution_of};
+ghost use Rattle.oz_semantics.specs.Distributors.{Distribution, distribution};
+ghost use Rattle.fd_inputs.specs.Answers.{offered_in};
 ghost use Rattle.builtins.specs.Answers.{IsReady};
 ghost use Rattle.builtins.specs.Looks.{awaited_by, input_ready, distributing};
 
 use crate::answer::Readiness;
 use crate::readiness::ready_by;
-use fd_inputs::{Distribution, Input, both, bounds, distribute, vector};
+use fd_inputs::{Input, both, bounds, distributor_waits, vector};
 use oz_base::{Ident, Sequence};
 use std::alloc::{AllocError, Global};
 use term_store::Store;
@@ -66,15 +68,15 @@ pub fn ready_distinct(
 }
 
 /// A distributor offers the two parts of a domain, and waits for other elements as well.
-fn distributing(distribution: Distribution) -> Readiness
-    ensures { (view : View) → IsReady view (distributing (Known (distribution_of distribution))) result }
+fn distributing(waits: Option<Vec<Ident>>) -> Readiness
+    ensures { (view : View) (i : inputs.Input Distribution) → Known (option_map vec_items waits) ≡ offered_in i → IsReady view (distributing i) result }
 {
-    match distribution {
-        Distribution::Splits { waits, .. } => Readiness::Offers {
+    match waits {
+        None => Readiness::Steps,
+        Some(waits) => Readiness::Offers {
             count: 2,
             waits: Sequence::from_vec(waits),
         },
-        Distribution::Widens(_) | Distribution::Finished => Readiness::Steps,
     }
 }
 
@@ -87,8 +89,8 @@ pub fn ready_distributor(
 ) -> Result<Readiness, AllocError>
     ensures { IfOk result (IsReady store.now (distributing (distribution store.now rule.now elements.now))) }
 {
-    match distribute(alloc, store, rule, elements)? {
-        Input::Known(distribution) => Ok(distributing(distribution)),
+    match distributor_waits(alloc, store, rule, elements)? {
+        Input::Known(waits) => Ok(distributing(waits)),
         Input::Unknown(variable) => ready_by(alloc, Some(&variable)),
         Input::OtherKind => Ok(Readiness::Steps),
     }

@@ -1,12 +1,15 @@
-use Rattle.std.proofs.Common.{refl, ap}
+use Rattle.std.proofs.Common.{ap, sym, ◌∙◌, option_map}
+use Rattle.std.specs.Vec.{vec_items}
 use Rattle.std.specs.List.{list_any}
 use Rattle.oz_semantics.specs.Store.{same}
-use Rattle.oz_semantics.specs.Sights.{Parts}
 use Rattle.oz_semantics.specs.Inputs.{Known}
-use Rattle.fd_inputs.specs.Answers.{distribution_of}
-use Rattle.builtins.specs.Looks.{distributing}
+use Rattle.builtins.proofs.DomainLaws.{none_waited, some_waited}
 use Rattle.builtins.proofs.domain_readiness.distributing.Goals as goal
 
-pub returns-in-Splits : goal.returns-in-Splits
-returns-in-Splits c = λ view.
-    (Parts c.in-Splits.first c.in-Splits.second, c.in-Splits.waits.items, ap (λ d. distributing (Known (distribution_of d))) c.in-Splits.is, refl, λ z. ap (list_any (same view z)) c.from_vec.ensures)
+pub returns-in-None : goal.returns-in-None
+returns-in-None c = λ view i e. none_waited i (ap (λ o. Known (option_map vec_items o)) (sym c.in-None.is) ∙ e)
+
+pub returns-in-Some : goal.returns-in-Some
+returns-in-Some c = λ view i e.
+    let w = some_waited i c.in-Some.waits.items (ap (λ o. Known (option_map vec_items o)) (sym c.in-Some.is) ∙ e) in
+    (w.0, c.in-Some.waits.items, w.1, w.2, λ z. ap (list_any (same view z)) c.from_vec.ensures)
