@@ -1,9 +1,10 @@
 //! What the history of a search for a best solution says at its end.
-ghost use Rattle.std.specs.Prelude.{◌≡◌, ◌+◌, ◌≤◌, ◌^◌, ℕ, List, Some, None, IfOk, IfSome, IfNone};
+ghost use Rattle.std.specs.Prelude.{◌≡◌, ◌+◌, ◌≤◌, ◌^◌, ℕ, List, Some, None, IfOk, IsOk, IfSome, IfNone};
 ghost use Rattle.oz_search.specs.Histories.{Replays, steps_of, total_of, stop_of};
 ghost use Rattle.oz_search.specs.Best as bests;
 ghost use Rattle.oz_search.specs.Best.{best};
 ghost use Rattle.oz_replies.specs.BestReplies.{solved, HasSolution};
+ghost use Rattle.search_crew.specs.Crews.{WantsSteps};
 ghost use Rattle.best_search.specs.Found.{IsSolution, IsFoundIn};
 
 use oz_base::{Copies, Sequence};
@@ -134,7 +135,8 @@ fn best_in(alloc: Global, entries: &[BestEntry]) -> Result<Found, AllocError>
 pub fn found_in(alloc: Global, ended: Ended<Best>, budget: u64) -> Result<Found, AllocError>
     requires small { budget ≤ 2 ^ 48 }
     requires replays { Replays best budget ended.entries.items }
-    ensures { IfOk result (λ found. IsFoundIn budget ended.entries.items found) }
+    ensures found { IfOk result (λ found. IsFoundIn budget ended.entries.items found) }
+    ensures served { WantsSteps ended.entries.items → IsOk result }
 {
     let Ended { entries, leaves: _ } = ended;
     match first_stop(entries.as_slice()) {

@@ -1,10 +1,11 @@
 //! What the history of a search says at its end.
-ghost use Rattle.std.specs.Prelude.{◌≡◌, ℕ, List, Some, IfOk, map};
+ghost use Rattle.std.specs.Prelude.{◌≡◌, ℕ, List, Some, None, Ok, IfOk, map};
 ghost use Rattle.oz_search.specs.Leaves.{Names, leaf_of, leaf_at_place};
 ghost use Rattle.oz_search.specs.Plain.{outcomes};
 ghost use Rattle.oz_search.specs.declared.leaf.Outcome.{Outcome as Leaf};
 ghost use Rattle.recompute.specs.Origins.{Origin};
 ghost use Rattle.search_all.specs.Answers.{leaves_in, answer_of, Closes};
+ghost use Rattle.search_crew.specs.Crews.{WantsSteps};
 
 use node_pool::{Ended, Path, Plain, first_stop};
 use oz_base::{Copies, Sequence};
@@ -71,7 +72,8 @@ fn leaves_at(
 /// The leaves that a search found, or `None` where there were too few steps for it.
 pub fn found(alloc: Global, ended: Ended<Plain>) -> Result<Option<Sequence<Outcome>>, AllocError>
     requires { Names outcomes ended.entries.items ended.leaves.entries (leaves_in ended.entries.items) }
-    ensures { (o : Origin) → Closes o ended.entries.items → IfOk result (λ found. found ≡ answer_of o) }
+    ensures found { (o : Origin) → Closes o ended.entries.items → IfOk result (λ found. found ≡ answer_of o) }
+    ensures spent { WantsSteps ended.entries.items → result ≡ Ok None }
 {
     let Ended {
         entries,

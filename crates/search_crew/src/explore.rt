@@ -1,10 +1,12 @@
 //! What one worker does.
 ghost use Rattle.std.specs.Prelude.{◌≡◌, ◌≤◌, ◌^◌, Some, None, IfOk};
 ghost use Rattle.oz_search.specs.Nodes.{IsNodeAt};
+ghost use Rattle.oz_search.specs.declared.history.StopCause.TheVariants.{Memory, Fuel};
 ghost use Rattle.recompute.specs.Origins.{met_by};
 ghost use Rattle.recompute.specs.Ways.{answer_of};
+ghost use Rattle.node_pool.specs.Calls.{StopTurn};
 ghost use Rattle.node_pool.specs.Workers.{IsOf, claim};
-ghost use Rattle.search_crew.specs.Crews.{IsFor, IsReady, IsSame, HasExplored, IsTold, GoesOn};
+ghost use Rattle.search_crew.specs.Crews.{IsFor, IsReady, IsSame, HasExplored, IsTold, GoesOn, StopsWhere};
 
 use crate::patience::Patience;
 use node_pool::{Claimed, Path, SearchKind, Settled, SharedPool, Worker};
@@ -26,7 +28,8 @@ pub enum After<W> {
 /// A worker is refused memory, and stops the search.
 fn give_up<R: Wait, T: Source>(rt: &R, pool: &SharedPool<T>, worker: Worker<T>) -> Worker<T>
     requires { IsOf worker pool.now }
-    ensures { HasExplored T.Kind.search pool.now worker result }
+    ensures explored { HasExplored T.Kind.search pool.now worker result }
+    ensures cause { StopTurn Memory worker result }
 {
     pool.stop(rt, worker, StopCause::Memory)
 }
@@ -41,7 +44,8 @@ fn run_out<R: Wait, T: Source>(
     requires pool { IsOf worker pool.now }
     requires out { claim worker ≡ Some path.now }
     requires none { T.within pool.now.tag pool.now.budget path.now ≡ None }
-    ensures { HasExplored T.Kind.search pool.now worker result }
+    ensures explored { HasExplored T.Kind.search pool.now worker result }
+    ensures cause { StopTurn Fuel worker result }
 {
     let _path = path;
     pool.stop(rt, worker, StopCause::Fuel)
@@ -110,7 +114,8 @@ fn close_claim<R: Wait, T: Source>(
     requires pool { IsOf worker pool.now }
     requires out { claim worker ≡ Some path }
     requires solved { IfOk solved (λ s. s ≡ answer_of (met_by T.Kind.search (T.maker pool.now.tag) (T.origin pool.now.tag) pool.now.budget path)) }
-    ensures { GoesOn T.Kind.search pool.now worker result }
+    ensures on { GoesOn T.Kind.search pool.now worker result }
+    ensures stops { StopsWhere solved worker result }
 {
     match solved {
         Ok(Solved::Node(report)) => settle(rt, pool, worker, path, report),

@@ -4,8 +4,8 @@ use Rattle.oz_replies.specs.BestReplies.{IsStopped}
 use Rattle.best_search.proofs.StopLaws.{total_within, spent_by_fuel, spent_by_total}
 use Rattle.best_search.proofs.ending.found_in.Goals as goal
 
-pub returns-in-None : goal.returns-in-None
-returns-in-None c = rw c.as_slice-in-None.ensures.value at c.best_in.ensures c.args.budget
+pub returns-in-None-clause-found : goal.returns-in-None-clause-found
+returns-in-None-clause-found c = rw c.as_slice-in-None.ensures.value at c.best_in.ensures c.args.budget
 
 pub total_of-requires : goal.total_of-requires
 total_of-requires c =
@@ -27,8 +27,8 @@ overflow_add-total-in-Fuel c =
     let small = c.requires.small in
     omega (arith, sum, within, small)
 
-pub returns-in-Fuel : goal.returns-in-Fuel
-returns-in-Fuel c =
+pub returns-in-Fuel-clause-found : goal.returns-in-Fuel-clause-found
+returns-in-Fuel-clause-found c =
     let sum = c.total_of.ensures ∙ ap total_of c.as_slice-in-Fuel.ensures.value in
     let stop = sym (rw c.as_slice.ensures.value at c.in-Some.ensures) in (
       refl,
@@ -38,5 +38,5 @@ returns-in-Fuel c =
           (spent_by_fuel c.args.budget c.args.ended.entries.items c.in-Some.halt c.requires.replays stop c.in-Fuel.is),
     )
 
-pub returns : goal.returns
-returns c = (refl, spent_by_total c.args.budget c.args.ended.entries.items c.in-Some.halt c.in-Total.total c.requires.replays (sym (rw c.as_slice.ensures.value at c.in-Some.ensures)) c.in-Total.is)
+pub returns-clause-found : goal.returns-clause-found
+returns-clause-found c = (refl, spent_by_total c.args.budget c.args.ended.entries.items c.in-Some.halt c.in-Total.total c.requires.replays (sym (rw c.as_slice.ensures.value at c.in-Some.ensures)) c.in-Total.is)
